@@ -1,0 +1,223 @@
+-- Document 01's worked figures: one table of sheets, limits and figures, and one fact over the whole table, by computation.
+use Prim.Native.Nat.{ℕ, zero, suc, _+_}
+use mathlib.Core.Bool.{Bool, true, false, _&&_}
+use mathlib.Core.Path.{_≡_, refl}
+use mathlib.Core.List.{List, [], _∷_, _++_}
+use lib.Dec.{eqb}
+use lib.ListN.{length, replicate}
+use Rattle.model.specs.Lists.{at}
+use Rattle.model.specs.Word.{current, currentOf, stored}
+use Rattle.model.specs.Transaction.{bank, versionOf, storeOf}
+use Rattle.model.specs.Machine.{Machine, run, startMachine, taskAt}
+use Rattle.model.specs.Sheet.{sheetOf}
+use Rattle.model.specs.Answer.{Answer, runAnswer, finalOf}
+use Rattle.model.proofs.Bytes.{join, word, block, task, release, end, load, add, read, pair, swap, begin, get, put, commit}
+
+-- FIGURES
+pub data Figure : Type 0 where
+  -- number and place
+  refusal : ℕ → ℕ → Figure
+  -- the report byte for byte, the rest of the buffer unchanged
+  prints : List ℕ → Figure
+  -- word, current value
+  wordIs : ℕ → ℕ → Figure
+  -- block, version
+  versionIs : ℕ → ℕ → Figure
+  -- block, offset, value
+  valueIs : ℕ → ℕ → ℕ → Figure
+  -- task, register, value
+  registerIs : ℕ → ℕ → ℕ → Figure
+  -- task, number of them
+  finishedAre : ℕ → ℕ → Figure
+  spentAre : ℕ → ℕ → Figure
+  rejectedAre : ℕ → ℕ → Figure
+  ticksUsed : ℕ → ℕ → Figure
+  ticksDone : ℕ → Figure
+  dropsAre : ℕ → Figure
+
+pub record Case : Type 0 where
+  pub sheet : List ℕ
+  pub limit : ℕ
+  pub buffer : List ℕ
+  pub figures : List Figure
+
+sameBytes : List ℕ → List ℕ → Bool
+sameBytes [] [] = true
+sameBytes [] (b ∷ m) = false
+sameBytes (a ∷ l) [] = false
+sameBytes (a ∷ l) (b ∷ m) = eqb a b && sameBytes l m
+
+fill : ℕ
+fill = 0x2E
+
+holds : Answer → Machine → Figure → Bool
+unfolding at current sameBytes fill
+holds a m (refusal n place) = eqb (a .number) n && eqb (a .place) place
+holds a m (prints text) = eqb (a .number) 0 && eqb (a .place) (length text) && sameBytes (a .buffer) (text ++ fill ∷ fill ∷ [])
+holds a m (wordIs w v) = eqb (currentOf (m .memory) w) v
+holds a m (versionIs b v) = eqb (versionOf (currentOf (m .memory) (bank b))) v
+holds a m (valueIs b o v) = eqb (stored (m .memory .stores) (storeOf (currentOf (m .memory) (bank b))) o) v
+holds a m (registerIs p r v) = eqb (at 0 (taskAt (m .tasks) p .registers) r) v
+holds a m (finishedAre p n) = eqb (taskAt (m .tasks) p .finished) n
+holds a m (spentAre p n) = eqb (taskAt (m .tasks) p .spent) n
+holds a m (rejectedAre p n) = eqb (taskAt (m .tasks) p .rejected) n
+holds a m (ticksUsed p n) = eqb (taskAt (m .tasks) p .ticks) n
+holds a m (ticksDone n) = eqb (m .now) n
+holds a m (dropsAre n) = eqb (m .dropped) n
+
+all : Answer → Machine → List Figure → Bool
+unfolding holds
+all a m [] = true
+all a m (f ∷ l) = holds a m f && all a m l
+
+passes : Case → Bool
+unfolding all runAnswer run startMachine sheetOf
+passes c =
+    let a : Answer = runAnswer (c .sheet) (c .limit) (c .buffer) in
+    let m : Machine = finalOf (c .sheet) (c .limit) in
+    all a m (c .figures)
+
+pub allPass : List Case → Bool
+unfolding passes
+allPass [] = true
+allPass (c ∷ l) = passes c && allPass l
+
+-- SHEETS
+-- a case with limit 65,535 and no report buffer, and one with all of them
+figures : List ℕ → List Figure → Case
+figures s fs = record { sheet = s; limit = 65535; buffer = []; figures = fs }
+
+report : List ℕ → ℕ → List ℕ → Case
+unfolding fill
+report s limit text = record { sheet = s; limit = limit; buffer = replicate (length text + 2) fill; figures = prints text ∷ [] }
+
+-- sheet A: word 0 starts with 12, task 0 exchanges 12 for 5
+body₀ : List ℕ
+body₀ = task ++ load 1 12 ++ load 2 5 ++ pair 0 1 2 ++ swap 0
+
+sheetA : List ℕ
+unfolding body₀
+sheetA = word 12 ++ body₀ ++ release 0 0 ++ end
+
+bytesA : List ℕ
+bytesA =
+    0x01 ∷ 0x00 ∷ 0x00 ∷ 0x00 ∷ 0x0C
+    ∷ 0x03
+    ∷ 0x10 ∷ 0x01 ∷ 0x00 ∷ 0x00 ∷ 0x00 ∷ 0x0C
+    ∷ 0x10 ∷ 0x02 ∷ 0x00 ∷ 0x00 ∷ 0x00 ∷ 0x05
+    ∷ 0x13 ∷ 0x00 ∷ 0x01 ∷ 0x02
+    ∷ 0x14 ∷ 0x00
+    ∷ 0x04 ∷ 0x00 ∷ 0x00 ∷ 0x00
+    ∷ 0x05
+    ∷ []
+
+-- "W 0 5", "T 0 1 0 0 12", "R 0 1 12 5 0 0 0 0 0", "E 12 0"
+reportA : List ℕ
+reportA =
+    0x57 ∷ 0x20 ∷ 0x30 ∷ 0x20 ∷ 0x35 ∷ 0x0A
+    ∷ 0x54 ∷ 0x20 ∷ 0x30 ∷ 0x20 ∷ 0x31 ∷ 0x20 ∷ 0x30 ∷ 0x20 ∷ 0x30 ∷ 0x20 ∷ 0x31 ∷ 0x32 ∷ 0x0A
+    ∷ 0x52 ∷ 0x20 ∷ 0x30 ∷ 0x20 ∷ 0x31 ∷ 0x20 ∷ 0x31 ∷ 0x32 ∷ 0x20 ∷ 0x35
+    ∷ 0x20 ∷ 0x30 ∷ 0x20 ∷ 0x30 ∷ 0x20 ∷ 0x30 ∷ 0x20 ∷ 0x30 ∷ 0x20 ∷ 0x30 ∷ 0x0A
+    ∷ 0x45 ∷ 0x20 ∷ 0x31 ∷ 0x32 ∷ 0x20 ∷ 0x30 ∷ 0x0A
+    ∷ []
+
+-- P8's report: "W 0 12", "T 0 0 0 0 0", "R 0 0 0 0 0 0 0 0 0", "E 0 0"
+untouchedA : List ℕ
+untouchedA =
+    0x57 ∷ 0x20 ∷ 0x30 ∷ 0x20 ∷ 0x31 ∷ 0x32 ∷ 0x0A
+    ∷ 0x54 ∷ 0x20 ∷ 0x30 ∷ 0x20 ∷ 0x30 ∷ 0x20 ∷ 0x30 ∷ 0x20 ∷ 0x30 ∷ 0x20 ∷ 0x30 ∷ 0x0A
+    ∷ 0x52 ∷ 0x20 ∷ 0x30 ∷ 0x20 ∷ 0x30 ∷ 0x20 ∷ 0x30 ∷ 0x20 ∷ 0x30 ∷ 0x20 ∷ 0x30 ∷ 0x20 ∷ 0x30 ∷ 0x20 ∷ 0x30 ∷ 0x20 ∷ 0x30 ∷ 0x20 ∷ 0x30 ∷ 0x0A
+    ∷ 0x45 ∷ 0x20 ∷ 0x30 ∷ 0x20 ∷ 0x30 ∷ 0x0A
+    ∷ []
+
+-- task 1 exchanges 12 for 7 in word 0
+body₁ : List ℕ
+body₁ = task ++ load 1 12 ++ load 2 7 ++ pair 0 1 2 ++ swap 0
+
+-- task 1 also names word 1, whose old value r3 is never loaded
+bodyTwoWords : List ℕ
+bodyTwoWords = task ++ load 1 12 ++ load 2 7 ++ pair 0 1 2 ++ pair 1 3 2 ++ swap 0
+
+-- task 1 only reads word 0
+bodyRead : List ℕ
+bodyRead = task ++ read 0 0
+
+-- the words, task 0 and task 1, which is released at tick t
+against : List ℕ → List ℕ → ℕ → List ℕ
+unfolding body₀
+against words body t = words ++ body₀ ++ body ++ release 0 0 ++ release t 1 ++ end
+
+-- task U adds 1 to value 0 of block 0
+bodyU : List ℕ
+bodyU = task ++ begin ++ get 0 0 0 ++ load 1 1 ++ add 0 1 ++ put 0 0 0 ++ commit
+
+oneBlock : ℕ → List ℕ
+oneBlock version = block version (41 ∷ 0 ∷ 0 ∷ 0 ∷ 0 ∷ 0 ∷ 0 ∷ 77 ∷ [])
+
+sheetU : ℕ → List ℕ
+unfolding oneBlock bodyU
+sheetU version = oneBlock version ++ bodyU ++ release 0 0 ++ end
+
+-- two of U, the upper released at tick 6
+sheetUU : List ℕ
+unfolding oneBlock bodyU
+sheetUU = oneBlock 3 ++ bodyU ++ bodyU ++ release 0 0 ++ release 6 1 ++ end
+
+-- THE TABLE
+-- row 5 of the refusal table: 33 WORDs
+words33 : List ℕ
+words33 = join (replicate 33 (word 0))
+
+-- nine blocks, and a GET of each below n
+nineBlocks : List ℕ
+nineBlocks = join (replicate 9 (block 0 (replicate 8 0)))
+
+getsTo : ℕ → List (List ℕ)
+getsTo zero = []
+getsTo (suc n) = get 0 n 0 ∷ getsTo n
+
+pub table : List Case
+unfolding nineBlocks getsTo figures report sheetA bytesA reportA untouchedA body₁ bodyTwoWords bodyRead against sheetU sheetUU words33
+table =
+    -- P1, byte for byte, and the sheet as document 01 writes it
+    report sheetA 65535 reportA
+    ∷ report bytesA 65535 reportA
+    -- the refusal table; P2 is rows 3, 6, 7 and 8
+    ∷ figures (0xFF ∷ []) (refusal 1 0 ∷ [])
+    ∷ figures (0x01 ∷ 0x00 ∷ 0x00 ∷ []) (refusal 2 0 ∷ [])
+    ∷ figures [] (refusal 2 0 ∷ [])
+    ∷ figures (task ++ load 0 5 ++ end ++ (0x00 ∷ [])) (refusal 3 8 ∷ [])
+    ∷ figures end (refusal 4 0 ∷ [])
+    ∷ figures words33 (refusal 5 160 ∷ [])
+    ∷ figures (task ++ add 8 0) (refusal 6 1 ∷ [])
+    ∷ figures (word 0 ++ task ++ pair 0 0 1 ++ pair 0 0 1) (refusal 7 10 ∷ [])
+    ∷ figures (task ++ add 0 0 ++ release 2 0 ++ release 1 0) (refusal 8 8 ∷ [])
+    ∷ (record { sheet = sheetA; limit = 65536; buffer = []; figures = refusal 9 0 ∷ [] })
+    ∷ figures sheetA (refusal 10 (length reportA) ∷ [])
+    -- two faults at one command, the lowest number wins: 2 before 4, 4 before 6, 5 before 6, 6 before 7
+    ∷ figures (0x14 ∷ []) (refusal 2 0 ∷ [])
+    ∷ figures (release 0 0) (refusal 4 0 ∷ [])
+    ∷ figures (nineBlocks ++ task ++ begin ++ join (getsTo 8) ++ get 8 8 0) (refusal 5 367 ∷ [])
+    ∷ figures (word 0 ++ task ++ pair 0 0 1 ++ pair 0 0 8) (refusal 6 10 ∷ [])
+    -- P3 and P4
+    ∷ figures (against (word 12) body₁ 9) (registerIs 0 0 0 ∷ registerIs 1 0 1 ∷ wordIs 0 7 ∷ ticksDone 26 ∷ [])
+    ∷ figures (against (word 12) body₁ 11) (registerIs 0 0 1 ∷ registerIs 1 0 0 ∷ wordIs 0 5 ∷ ticksDone 23 ∷ [])
+    -- P5 and P6
+    ∷ figures (against (word 12 ++ word 22) bodyTwoWords 9) (registerIs 0 0 0 ∷ registerIs 1 0 0 ∷ wordIs 0 12 ∷ wordIs 1 22 ∷ ticksDone 32 ∷ [])
+    ∷ figures (against (word 12 ++ word 22) bodyTwoWords 8) (registerIs 0 0 1 ∷ registerIs 1 0 0 ∷ wordIs 0 5 ∷ ticksDone 30 ∷ [])
+    -- P7, both ticks
+    ∷ figures (against (word 12) bodyRead 9) (registerIs 1 0 12 ∷ ticksUsed 1 3 ∷ [])
+    ∷ figures (against (word 12) bodyRead 11) (registerIs 1 0 5 ∷ ticksUsed 1 2 ∷ [])
+    -- P8
+    ∷ report sheetA 0 untouchedA
+    -- P9 and P10
+    ∷ figures (sheetU 3) (ticksDone 29 ∷ valueIs 0 0 42 ∷ valueIs 0 7 77 ∷ versionIs 0 4 ∷ finishedAre 0 1 ∷ spentAre 0 0 ∷ [])
+    ∷ figures (sheetU 16777215) (ticksDone 20 ∷ valueIs 0 0 41 ∷ versionIs 0 16777215 ∷ finishedAre 0 0 ∷ spentAre 0 1 ∷ [])
+    -- two tasks U
+    ∷ figures sheetUU (ticksDone 75 ∷ valueIs 0 0 43 ∷ versionIs 0 5 ∷ rejectedAre 0 0 ∷ rejectedAre 1 0 ∷ dropsAre 0 ∷ [])
+    ∷ []
+
+-- every figure of the table holds
+pub all-pass : allPass table ≡ true
+unfolding allPass table
+all-pass = refl

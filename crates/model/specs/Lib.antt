@@ -1,0 +1,13 @@
+pub mod Refusal
+pub mod Ceilings
+pub mod Lists
+pub mod Command
+pub mod Fault
+pub mod Sheet
+pub mod Word
+pub mod Exchange
+pub mod Job
+pub mod Transaction
+pub mod Machine
+pub mod Report
+pub mod Answer

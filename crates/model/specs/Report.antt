@@ -1,0 +1,67 @@
+-- The report: W, B, T, R and E lines, decimal, single spaces, each closed by 0A.
+use Prim.Native.Nat.{ℕ, zero, suc, _+_, _/_, _%_}
+use mathlib.Core.Bool.{Bool, true, false}
+use mathlib.Core.List.{List, [], _∷_, _++_}
+use lib.Dec.{ltb}
+use lib.ListN.{length}
+use Rattle.model.specs.Lists.{at}
+use Rattle.model.specs.Sheet.{Sheet}
+use Rattle.model.specs.Word.{Memory, currentOf, current}
+use Rattle.model.specs.Job.{Task}
+use Rattle.model.specs.Transaction.{bank, versionOf, storeOf}
+use Rattle.model.specs.Machine.{Machine, taskAt}
+
+unfoldable pub digitsBy : Bool → (ℕ → List ℕ → List ℕ) → ℕ → List ℕ → List ℕ
+digitsBy true go v follow = (0x30 + v) ∷ follow
+digitsBy false go v follow = go (v / 10) ((0x30 + v % 10) ∷ follow)
+
+-- the decimal digits of a number of at most n digits, in front of what follows
+unfoldable pub digits : ℕ → ℕ → List ℕ → List ℕ
+unfolding digitsBy
+digits zero v follow = follow
+digits (suc n) v follow = digitsBy (ltb v 10) (digits n) v follow
+
+-- no number of a report has more than ten digits
+abbrev pub decimal : ℕ → List ℕ
+decimal v = digits 10 v []
+
+unfoldable pub fields : List ℕ → List ℕ
+unfolding digits
+fields [] = 0x0A ∷ []
+fields (v ∷ l) = 0x20 ∷ (decimal v ++ fields l)
+
+abbrev pub line : ℕ → List ℕ → List ℕ
+line letter l = letter ∷ fields l
+
+-- the lines for n numbers from i on
+unfoldable pub lines : ℕ → ℕ → (ℕ → List ℕ) → List ℕ
+lines zero i f = []
+lines (suc n) i f = f i ++ lines n (suc i) f
+
+abbrev pub wordLine : Memory → ℕ → List ℕ
+wordLine m w = line 0x57 (w ∷ currentOf m w ∷ [])
+
+-- version and values by the bank word's current value
+abbrev pub blockLine : Memory → ℕ → List ℕ
+blockLine m b = line 0x42 (b ∷ versionOf (currentOf m (bank b)) ∷ at [] (m .stores) (storeOf (currentOf m (bank b))))
+
+abbrev pub taskLine : ℕ → Task → List ℕ
+taskLine p t = line 0x54 (p ∷ t .finished ∷ t .spent ∷ t .rejected ∷ t .ticks ∷ [])
+
+abbrev pub registerLine : ℕ → Task → List ℕ
+registerLine p t = line 0x52 (p ∷ t .registers)
+
+abbrev pub taskLines : List Task → ℕ → List ℕ
+taskLines ts p = taskLine p (taskAt ts p) ++ registerLine p (taskAt ts p)
+
+abbrev pub endLine : Machine → List ℕ
+endLine m = line 0x45 (m .now ∷ m .dropped ∷ [])
+
+-- of what the sheet declares
+unfoldable pub report : Sheet → Machine → List ℕ
+unfolding at current fields lines
+report s m =
+    lines (length (s .words)) 0 (wordLine (m .memory))
+    ++ lines (length (s .blocks)) 0 (blockLine (m .memory))
+    ++ lines (length (s .bodies)) 0 (taskLines (m .tasks))
+    ++ endLine m

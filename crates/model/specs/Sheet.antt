@@ -1,0 +1,167 @@
+-- The whole sheet, command by command: the first fault in byte order with its place, and what an accepted sheet declares.
+use Prim.Native.Nat.{ℕ, zero, suc}
+use mathlib.Core.Bool.{Bool, true, false}
+use mathlib.Core.List.{List, [], _∷_, _++_}
+use mathlib.Core.Option.{Option, none, some}
+use lib.Dec.{ltb}
+use lib.ListN.{length}
+use Rattle.model.specs.Refusal.{Refusal, cutShort, byteAfterEnd}
+use Rattle.model.specs.Command.{Access, GET, PUT, Release, Block, Command, WORD, BLOCK, TASK, RELEASE, END, LOAD, ADD, READ, PAIR, SWAP, BEGIN, access, COMMIT, Found, found, refused, commandAt}
+use Rattle.model.specs.Fault.{Section, wordSection, blockSection, bodySection, releaseSection, Counts, Body, Known, emptyBody, nothingKnown, among, includeBy, include, faultOf}
+
+-- WHAT IS KNOWN AFTER A COMMAND
+abbrev pub known : Section → Counts → Body → Release → Known
+known s n b r = record { section = s; counts = n; body = b; last = r }
+
+abbrev pub counted : ℕ → ℕ → ℕ → ℕ → ℕ → Counts
+counted w b t c r = record { words = w; blocks = b; tasks = t; commands = c; releases = r }
+
+abbrev pub oneWord : Counts → Counts
+oneWord n = counted (suc (n .words)) (n .blocks) (n .tasks) (n .commands) (n .releases)
+
+abbrev pub oneBlock : Counts → Counts
+oneBlock n = counted (n .words) (suc (n .blocks)) (n .tasks) (n .commands) (n .releases)
+
+abbrev pub oneTask : Counts → Counts
+oneTask n = counted (n .words) (n .blocks) (suc (n .tasks)) (n .commands) (n .releases)
+
+abbrev pub oneCommand : Counts → Counts
+oneCommand n = counted (n .words) (n .blocks) (n .tasks) (suc (n .commands)) (n .releases)
+
+abbrev pub oneRelease : Counts → Counts
+oneRelease n = counted (n .words) (n .blocks) (n .tasks) (n .commands) (suc (n .releases))
+
+-- the open body with the waiting PAIRs, and with the transaction's blocks
+abbrev pub waiting : List ℕ → Body → Body
+waiting ps b = record { empty = false; pairs = ps; inside = b .inside; touched = b .touched; puts = b .puts }
+
+abbrev pub transaction : Bool → List ℕ → List ℕ → Body → Body
+transaction inside ts ps b = record { empty = false; pairs = b .pairs; inside = inside; touched = ts; puts = ps }
+
+abbrev pub named : Access → Body → Body
+named (GET r n o) b = transaction true (include n (b .touched)) (b .puts) b
+named (PUT n o r) b = transaction true (include n (b .touched)) (include n (b .puts)) b
+
+-- one more body command, which leaves the body so
+abbrev pub inBody : Known → Body → Known
+inBody k b = known (k .section) (oneCommand (k .counts)) b (k .last)
+
+unfoldable pub after : Known → Command → Known
+unfolding among includeBy
+after k (WORD v) = known wordSection (oneWord (k .counts)) (k .body) (k .last)
+after k (BLOCK b) = known blockSection (oneBlock (k .counts)) (k .body) (k .last)
+after k TASK = known bodySection (oneTask (k .counts)) emptyBody (k .last)
+after k (RELEASE r) = known releaseSection (oneRelease (k .counts)) (k .body) r
+after k END = k
+after k (LOAD r v) = inBody k (waiting (k .body .pairs) (k .body))
+after k (ADD r q) = inBody k (waiting (k .body .pairs) (k .body))
+after k (READ r w) = inBody k (waiting (k .body .pairs) (k .body))
+after k (PAIR w old new) = inBody k (waiting (k .body .pairs ++ (w ∷ [])) (k .body))
+after k (SWAP r) = inBody k (waiting [] (k .body))
+after k BEGIN = inBody k (transaction true [] [] (k .body))
+after k (access a) = inBody k (named a (k .body))
+after k COMMIT = inBody k (transaction false [] [] (k .body))
+
+-- THE FIRST FAULT IN BYTE ORDER
+pub data Verdict : Type 0 where
+  accepted : Verdict
+  turnedDown : Refusal → ℕ → Verdict
+
+abbrev pub end? : Command → Bool
+end? END = true
+end? (WORD v) = false
+end? (BLOCK b) = false
+end? TASK = false
+end? (RELEASE r) = false
+end? (LOAD r v) = false
+end? (ADD r q) = false
+end? (READ r w) = false
+end? (PAIR w o n) = false
+end? (SWAP r) = false
+end? BEGIN = false
+end? (access a) = false
+end? COMMIT = false
+
+-- a byte follows END
+unfoldable pub atEnd : Bool → ℕ → Verdict
+atEnd true next = turnedDown byteAfterEnd next
+atEnd false next = accepted
+
+-- a good command: END ends the reading, after any other `go` goes on
+unfoldable pub judgeEnd : (ℕ → Known → Verdict) → List ℕ → Known → Command → ℕ → Bool → Verdict
+unfolding atEnd after
+judgeEnd go sheet k c next true = atEnd (ltb next (length sheet)) next
+judgeEnd go sheet k c next false = go next (after k c)
+
+unfoldable pub judgeFault : (ℕ → Known → Verdict) → List ℕ → ℕ → Known → Command → ℕ → Option Refusal → Verdict
+unfolding judgeEnd
+judgeFault go sheet place k c next (some f) = turnedDown f place
+judgeFault go sheet place k c next none = judgeEnd go sheet k c next (end? c)
+
+unfoldable pub judge : (ℕ → Known → Verdict) → List ℕ → ℕ → Known → Found → Verdict
+unfolding judgeFault faultOf
+judge go sheet place k (refused f p) = turnedDown f p
+judge go sheet place k (found c next) = judgeFault go sheet place k c next (faultOf k c)
+
+-- from a place on, at most n commands
+unfoldable pub verdictFrom : ℕ → List ℕ → ℕ → Known → Verdict
+unfolding judge commandAt
+verdictFrom zero sheet place k = turnedDown cutShort (length sheet)
+verdictFrom (suc n) sheet place k = judge (verdictFrom n sheet) sheet place k (commandAt sheet place)
+
+-- a command has a byte at least, so no sheet has more commands than bytes
+unfoldable pub verdict : List ℕ → Verdict
+unfolding verdictFrom
+verdict sheet = verdictFrom (suc (length sheet)) sheet 0 nothingKnown
+
+-- WHAT AN ACCEPTED SHEET DECLARES
+unfoldable pub listed : (ℕ → List Command) → Found → List Command
+listed go (refused f p) = []
+listed go (found c next) = c ∷ go next
+
+-- the commands from a place on, at most n
+unfoldable pub commandsFrom : ℕ → List ℕ → ℕ → List Command
+unfolding listed commandAt
+commandsFrom zero sheet place = []
+commandsFrom (suc n) sheet place = listed (commandsFrom n sheet) (commandAt sheet place)
+
+pub record Sheet : Type 0 where
+  pub words : List ℕ
+  pub blocks : List Block
+  pub bodies : List (List Command)
+  pub releases : List Release
+
+-- what the commands from a place on declare; `body` are those of the body that the place lies in
+pub record Declared : Type 0 where
+  pub body : List Command
+  pub sheet : Sheet
+
+abbrev pub declares : List Command → List ℕ → List Block → List (List Command) → List Release → Declared
+declares o w b t r = record { body = o; sheet = record { words = w; blocks = b; bodies = t; releases = r } }
+
+abbrev pub inOpenBody : Command → Declared → Declared
+inOpenBody c d = record { body = c ∷ d .body; sheet = d .sheet }
+
+unfoldable pub declare : Command → Declared → Declared
+declare (WORD v) d = declares [] (v ∷ d .sheet .words) (d .sheet .blocks) (d .sheet .bodies) (d .sheet .releases)
+declare (BLOCK b) d = declares [] (d .sheet .words) (b ∷ d .sheet .blocks) (d .sheet .bodies) (d .sheet .releases)
+declare TASK d = declares [] (d .sheet .words) (d .sheet .blocks) (d .body ∷ d .sheet .bodies) (d .sheet .releases)
+declare (RELEASE r) d = declares [] (d .sheet .words) (d .sheet .blocks) (d .sheet .bodies) (r ∷ d .sheet .releases)
+declare END d = declares [] [] [] [] []
+declare (LOAD r v) d = inOpenBody (LOAD r v) d
+declare (ADD r q) d = inOpenBody (ADD r q) d
+declare (READ r w) d = inOpenBody (READ r w) d
+declare (PAIR w o n) d = inOpenBody (PAIR w o n) d
+declare (SWAP r) d = inOpenBody (SWAP r) d
+declare BEGIN d = inOpenBody BEGIN d
+declare (access a) d = inOpenBody (access a) d
+declare COMMIT d = inOpenBody COMMIT d
+
+unfoldable pub declared : List Command → Declared
+unfolding declare
+declared [] = declares [] [] [] [] []
+declared (c ∷ l) = declare c (declared l)
+
+unfoldable pub sheetOf : List ℕ → Sheet
+unfolding declared commandsFrom
+sheetOf bytes = declared (commandsFrom (length bytes) bytes 0) .sheet

@@ -1,0 +1,174 @@
+-- Transactions: BEGIN, GET, PUT, COMMIT with all their ticks, the stale restart, gather, spent, old stores taken back.
+use Prim.Native.Nat.{ℕ, suc, _+_, _*_, _/_, _%_}
+use mathlib.Core.Bool.{Bool, true, false, not, _&&_, _||_}
+use mathlib.Core.List.{List, [], _∷_}
+use lib.Dec.{eqb}
+use lib.ListN.{replicate}
+use Rattle.model.specs.Ceilings.{maxWords, maxBlocks, blockValues, lastVersion, valueRange}
+use Rattle.model.specs.Lists.{at, replace}
+use Rattle.model.specs.Command.{Access, GET, PUT, Command, WORD, BLOCK, TASK, RELEASE, END, LOAD, ADD, READ, PAIR, SWAP, BEGIN, access, COMMIT}
+use Rattle.model.specs.Word.{Memory, stored, setStored, Reading, loading, Read, reads, gives, readTick}
+use Rattle.model.specs.Exchange.{Entry, entry, Exchange, exchangeOf, Exchanged, goes, ends, exchangeTick}
+use Rattle.model.specs.Job.{Touched, untouched, remembered, copied, Transaction, Inner, between, first, copying, again, committing, transacting, Task, Turn, turn, rest, done, doneBy, ended}
+
+-- the bank word of block b is the cell after the words' cells
+abbrev pub bank : ℕ → ℕ
+bank b = maxWords + b
+
+-- a bank word holds version × 256 + store number
+abbrev pub bankValue : ℕ → ℕ → ℕ
+bankValue version store = version * 256 + store
+
+abbrev pub versionOf : ℕ → ℕ
+versionOf v = v / 256
+
+abbrev pub storeOf : ℕ → ℕ
+storeOf v = v % 256
+
+abbrev pub blockOf : Access → ℕ
+blockOf (GET r b o) = b
+blockOf (PUT b o r) = b
+
+abbrev pub rememberedOf : Touched → ℕ
+rememberedOf untouched = 0
+rememberedOf (remembered v) = v
+rememberedOf (copied v k) = v
+
+abbrev pub touchedOf : Transaction → ℕ → Touched
+touchedOf x b = at untouched (x .blocks) b
+
+-- nothing touched
+abbrev pub fresh : List ℕ → List Command → Transaction
+fresh kept l = record { kept = kept; commands = l; blocks = replicate maxBlocks untouched; used = 0 }
+
+abbrev pub touch : Transaction → ℕ → Touched → ℕ → Transaction
+touch x b s n = record { kept = x .kept; commands = x .commands; blocks = replace (x .blocks) b s; used = n }
+
+-- the task in its transaction, at that command with those registers; no PAIRs wait there
+abbrev pub within : Task → List Command → List ℕ → Transaction → Inner → Task
+within t l rs x s = record { body = t .body; commands = l; phase = transacting x s; registers = rs; pairs = []; copies = t .copies; finished = t .finished; spent = t .spent; rejected = t .rejected; ticks = t .ticks }
+
+abbrev pub stays : Task → Transaction → Inner → Task
+stays t x s = within t (t .commands) (t .registers) x s
+
+abbrev pub goesOn : Task → List ℕ → Transaction → Task
+goesOn t rs x = within t (rest (t .commands)) rs x between
+
+-- registers as kept, nothing touched, next the command after BEGIN
+abbrev pub restarted : Task → Transaction → Task
+restarted t x = within t (x .commands) (x .kept) (fresh (x .kept) (x .commands)) between
+
+abbrev pub rejected : Task → Task
+rejected t = record { body = t .body; commands = t .commands; phase = t .phase; registers = t .registers; pairs = t .pairs; copies = t .copies; finished = t .finished; spent = t .spent; rejected = suc (t .rejected); ticks = t .ticks }
+
+-- LOAD and ADD, the same inside and outside a transaction
+abbrev pub loaded : List ℕ → ℕ → ℕ → List ℕ
+loaded rs r v = replace rs r v
+
+abbrev pub added : List ℕ → ℕ → ℕ → List ℕ
+added rs r q = replace rs r ((at 0 rs r + at 0 rs q) % valueRange)
+
+-- GET and PUT, by what the block is so far
+unfoldable pub firstRead : Memory → Task → Transaction → Access → Read → Turn
+unfolding replace
+firstRead m t x a (reads r) = turn m (stays t x (first a r))
+firstRead m t x a (gives v) = turn m (stays t (touch x (blockOf a) (remembered v) (x .used)) between)
+
+-- value n goes into the next copy store
+unfoldable pub copyBy : Bool → Memory → Task → Transaction → Access → ℕ → Turn
+copyBy true m t x a n = turn m (stays t x (again a 0 loading))
+copyBy false m t x a n = turn m (stays t x (copying a (suc n)))
+
+unfoldable pub copyTick : Memory → Task → Transaction → Access → ℕ → Turn
+unfolding at replace copyBy
+copyTick m t x a n =
+    copyBy (eqb (suc n) blockValues) (setStored m (at 0 (t .copies) (x .used)) n (stored (m .stores) (storeOf (rememberedOf (touchedOf x (blockOf a)))) n)) t x a n
+
+unfoldable pub accessTick : Memory → Task → Transaction → Access → Touched → Turn
+unfolding at replace readTick firstRead copyTick
+accessTick m t x a untouched = firstRead m t x a (readTick m (bank (blockOf a)) loading)
+accessTick m t x (GET r b o) (remembered v) = turn m (stays t x (again (GET r b o) (stored (m .stores) (storeOf v) o) loading))
+accessTick m t x (GET r b o) (copied v k) = turn m (stays t x (again (GET r b o) (stored (m .stores) (at 0 (t .copies) k) o) loading))
+accessTick m t x (PUT b o r) (remembered v) = copyTick m t x (PUT b o r) 0
+accessTick m t x (PUT b o r) (copied v k) = turn (setStored m (at 0 (t .copies) k) o (at 0 (t .registers) r)) (goesOn t (t .registers) x)
+
+-- the version read again is the remembered one; a stale version restarts the transaction
+unfoldable pub checkBy : Bool → Memory → Task → Transaction → Access → ℕ → Turn
+unfolding at replace
+checkBy true m t x (GET r b o) v = turn m (goesOn t (loaded (t .registers) r v) x)
+checkBy true m t x (PUT b o r) v = turn m (stays t (touch x b (copied (rememberedOf (touchedOf x b)) (x .used)) (suc (x .used))) between)
+checkBy false m t x a v = turn m (restarted t x)
+
+unfoldable pub againRead : Memory → Task → Transaction → Access → ℕ → Read → Turn
+unfolding at checkBy
+againRead m t x a v (reads r) = turn m (stays t x (again a v r))
+againRead m t x a v (gives w) = checkBy (eqb (versionOf w) (versionOf (rememberedOf (touchedOf x (blockOf a))))) m t x a v
+
+-- COMMIT
+unfoldable pub nothing? : List Touched → Bool
+nothing? [] = true
+nothing? (untouched ∷ l) = nothing? l
+nothing? (remembered v ∷ l) = false
+nothing? (copied v k ∷ l) = false
+
+-- a PUT block at the last version
+unfoldable pub spent? : List Touched → Bool
+spent? [] = false
+spent? (untouched ∷ l) = spent? l
+spent? (remembered v ∷ l) = spent? l
+spent? (copied v k ∷ l) = eqb (versionOf v) lastVersion || spent? l
+
+-- the touched bank words by rising number, every block number tried: unchanged where only read, new store and version + 1 where PUT
+unfoldable pub gather : List ℕ → ℕ → List Touched → List Entry
+unfolding at
+gather copies b [] = []
+gather copies b (untouched ∷ l) = gather copies (suc b) l
+gather copies b (remembered v ∷ l) = entry (bank b) v v ∷ gather copies (suc b) l
+gather copies b (copied v k ∷ l) = entry (bank b) v (bankValue (suc (versionOf v)) (at 0 copies k)) ∷ gather copies (suc b) l
+
+-- the k-th used copy slot takes the replaced block's old store
+unfoldable pub takenBack : List ℕ → List Touched → List ℕ
+unfolding replace
+takenBack copies [] = copies
+takenBack copies (untouched ∷ l) = takenBack copies l
+takenBack copies (remembered v ∷ l) = takenBack copies l
+takenBack copies (copied v k ∷ l) = takenBack (replace copies k (storeOf v)) l
+
+-- by: nothing was touched; a PUT block is at the last version
+unfoldable pub commitBy : Bool → Bool → Memory → Task → Transaction → Turn
+unfolding doneBy gather
+commitBy true s m t x = turn m (done t (t .registers) [] (t .copies))
+commitBy false true m t x = turn m (ended t)
+commitBy false false m t x = turn m (stays t x (committing (exchangeOf (gather (t .copies) 0 (x .blocks)))))
+
+unfoldable pub committed : Task → Transaction → Exchanged → Turn
+unfolding doneBy takenBack
+committed t x (goes m e) = turn m (stays t x (committing e))
+committed t x (ends m true) = turn m (done t (t .registers) [] (takenBack (t .copies) (x .blocks)))
+committed t x (ends m false) = turn m (rejected (restarted t x))
+
+-- the command at work, between its inner steps; the sheet check lets no other command stand inside a transaction
+unfoldable pub commandTick : Memory → Task → Transaction → List Command → Turn
+unfolding at replace accessTick commitBy nothing? spent?
+commandTick m t x [] = turn m t
+commandTick m t x (LOAD r v ∷ l) = turn m (goesOn t (loaded (t .registers) r v) x)
+commandTick m t x (ADD r q ∷ l) = turn m (goesOn t (added (t .registers) r q) x)
+commandTick m t x (access a ∷ l) = accessTick m t x a (touchedOf x (blockOf a))
+commandTick m t x (COMMIT ∷ l) = commitBy (nothing? (x .blocks)) (spent? (x .blocks)) m t x
+commandTick m t x (READ r w ∷ l) = turn m t
+commandTick m t x (PAIR w o n ∷ l) = turn m t
+commandTick m t x (SWAP r ∷ l) = turn m t
+commandTick m t x (BEGIN ∷ l) = turn m t
+commandTick m t x (WORD v ∷ l) = turn m t
+commandTick m t x (BLOCK b ∷ l) = turn m t
+commandTick m t x (TASK ∷ l) = turn m t
+commandTick m t x (RELEASE r ∷ l) = turn m t
+commandTick m t x (END ∷ l) = turn m t
+
+unfoldable pub transactionTick : ℕ → Memory → Task → Transaction → Inner → Turn
+unfolding commandTick readTick firstRead copyTick againRead exchangeTick committed
+transactionTick p m t x between = commandTick m t x (t .commands)
+transactionTick p m t x (first a r) = firstRead m t x a (readTick m (bank (blockOf a)) r)
+transactionTick p m t x (copying a n) = copyTick m t x a n
+transactionTick p m t x (again a v r) = againRead m t x a v (readTick m (bank (blockOf a)) r)
+transactionTick p m t x (committing e) = committed t x (exchangeTick p m e (e .step))

@@ -1,0 +1,1 @@
+// No code: specs/ holds the definitions that every contract cites, proofs/ the theorems about them.
