@@ -1,0 +1,32 @@
+-- Facts about every element of a list, where one element is replaced.
+use Prim.Native.Nat.{ℕ, zero, suc, _<_, _≤_}
+use mathlib.Core.Path.{_≡_, refl, sym, _∙_, ap, subst}
+use mathlib.Core.List.{List, [], _∷_}
+use native.Mathlib.Decide.{decLt}
+use native.Mathlib.Omega.{arith}
+use lib.ListN.{length}
+use Rattle.model.specs.Lists.{at, replace}
+use Rattle.model.proofs.Lists.{replace-same, replace-other, replace-past, same?}
+
+module _ {A : Type 0} (d : A) where
+  -- what holds of the new element and of all old ones holds of all
+  pub replace-all : (P : A → Type 0) (l : List A) (i : ℕ) (a : A) → P a → ((j : ℕ) → P (at d l j)) → (j : ℕ) → P (at d (replace l i a) j)
+  replace-all P l i a new old j = go (decLt i (length l))
+    where
+      go : Dec (i < length l) → P (at d (replace l i a) j)
+      go (yes h) =
+          same? j i
+          (λ e. subst P (sym (rw e (replace-same d l i a h))) new)
+          (λ n. subst P (sym (replace-other d l i j a n)) (old j))
+      go (no h) = subst (λ (r : List A). P (at d r j)) (sym (replace-past l i a (omega arith))) (old j)
+
+  -- a part that the new element has as the old one stays at every place
+  pub replace-part : {B : Type 0} (f : A → B) (l : List A) (i : ℕ) (a : A) → f a ≡ f (at d l i) → (j : ℕ) → f (at d (replace l i a) j) ≡ f (at d l j)
+  replace-part f l i a e j = go (decLt i (length l))
+    where
+      go : Dec (i < length l) → f (at d (replace l i a) j) ≡ f (at d l j)
+      go (yes h) =
+          same? j i
+          (λ q. ap f (rw q (replace-same d l i a h)) ∙ e ∙ ap (λ (n : ℕ). f (at d l n)) (sym q))
+          (λ n. ap f (replace-other d l i j a n))
+      go (no h) = ap (λ (r : List A). f (at d r j)) (replace-past l i a (omega arith))
