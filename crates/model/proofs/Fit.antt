@@ -9,3 +9,8 @@ pub mod Exchange
 pub mod ExchangeTick
 pub mod Transaction
 pub mod Machine
+pub mod Pairs
+pub mod Turn
+pub mod Outside
+pub mod Counting
+pub mod Blocks

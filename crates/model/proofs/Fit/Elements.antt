@@ -1,7 +1,7 @@
 -- Facts about every element of a list, where one element is replaced.
 use Prim.Native.Nat.{ℕ, zero, suc, _<_, _≤_}
 use mathlib.Core.Path.{_≡_, refl, sym, _∙_, ap, subst}
-use mathlib.Core.List.{List, [], _∷_}
+use mathlib.Core.List.{List, [], _∷_, _++_}
 use native.Mathlib.Decide.{decLt}
 use native.Mathlib.Omega.{arith}
 use lib.ListN.{length}
@@ -30,3 +30,11 @@ module _ {A : Type 0} (d : A) where
           (λ q. ap f (rw q (replace-same d l i a h)) ∙ e ∙ ap (λ (n : ℕ). f (at d l n)) (sym q))
           (λ n. ap f (replace-other d l i j a n))
       go (no h) = ap (λ (r : List A). f (at d r j)) (replace-past l i a (omega arith))
+
+  -- what holds of the default, of one more element and of all old ones holds of all
+  pub append-all : (P : A → Type 0) (l : List A) (a : A) → P d → P a → ((j : ℕ) → P (at d l j)) → (j : ℕ) → P (at d (l ++ (a ∷ [])) j)
+  unfolding at
+  append-all P [] a none new old zero = new
+  append-all P [] a none new old (suc j) = none
+  append-all P (x ∷ l) a none new old zero = old zero
+  append-all P (x ∷ l) a none new old (suc j) = append-all P l a none new (λ i. old (suc i)) j
