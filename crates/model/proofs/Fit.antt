@@ -14,3 +14,4 @@ pub mod Turn
 pub mod Outside
 pub mod Counting
 pub mod Blocks
+pub mod Gather

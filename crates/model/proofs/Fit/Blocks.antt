@@ -60,11 +60,8 @@ module _ {blocks : ℕ} {b : Body} {ts : List Touched} {used : ℕ} (f : BlocksF
   count-new : (t : Touched) → count copied? (replace ts n t) + countBy (copied? (at untouched ts n)) 0 ≡ count copied? ts + countBy (copied? t) 0
   count-new t = count-replace copied? ts n t (omega (arith, f .size))
 
-  no-bit : at untouched ts n ≡ untouched → countBy (copied? (at untouched ts n)) 0 ≡ 0
-  no-bit e = rw e
-
-  no-copy : {v : ℕ} → at untouched ts n ≡ remembered v → countBy (copied? (at untouched ts n)) 0 ≡ 0
-  no-copy e = rw e
+  not-counted : copied? (at untouched ts n) ≡ false → countBy (copied? (at untouched ts n)) 0 ≡ 0
+  not-counted e = rw e
 
   -- its bank word was read
   pub blocks-read : (v : ℕ) → at untouched ts n ≡ untouched → BlocksFit blocks b (replace ts n (remembered v)) used
@@ -74,7 +71,7 @@ module _ {blocks : ℕ} {b : Body} {ts : List Touched} {used : ℕ} (f : BlocksF
         below = λ q h. by-block (remembered v) q (λ s r. rw s below) (λ r. f .below q (rw r at h));
         touched = λ q h. by-block (remembered v) q (λ s r. rw s named) (λ r. f .touched q (rw r at h));
         put = λ q h. by-block (remembered v) q (λ s r. absurd (false≢true (rw r at h))) (λ r. f .put q (rw r at h));
-        slots = omega (arith, f .slots, count-new (remembered v), no-bit e);
+        slots = omega (arith, f .slots, count-new (remembered v), not-counted (rw e));
         slot = λ q w k h. by-block (remembered v) q (λ s r. let z : _≡_ {A = ℕ} 0 1 = cc in absurd (omega arith)) (λ r. f .slot q w k (rw r at h));
         different = λ p q u w k h g.
             by-block (remembered v) p
@@ -92,7 +89,7 @@ module _ {blocks : ℕ} {b : Body} {ts : List Touched} {used : ℕ} (f : BlocksF
         below = λ q h. by-block (copied v used) q (λ s r. rw s below) (λ r. f .below q (rw r at h));
         touched = λ q h. by-block (copied v used) q (λ s r. rw s named) (λ r. f .touched q (rw r at h));
         put = λ q h. by-block (copied v used) q (λ s r. rw s put) (λ r. f .put q (rw r at h));
-        slots = omega (arith, f .slots, count-new (copied v used), no-copy e);
+        slots = omega (arith, f .slots, count-new (copied v used), not-counted (rw e));
         slot = λ q w k h.
             by-block (copied v used) q
             (λ s r. let z : k ≡ used = cc in omega arith)
