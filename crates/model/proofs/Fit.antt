@@ -15,3 +15,4 @@ pub mod Outside
 pub mod Counting
 pub mod Blocks
 pub mod Gather
+pub mod Pass
