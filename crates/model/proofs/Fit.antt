@@ -16,3 +16,6 @@ pub mod Counting
 pub mod Blocks
 pub mod Gather
 pub mod Pass
+pub mod Access
+pub mod Commit
+pub mod TransactionTick
