@@ -19,3 +19,8 @@ pub mod Pass
 pub mod Access
 pub mod Commit
 pub mod TransactionTick
+pub mod Statement
+pub mod Running
+pub mod Tasks
+pub mod Arrive
+pub mod Tick

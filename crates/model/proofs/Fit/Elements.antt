@@ -38,3 +38,11 @@ module _ {A : Type 0} (d : A) where
   append-all P [] a none new old (suc j) = none
   append-all P (x ∷ l) a none new old zero = old zero
   append-all P (x ∷ l) a none new old (suc j) = append-all P l a none new (λ i. old (suc i)) j
+
+-- one number is below another or not
+pub below? : {P : Type 0} (i n : ℕ) → (i < n → P) → (n ≤ i → P) → P
+below? {P} i n f g = go (decLt i n)
+  where
+    go : Dec (i < n) → P
+    go (yes h) = f h
+    go (no h) = g (omega arith)
