@@ -24,3 +24,4 @@ pub mod Running
 pub mod Tasks
 pub mod Arrive
 pub mod Tick
+pub mod Start

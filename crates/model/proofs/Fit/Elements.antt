@@ -4,9 +4,17 @@ use mathlib.Core.Path.{_≡_, refl, sym, _∙_, ap, subst}
 use mathlib.Core.List.{List, [], _∷_, _++_}
 use native.Mathlib.Decide.{decLt}
 use native.Mathlib.Omega.{arith}
-use lib.ListN.{length}
+use lib.ListN.{length, replicate, length-replicate}
 use Rattle.model.specs.Lists.{at, replace}
-use Rattle.model.proofs.Lists.{replace-same, replace-other, replace-past, same?}
+use Rattle.model.proofs.Lists.{replace-same, replace-other, replace-past, at-replicate, at-past, same?}
+
+-- one number is below another or not
+pub below? : {P : Type 0} (i n : ℕ) → (i < n → P) → (n ≤ i → P) → P
+below? {P} i n f g = go (decLt i n)
+  where
+    go : Dec (i < n) → P
+    go (yes h) = f h
+    go (no h) = g (omega arith)
 
 module _ {A : Type 0} (d : A) where
   -- what holds of the new element and of all old ones holds of all
@@ -39,10 +47,19 @@ module _ {A : Type 0} (d : A) where
   append-all P (x ∷ l) a none new old zero = old zero
   append-all P (x ∷ l) a none new old (suc j) = append-all P l a none new (λ i. old (suc i)) j
 
--- one number is below another or not
-pub below? : {P : Type 0} (i n : ℕ) → (i < n → P) → (n ≤ i → P) → P
-below? {P} i n f g = go (decLt i n)
-  where
-    go : Dec (i < n) → P
-    go (yes h) = f h
-    go (no h) = g (omega arith)
+  -- what holds of the elements of two lists holds of those of both together
+  pub append-each : (P : A → Type 0) (l r : List A) → ((j : ℕ) → j < length l → P (at d l j)) → ((j : ℕ) → j < length r → P (at d r j)) → (j : ℕ) → j < length (l ++ r) → P (at d (l ++ r) j)
+  unfolding at
+  append-each P [] r f g j h = g j h
+  append-each P (x ∷ l) r f g zero h = f zero (omega arith)
+  append-each P (x ∷ l) r f g (suc j) h = append-each P l r (λ i k. f (suc i) (omega arith)) g j (omega arith)
+
+  pub replicate-each : (P : A → Type 0) (n : ℕ) (a : A) → P a → (j : ℕ) → j < length (replicate n a) → P (at d (replicate n a) j)
+  replicate-each P n a p j h = subst P (sym (at-replicate d a n j (rw (length-replicate n a) at h))) p
+
+  -- past a list that is filled up with the default
+  pub at-filled : (l : List A) (n i : ℕ) → length l ≤ i → at d (l ++ replicate n d) i ≡ d
+  unfolding at
+  at-filled [] n i h = below? i n (λ k. at-replicate d d n i k) (λ k. at-past d (replicate n d) i (rw (length-replicate n d) k))
+  at-filled (x ∷ l) n zero h = absurd (omega arith)
+  at-filled (x ∷ l) n (suc i) h = at-filled l n i (omega arith)
