@@ -25,3 +25,4 @@ pub mod Tasks
 pub mod Arrive
 pub mod Tick
 pub mod Start
+pub mod Reading
