@@ -1,0 +1,3 @@
+-- Demand 3, the exchange layer.
+pub mod Act
+pub mod Invariant
