@@ -4,3 +4,5 @@ pub mod Invariant
 pub mod Words
 pub mod Outcome
 pub mod Frame
+pub mod Early
+pub mod Statement
