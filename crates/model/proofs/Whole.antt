@@ -6,3 +6,4 @@ pub mod Outcome
 pub mod Frame
 pub mod Early
 pub mod Statement
+pub mod Clean

@@ -1,7 +1,7 @@
 -- What each task does to the cells, and the stages of an exchange. The exchange layer knows no more of a task than this.
 use Prim.Native.Nat.{ℕ, zero, suc, _<_, _≤_}
-use mathlib.Core.Bool.{Bool, true, false}
-use mathlib.Core.Path.{_≡_, refl}
+use mathlib.Core.Bool.{Bool, true, false, true≢false}
+use mathlib.Core.Path.{_≡_, refl, sym}
 use mathlib.Core.List.{List}
 use lib.ListN.{length}
 use Rattle.model.specs.Lists.{at}
@@ -99,6 +99,14 @@ covering working = 0
 covering failing = 0
 covering (cleaning j) = j
 covering (marking j) = j
+
+-- before the answer these are all entries below i
+pub undecided-all : (s : Stage) → undecided s ≡ true → (uncleaned s ≡ 0) × (covering s ≡ 0)
+undecided-all testing u = (refl, refl)
+undecided-all working u = (refl, refl)
+undecided-all failing u = (refl, refl)
+undecided-all (cleaning j) u = absurd (true≢false (sym u))
+undecided-all (marking j) u = absurd (true≢false (sym u))
 
 abbrev pub stage : Exchange → Stage
 stage x = stageOf (x .step)

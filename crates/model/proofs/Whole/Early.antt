@@ -12,7 +12,7 @@ use Rattle.model.specs.Lists.{at, replace}
 use Rattle.model.specs.Word.{Word, fresh, Memory, cellOf, statusOf, saved, setCell, setStatus, setSave, own, current}
 use Rattle.model.specs.Exchange.{Entry, entry, Step, start, test, load, look, fetch, fail, mark, install, commit, save, clean, cleanMark, Exchange, entryAt, changing, installed, to, loaded, noted, onward}
 use Rattle.model.proofs.Lists.{replace-same, replace-other, length-replace, at-below, same?}
-use Rattle.model.proofs.Whole.Act.{Act, free, exchanging, actAt, Stage, working, stageOf, stage, undecided, uncleaned, here}
+use Rattle.model.proofs.Whole.Act.{Act, free, exchanging, actAt, Stage, working, stageOf, stage, undecided, uncleaned, undecided-all, here}
 use Rattle.model.proofs.Whole.Invariant.{Held, WellFormed, valid, held, Anyone, Loaded, Found, Settled, AtStep, InExchange, Knows, Rank, itself, idle, lower, Situation, Room}
 use Rattle.model.proofs.Whole.Words.{own-valid, not-own, current-own, current-other, changes, unchanging}
 use Rattle.model.proofs.Whole.Frame.{Frame, frame-none, frame-cell, frame-save, frame-status, frame-mark, mark-keeps, kept-not-two, move-content, own-frame, current-frame, loaded-frame, found-frame, settled-frame, Moved, below-clear}
@@ -106,30 +106,30 @@ module _ {below : ℕ → ℕ → Type 0} {m : Memory} {acts : List Act} {p : �
       (rw (S .sizes) l, not-own (m .status) (n .init) (not-true _ (sym (L .looked) ∙ o)) .1)
 
   -- a statement before Commit's answer that leaves the cells alone
-  pub early-moved : {n : Memory} (x′ : Exchange) → Follows x x′ → x′ .i ≡ x .i → uncleaned (stage x) ≡ 0 → uncleaned (stage x′) ≡ 0
+  pub early-moved : {n : Memory} (x′ : Exchange) → Follows x x′ → x′ .i ≡ x .i → undecided (stage x) ≡ true → undecided (stage x′) ≡ true
       → n .cells ≡ m .cells → Frame p m n → ((e : ℕ) → e < x .i → saved (n .saves) p e ≡ saved (m .saves) p e) → statusOf n p ≢ 2
       → (stage x′ ≡ working → x .i < length (x .entries))
       → AtStep (λ r. below r p) (n .status) (n .saves) (replace acts p (exchanging x′)) p x′ (x′ .step)
       → Moved below m n acts p (exchanging x′)
-  early-moved {n} x′ f ei l0 l1 ec F sv n2 w s =
+  early-moved {n} x′ f ei u u′ ec F sv n2 w s =
       record {
         frame = F;
-        contents = λ c. rw ec (keep-content (exchanging x′) (λ e l h d i. held-on x′ f e (from-zero l1 e) (rw ei h) d) (S .invariant .contents c));
+        contents = λ c. rw ec (keep-content (exchanging x′) (λ e l h d i. held-on x′ f e (from-zero (undecided-all (stage x′) u′ .0) e) (rw ei h) d) (S .invariant .contents c));
         knows = record {
           within = rw (ei, f .size) (mine .within);
           at-entry = λ k. rw (ei, f .size) (w k);
           distinct = λ e g le lg d. mine .distinct e g (rw (f .size) at le) (rw (f .size) at lg) (sym (f .cell e) ∙ d ∙ f .cell g);
           settled = λ e l h.
               let h′ : e < x .i = rw ei at h in
-              rw (f .done e h′) (settled-frame F (exchanging x′) acts (below-clear S) (sv e h′) (mine .settled e (from-zero l0 e) h′));
+              rw (f .done e h′) (settled-frame F (exchanging x′) acts (below-clear S) (sv e h′) (mine .settled e (from-zero (undecided-all (stage x) u .1) e) h′));
           not-yet = λ _. n2;
           at-step = s;
         };
       }
 
   -- one that changes nothing shared
-  pub early-quiet : (x′ : Exchange) → Follows x x′ → x′ .i ≡ x .i → undecided (stage x) ≡ true → uncleaned (stage x) ≡ 0 → uncleaned (stage x′) ≡ 0
+  pub early-quiet : (x′ : Exchange) → Follows x x′ → x′ .i ≡ x .i → undecided (stage x) ≡ true → undecided (stage x′) ≡ true
       → (stage x′ ≡ working → x .i < length (x .entries))
       → AtStep (λ r. below r p) (m .status) (m .saves) (replace acts p (exchanging x′)) p x′ (x′ .step)
       → Moved below m m acts p (exchanging x′)
-  early-quiet x′ f ei u l0 l1 w s = early-moved x′ f ei l0 l1 refl (frame-none p m) (λ e h. refl) (mine .not-yet u) w s
+  early-quiet x′ f ei u u′ w s = early-moved x′ f ei u u′ refl (frame-none p m) (λ e h. refl) (mine .not-yet u) w s

@@ -12,7 +12,7 @@ use Rattle.model.specs.Lists.{at, replace}
 use Rattle.model.specs.Word.{Word, fresh, Memory, cellOf, statusOf, saved, setCell, setStatus, setSave, own, current}
 use Rattle.model.specs.Exchange.{Entry, entry, Step, start, test, load, look, fetch, fail, mark, install, commit, save, clean, cleanMark, Exchange, entryAt, changing, installed, to, loaded, noted, onward}
 use Rattle.model.proofs.Lists.{replace-same, replace-other, same?}
-use Rattle.model.proofs.Whole.Act.{Act, free, exchanging, actAt, Stage, working, stageOf, stage, uncleaned, here}
+use Rattle.model.proofs.Whole.Act.{Act, free, exchanging, actAt, Stage, working, stageOf, stage, undecided, uncleaned, here}
 use Rattle.model.proofs.Whole.Invariant.{Held, WellFormed, valid, held, Anyone, Loaded, Found, Settled, AtStep, InExchange, Situation, Room}
 use Rattle.model.proofs.Whole.Words.{and-true, current-own, current-other, changes, unchanging}
 use Rattle.model.proofs.Whole.Frame.{Frame, frame-none, frame-cell, frame-save, frame-status, frame-mark, mark-keeps, kept-not-two, move-content, current-frame, loaded-frame, found-frame, settled-frame, Moved, below-clear}
@@ -24,30 +24,30 @@ module _ {below : ℕ → ℕ → Type 0} {m : Memory} {acts : List Act} {p : �
   inside s e w = mine S .at-entry (rw e w)
 
   pub test-done-moved : x .step ≡ test → (x .i ≡ length (x .entries)) ⊎ (statusOf m p ≡ 1) → Moved below m m acts p (exchanging (to x commit))
-  test-done-moved s h = early-quiet S (to x commit) (follows-to x commit) refl (rw s) (rw s) refl (λ w. let z : _≡_ {A = ℕ} 0 1 = cc in absurd (omega arith)) (go h)
+  test-done-moved s h = early-quiet S (to x commit) (follows-to x commit) refl (rw s) refl (λ w. let z : _≡_ {A = ℕ} 0 1 = cc in absurd (omega arith)) (go h)
     where
       go : (x .i ≡ length (x .entries)) ⊎ (statusOf m p ≡ 1) → (x .i ≡ length (x .entries)) ⊎ (statusOf m p ≢ 0)
       go (inl e) = inl e
       go (inr e) = inr (omega arith)
 
   pub test-on-moved : x .step ≡ test → x .i ≢ length (x .entries) → Moved below m m acts p (exchanging (to x load))
-  test-on-moved s ne = early-quiet S (to x load) (follows-to x load) refl (rw s) (rw s) refl (λ _. omega (arith, mine S .within)) tt
+  test-on-moved s ne = early-quiet S (to x load) (follows-to x load) refl (rw s) refl (λ _. omega (arith, mine S .within)) tt
 
   pub load-moved : x .step ≡ load → Moved below m m acts p (exchanging (noted x (cellOf m (here x .cell)) false look))
   load-moved s =
       let l = inside load s refl in
       let x′ = noted x (cellOf m (here x .cell)) false look in
-      early-quiet S x′ (follows-noted x _ false look l) refl (rw s) (rw s) refl (λ _. l)
+      early-quiet S x′ (follows-noted x _ false look l) refl (rw s) refl (λ _. l)
       (rw (noted-here x _ false look l) (move-content p (exchanging x′) (below-clear S) (loaded-content S l (S .invariant .contents (here x .cell)))))
 
-  looked-moved : (o : Bool) (s : Step) → x .step ≡ look → own (m .status) (here x .init) ≡ not o → uncleaned (stageOf s) ≡ 0
+  looked-moved : (o : Bool) (s : Step) → x .step ≡ look → own (m .status) (here x .init) ≡ not o → undecided (stageOf s) ≡ true
       → (Loaded (λ r. below r p) (m .status) (replace acts p (exchanging (noted x (here x .init) o s))) (loaded (here x) (here x .init) o)
       → AtStep (λ r. below r p) (m .status) (m .saves) (replace acts p (exchanging (noted x (here x .init) o s))) p (noted x (here x .init) o s) s)
       → Moved below m m acts p (exchanging (noted x (here x .init) o s))
-  looked-moved o s e w l0 h =
+  looked-moved o s e w u′ h =
       let l = inside look e refl in
       let x′ = noted x (here x .init) o s in
-      early-quiet S x′ (follows-noted x _ o s l) refl (rw e) (rw e) l0 (λ _. l)
+      early-quiet S x′ (follows-noted x _ o s l) refl (rw e) u′ (λ _. l)
       (h (record { well-formed = move-content p (exchanging x′) (below-clear S) (at-step-as S look e); looked = sym (double o) ∙ ap not (sym w) }))
     where
       double : (b : Bool) → not (not b) ≡ b
@@ -67,7 +67,7 @@ module _ {below : ℕ → ℕ → Type 0} {m : Memory} {acts : List Act} {p : �
   fetch-moved s =
       let h = at-step-as S fetch s in
       let w : own (m .status) (here x .init) ≡ false = not-true _ (sym (h .0 .looked) ∙ h .1) in
-      early-quiet S (to x (save _)) (follows-to x (save _)) refl (rw s) (rw s) refl (λ _. inside fetch s refl)
+      early-quiet S (to x (save _)) (follows-to x (save _)) refl (rw s) refl (λ _. inside fetch s refl)
       (loaded-frame (frame-none p m) (exchanging (to x (save _))) acts (below-clear S) (h .0), sym (current-other (m .status) (m .saves) (here x .init) w))
 
   pub fail-moved : x .step ≡ fail → Moved below m (setStatus m p 1) acts p (exchanging (to x test))
@@ -95,7 +95,7 @@ module _ {below : ℕ → ℕ → Type 0} {m : Memory} {acts : List Act} {p : �
         rw (replace-same [] (m .saves) p (replace (at [] (m .saves) p) (x .i) v) (R .saves))
         (replace-same 0 (at [] (m .saves) p) (x .i) v (omega (arith, R .places)))
 
-    save-moved : (v : ℕ) (s : Step) → x .step ≡ save v → uncleaned (stageOf s) ≡ 0
+    save-moved : (v : ℕ) (s : Step) → x .step ≡ save v → undecided (stageOf s) ≡ true
         → AtStep (λ r. below r p) (m .status) (setSave m p (x .i) v .saves) (replace acts p (exchanging (to x s))) p (to x s) s
         → Moved below m (setSave m p (x .i) v) acts p (exchanging (to x s))
     save-moved v s e l0 h =
