@@ -7,3 +7,4 @@ pub mod Frame
 pub mod Early
 pub mod Statement
 pub mod Clean
+pub mod Kept
