@@ -8,3 +8,4 @@ pub mod Early
 pub mod Statement
 pub mod Clean
 pub mod Kept
+pub mod Standing
