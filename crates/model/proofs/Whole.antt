@@ -9,3 +9,4 @@ pub mod Statement
 pub mod Clean
 pub mod Kept
 pub mod Standing
+pub mod Upheld
