@@ -10,3 +10,4 @@ pub mod Clean
 pub mod Kept
 pub mod Standing
 pub mod Upheld
+pub mod Preserve

@@ -35,6 +35,23 @@ actBy (cleanMark j yes?) x = exchanging x
 abbrev pub actOf : Exchange → Act
 actOf x = actBy (x .step) x
 
+pub started? : {P : Type 0} (x : Exchange) → (x .step ≡ start → P) → (actOf x ≡ exchanging x → P) → P
+started? {P} x f g = go (x .step) refl
+  where
+    go : (s : Step) → x .step ≡ s → P
+    go start s = f s
+    go test s = g (rw s)
+    go load s = g (rw s)
+    go look s = g (rw s)
+    go fetch s = g (rw s)
+    go (save v) s = g (rw s)
+    go fail s = g (rw s)
+    go mark s = g (rw s)
+    go install s = g (rw s)
+    go commit s = g (rw s)
+    go (clean j yes?) s = g (rw s)
+    go (cleanMark j yes?) s = g (rw s)
+
 -- what a tick of the exchange leaves
 abbrev pub actAfter : Exchanged → Act
 actAfter (goes m x) = actOf x

@@ -1,24 +1,22 @@
--- L is kept by every statement; with O, H, S and M that is the theorem of this layer: `exchange-kept`, `start-kept`, `reading-kept`, `quiet-kept`.
+-- Every outcome of an exchange's tick upholds L.
 use Prim.Native.Nat.{ℕ, zero, suc, _<_, _≤_}
 use mathlib.Core.Bool.{Bool, true, false, not, _&&_, true≢false}
-use mathlib.Core.Path.{_≡_, refl, sym, _∙_, ap, subst}
-use mathlib.Core.Logic.{_≢_, _⊎_, inl, inr}
+use mathlib.Core.Path.{_≡_, refl, sym, _∙_, ap}
+use mathlib.Core.Logic.{_≢_}
 use mathlib.Core.List.{List}
 use native.Mathlib.Omega.{arith}
 use lib.ListN.{length}
-use Rattle.model.specs.Lists.{at, replace}
-use Rattle.model.specs.Word.{Word, fresh, Memory, memory, cellOf, statusOf, setCell, setStatus, setSave, own, Reading, Read, readTick}
-use Rattle.model.specs.Exchange.{Entry, Step, start, test, load, look, fetch, fail, mark, install, commit, save, clean, cleanMark, Exchange, Exchanged, exchangeTick, entryAt, changing, installed, cleaned, to, noted, onward}
+use Rattle.model.specs.Word.{Word, fresh, Memory, cellOf, statusOf, setCell}
+use Rattle.model.specs.Exchange.{Step, start, test, load, look, fetch, fail, mark, install, commit, save, clean, cleanMark, Exchange, Exchanged, entryAt, changing, installed, to, onward}
 use Rattle.model.proofs.Lists.{replace-same, replace-other, same?}
-use Rattle.model.proofs.Whole.Act.{Act, free, reading, exchanging, actAt, actBy, actOf, actAfter, memoryAfter, Quiet, Stage, stageOf, stage, hopeful, undecided, covering, here, Distinct}
-use Rattle.model.proofs.Whole.Invariant.{Settled, Covers, CoveredBy, Invariant, Knows, Situation, Room}
+use Rattle.model.proofs.Whole.Act.{Act, free, exchanging, actAfter, memoryAfter, stageOf, stage, hopeful, covering, here}
+use Rattle.model.proofs.Whole.Invariant.{Settled, Covers, Situation, Room}
 use Rattle.model.proofs.Whole.Words.{and-true, changes, not-counting}
-use Rattle.model.proofs.Whole.Outcome.{Decides, commits, refuses, Cleans, renews, passes, gives-back, leaves, marks-after, Outcome, starts, tests-done, tests-on, loads, looks-own, looks-other, fetches, saves-differing, saves-to-mark, saves, fails, marks, installs, misses, decides, decides-last, cleans, cleans-last, cleans-to-mark, outcome}
-use Rattle.model.proofs.Whole.Frame.{Frame, frame-none, mark-keeps, kept-zero, Moved, below-clear}
+use Rattle.model.proofs.Whole.Outcome.{Decides, commits, refuses, Cleans, renews, passes, gives-back, leaves, marks-after, Outcome, starts, tests-done, tests-on, loads, looks-own, looks-other, fetches, saves-differing, saves-to-mark, saves, fails, marks, installs, misses, decides, decides-last, cleans, cleans-last, cleans-to-mark}
+use Rattle.model.proofs.Whole.Frame.{mark-keeps, kept-zero, below-clear}
 use Rattle.model.proofs.Whole.Early.{Follows, follows-to, follows-noted, mine, at-step-as, replaced-status}
 use Rattle.model.proofs.Whole.Clean.{decided-cells, clean-entry, clean-settled}
-use Rattle.model.proofs.Whole.Kept.{quiet-moved, start-moved, actRead, reading-moved, exchange-moved}
-use Rattle.model.proofs.Whole.Standing.{Keeps, stays, taken, Lower, GivesBack, AllInstalled, Upholds, invariant-after, all-in-cells}
+use Rattle.model.proofs.Whole.Standing.{Keeps, stays, taken, Lower, Upholds, all-in-cells}
 
 zero-not-two : {s : ℕ} → s ≡ 0 → s ≢ 2
 zero-not-two h = omega arith
