@@ -11,3 +11,4 @@ pub mod Kept
 pub mod Standing
 pub mod Upheld
 pub mod Preserve
+pub mod Current

@@ -87,7 +87,7 @@ module _ {below : ℕ → ℕ → Type 0} {m : Memory} {acts : List Act} {p : �
 
   -- SAVE
   module _ (R : Room m p (x .entries)) where
-    save-kept : (v e : ℕ) → e < x .i → saved (setSave m p (x .i) v .saves) p e ≡ saved (m .saves) p e
+    pub save-kept : (v e : ℕ) → e < x .i → saved (setSave m p (x .i) v .saves) p e ≡ saved (m .saves) p e
     save-kept v e h = rw (replace-same [] (m .saves) p (replace (at [] (m .saves) p) (x .i) v) (R .saves)) (replace-other 0 (at [] (m .saves) p) (x .i) e v (omega arith))
 
     save-new : (v : ℕ) → x .i < length (x .entries) → saved (setSave m p (x .i) v .saves) p (x .i) ≡ v
