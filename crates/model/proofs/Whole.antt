@@ -12,3 +12,4 @@ pub mod Standing
 pub mod Upheld
 pub mod Preserve
 pub mod Current
+pub mod Rates

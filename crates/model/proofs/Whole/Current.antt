@@ -108,7 +108,7 @@ module _ {below : ℕ → ℕ → Type 0} {m : Memory} {acts : List Act} {p : �
     pub current-kept : {o : Exchanged} → Outcome p m x o → (x .step ≡ commit → statusOf m p ≢ 0) → (c : ℕ) → currentOf (memoryAfter o) c ≡ currentOf m c
     current-kept (starts s) ne c = absurd (at-step-as S start s)
     current-kept (tests-done s h) ne c = refl
-    current-kept (tests-on s h) ne c = refl
+    current-kept (tests-on s h one) ne c = refl
     current-kept (loads s) ne c = refl
     current-kept (looks-own s w) ne c = refl
     current-kept (looks-other s w) ne c = refl

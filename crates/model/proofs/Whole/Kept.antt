@@ -81,7 +81,7 @@ module _ {below : ℕ → ℕ → Type 0} {m : Memory} {acts : List Act} {p : �
   pub exchange-moved : {o : Exchanged} → Outcome p m x o → Moved below m (memoryAfter o) acts p (actAfter o)
   exchange-moved (starts s) = absurd (at-step-as S start s)
   exchange-moved (tests-done s h) = test-done-moved S s h
-  exchange-moved (tests-on s ne) = test-on-moved S s ne
+  exchange-moved (tests-on s ne one) = test-on-moved S s ne
   exchange-moved (loads s) = load-moved S s
   exchange-moved (looks-own s w) = look-own-moved S s w
   exchange-moved (looks-other s w) = look-other-moved S s w

@@ -130,7 +130,7 @@ module _ {below : ℕ → ℕ → Type 0} {m : Memory} {acts : List Act} {p : �
     pub exchange-upholds : {o : Exchanged} → Outcome p m x o → Upholds below m (memoryAfter o) p (exchanging x) (actAfter o)
     exchange-upholds (starts s) = absurd (at-step-as S start s)
     exchange-upholds (tests-done s h) = same-upholds (to x commit) (follows-to x commit) refl (rw s) refl (λ k st. (rw s, st))
-    exchange-upholds (tests-on s ne) = same-upholds (to x load) (follows-to x load) refl (rw s) refl (λ k st. (rw s, st))
+    exchange-upholds (tests-on s ne one) = same-upholds (to x load) (follows-to x load) refl (rw s) refl (λ k st. (rw s, st))
     exchange-upholds (loads s) = same-upholds _ (follows-noted x _ false look (mine S .at-entry (rw s))) refl (rw s) refl (λ k st. (rw s, st))
     exchange-upholds (looks-own s w) = same-upholds _ (follows-noted x _ false _ (mine S .at-entry (rw s))) refl (rw s) refl (λ k st. (rw s, st))
     exchange-upholds (looks-other s w) = same-upholds _ (follows-noted x _ true fetch (mine S .at-entry (rw s))) refl (rw s) refl (λ k st. (rw s, st))
