@@ -13,3 +13,4 @@ pub mod Upheld
 pub mod Preserve
 pub mod Current
 pub mod Rates
+pub mod Ground
