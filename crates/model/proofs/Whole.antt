@@ -14,3 +14,4 @@ pub mod Preserve
 pub mod Current
 pub mod Rates
 pub mod Ground
+pub mod GroundFrame
