@@ -2,3 +2,5 @@ pub mod Lists
 pub mod Bytes
 pub mod Cases
 pub mod Fit
+pub mod Whole
+pub mod Transactions

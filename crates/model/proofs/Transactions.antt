@@ -1,0 +1,4 @@
+-- Demand 3, the transaction layer.
+pub mod Facts
+pub mod Given
+pub mod Versions
