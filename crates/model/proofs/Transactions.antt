@@ -2,3 +2,4 @@
 pub mod Facts
 pub mod Given
 pub mod Versions
+pub mod Frame
