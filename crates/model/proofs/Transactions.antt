@@ -3,3 +3,5 @@ pub mod Facts
 pub mod Given
 pub mod Versions
 pub mod Frame
+pub mod Steps
+pub mod Puts

@@ -28,7 +28,7 @@ pub record Past (now v : ℕ) : Type 0 where
 
 -- what a tick does to the current value of a bank word
 pub data Change (before after : ℕ) : Type 0 where
-  kept : after ≡ before → Change before after
+  unchanged : after ≡ before → Change before after
   raised : versionOf after ≡ suc (versionOf before) → Change before after
 
 -- OWNERS
