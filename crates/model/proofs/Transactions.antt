@@ -5,3 +5,4 @@ pub mod Versions
 pub mod Frame
 pub mod Steps
 pub mod Puts
+pub mod Gather
