@@ -7,7 +7,6 @@ use mathlib.Core.List.{List, [], _∷_}
 use mathlib.Core.Option.{Option, none, some}
 use native.Mathlib.Omega.{arith}
 use lib.ListN.{length}
-use lib.Seq.{ext-getD}
 use Rattle.model.specs.Lists.{at, replace}
 use Rattle.model.specs.Command.{Access, GET, PUT, Block, Command, access}
 use Rattle.model.specs.Word.{Memory, stored, setStored, current}
@@ -20,11 +19,8 @@ use Rattle.model.proofs.Fit.Memory.{MemoryFit}
 use Rattle.model.proofs.Fit.Transaction.{touched?}
 use Rattle.model.proofs.Transactions.Facts.{bankIn, Past, unchanged, PutAtWork, SameCopy, Beside, Agrees, Way, CopiedTo, AtInner, PassFacts}
 use Rattle.model.proofs.Transactions.Frame.{Apart, Blocks, same-copy, beside-apart, stood, same-store, agreed}
+use Rattle.model.proofs.Transactions.Contents.{ext-at}
 use Rattle.model.proofs.Transactions.Steps.{SlotsApart, copy-onward, held}
-
-ext-at : (d : ℕ) (l r : List ℕ) → length l ≡ length r → ((i : ℕ) → i < length l → at d l i ≡ at d r i) → l ≡ r
-unfolding at
-ext-at d l r e h = ext-getD d l r e h
 
 -- a copy slot is written: blocks keep their stores, and so do the slots below it
 written-apart : {blocks : ℕ} {m : Memory} {copies : List ℕ} → SlotsApart blocks m copies → (k : ℕ) → k < 4 → (o v : ℕ) → Apart blocks k m (setStored m (at 0 copies k) o v) copies
