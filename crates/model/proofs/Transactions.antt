@@ -8,3 +8,4 @@ pub mod Steps
 pub mod Puts
 pub mod Gather
 pub mod Commit
+pub mod Owners
