@@ -9,3 +9,4 @@ pub mod Puts
 pub mod Gather
 pub mod Commit
 pub mod Owners
+pub mod Pass
