@@ -3,3 +3,4 @@ pub mod Bytes
 pub mod Cases
 pub mod Fit
 pub mod Whole
+pub mod Transactions
