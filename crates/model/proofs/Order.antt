@@ -4,4 +4,7 @@ pub mod Advance
 pub mod Account
 pub mod Steps
 pub mod Arrive
+pub mod Exchange
+pub mod Moves
+pub mod Statement
 pub mod Example
