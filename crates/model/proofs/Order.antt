@@ -7,4 +7,6 @@ pub mod Arrive
 pub mod Exchange
 pub mod Moves
 pub mod Statement
+pub mod Noted
+pub mod Linked
 pub mod Example
