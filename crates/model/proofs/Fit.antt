@@ -26,3 +26,5 @@ pub mod Arrive
 pub mod Tick
 pub mod Start
 pub mod Reading
+pub mod Declared
+pub mod Walk

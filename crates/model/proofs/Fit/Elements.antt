@@ -54,6 +54,11 @@ module _ {A : Type 0} (d : A) where
   append-each P (x ∷ l) r f g zero h = f zero (omega arith)
   append-each P (x ∷ l) r f g (suc j) h = append-each P l r (λ i k. f (suc i) (omega arith)) g j (omega arith)
 
+  pub first-each : (P : A → Type 0) (a : A) (l : List A) → P a → ((j : ℕ) → j < length l → P (at d l j)) → (j : ℕ) → j < suc (length l) → P (at d (a ∷ l) j)
+  unfolding at
+  first-each P a l f g zero h = f
+  first-each P a l f g (suc j) h = g j (omega arith)
+
   pub replicate-each : (P : A → Type 0) (n : ℕ) (a : A) → P a → (j : ℕ) → j < length (replicate n a) → P (at d (replicate n a) j)
   replicate-each P n a p j h = subst P (sym (at-replicate d a n j (rw (length-replicate n a) at h))) p
 
