@@ -28,3 +28,4 @@ pub mod Start
 pub mod Reading
 pub mod Declared
 pub mod Walk
+pub mod Accepted
