@@ -1,21 +1,20 @@
 -- An accepted sheet is well formed, and so is every machine that its run reaches.
-use Prim.Native.Nat.{ℕ, zero, suc, _+_, _<_, _≤_}
-use mathlib.Core.Path.{_≡_, refl, sym, _∙_, ap, subst}
+use Prim.Native.Nat.{ℕ, suc, _+_, _≤_}
+use mathlib.Core.Path.{_≡_, refl, sym, subst}
 use mathlib.Core.Bool.{Bool, true, false}
 use mathlib.Core.List.{List, [], _∷_}
-use mathlib.Core.Option.{Option, none, some}
+use mathlib.Core.Option.{some}
 use native.Mathlib.Omega.{arith}
 use lib.Dec.{eqb}
 use lib.ListN.{length, getD}
 use Rattle.model.specs.Lists.{at}
 use Rattle.model.specs.Command.{Command, Row, table, rowBy, rowOf, operand}
-use Rattle.model.specs.Fault.{nothingKnown}
-use Rattle.model.specs.Sheet.{Sheet, Verdict, accepted, verdict, commandsFrom, declared, sheetOf}
-use Rattle.model.specs.Machine.{Machine, run, startMachine}
-use Rattle.model.proofs.Fit.Sheet.{BodyFit, ReleasesFit, SheetFit}
+use Rattle.model.specs.Sheet.{Sheet, accepted, verdict, commandsFrom, declared, sheetOf}
+use Rattle.model.specs.Machine.{run, startMachine}
+use Rattle.model.proofs.Fit.Sheet.{SheetFit}
 use Rattle.model.proofs.Fit.Machine.{Fit}
-use Rattle.model.proofs.Fit.Reading.{FoundAt, Good, good}
-use Rattle.model.proofs.Fit.Declared.{EightValues, DeclaredHere}
+use Rattle.model.proofs.Fit.Reading.{FoundAt, good}
+use Rattle.model.proofs.Fit.Declared.{EightValues}
 use Rattle.model.proofs.Fit.Walk.{walk}
 use Rattle.model.proofs.Fit.Tick.{afterTicks, after-ticks-fit, run-fit, run-now}
 use Rattle.model.proofs.Fit.Start.{start-fit}

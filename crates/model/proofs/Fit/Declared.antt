@@ -1,18 +1,17 @@
 -- What the commands of a good sheet declare from a place on, by what is known there: the facts that the walk collects.
 use Prim.Native.Nat.{ℕ, zero, suc, _+_, _<_, _≤_}
-use mathlib.Core.Path.{_≡_, refl, sym, _∙_, ap, subst}
-use mathlib.Core.Bool.{Bool, true, false, not, _&&_, _||_, true≢false, false≢true}
+use mathlib.Core.Path.{_≡_, refl}
+use mathlib.Core.Bool.{true, _&&_, false≢true}
 use mathlib.Core.List.{List, [], _∷_}
-use mathlib.Core.Option.{none}
 use native.Mathlib.Omega.{arith}
 use lib.Dec.{eqb, ltb}
 use lib.ListN.{length}
 use borrow.Author.Tests.{ltb-true, eqb-true}
 use Rattle.model.specs.Lists.{at}
 use Rattle.model.specs.Command.{Release, Block, Command, WORD, BLOCK, TASK, RELEASE, END, LOAD, ADD, READ, PAIR, SWAP, BEGIN, access, COMMIT}
-use Rattle.model.specs.Fault.{Section, wordSection, blockSection, bodySection, releaseSection, Counts, Body, Known, words?, blocks?, body?, releases?, before}
-use Rattle.model.specs.Sheet.{Declared, declares}
-use Rattle.model.proofs.Fit.Tests.{and-left, and-right, or-cases}
+use Rattle.model.specs.Fault.{Section, wordSection, blockSection, bodySection, releaseSection, Known, words?, blocks?, body?, releases?, before}
+use Rattle.model.specs.Sheet.{Declared}
+use Rattle.model.proofs.Fit.Elements.{and-left, and-right, or-cases}
 use Rattle.model.proofs.Fit.Body.{Faultless}
 use Rattle.model.proofs.Fit.Sheet.{BodyFit, releaseAt, Rises, blockAt}
 

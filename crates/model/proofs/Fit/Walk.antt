@@ -1,24 +1,22 @@
 -- The walk over a good sheet's commands: each command's step, and the sheet that they declare.
-use Prim.Native.Nat.{ℕ, zero, suc, _+_, _<_, _≤_}
-use mathlib.Core.Path.{_≡_, refl, sym, _∙_, ap, subst}
-use mathlib.Core.Bool.{Bool, true, false, not, _&&_, _||_, true≢false, false≢true}
-use mathlib.Core.List.{List, [], _∷_}
+use Prim.Native.Nat.{ℕ, suc, _+_, _<_}
+use mathlib.Core.Path.{_≡_, refl, sym, ap, subst}
+use mathlib.Core.Bool.{true, false, not, _&&_, _||_, true≢false}
+use mathlib.Core.List.{List, []}
 use mathlib.Core.Option.{none}
 use native.Mathlib.Omega.{arith}
-use lib.Dec.{eqb, ltb, leb}
+use lib.Dec.{eqb}
 use lib.ListN.{length}
 use borrow.Author.Tests.{ltb-true, leb-true, eqb-true}
 use Rattle.model.specs.Lists.{at}
-use Rattle.model.specs.Command.{Access, GET, PUT, Release, Block, Command, WORD, BLOCK, TASK, RELEASE, END, LOAD, ADD, READ, PAIR, SWAP, BEGIN, access, COMMIT}
-use Rattle.model.specs.Fault.{Section, wordSection, blockSection, bodySection, releaseSection, Counts, Body, Known, emptyBody, words?, blocks?, body?, releases?, mayEnd, outside, within, bodiesOver, before, none?, inPlace, underCeiling, inRange, newWord, rising, faultOf}
-use Rattle.model.specs.Sheet.{Sheet, Declared, declares, inOpenBody, declare, declared, after, inBody, end?}
-use Rattle.model.proofs.Fit.Tests.{and-left, and-right, or-cases}
-use Rattle.model.proofs.Fit.Elements.{first-each}
-use Rattle.model.proofs.Fit.Body.{BodyCommand, First, Faultless, Open}
-use Rattle.model.proofs.Fit.Command.{Passed, passedOf}
-use Rattle.model.proofs.Fit.Sheet.{BodyFit, releaseAt, Rises, noBlock, blockAt}
+use Rattle.model.specs.Command.{Release, Block, Command, WORD, BLOCK, TASK, RELEASE, END, LOAD, ADD, READ, PAIR, SWAP, BEGIN, access, COMMIT}
+use Rattle.model.specs.Fault.{Section, Body, Known, words?, blocks?, body?, releases?, mayEnd, outside, within, bodiesOver, before, none?, inPlace, underCeiling, inRange, rising, faultOf}
+use Rattle.model.specs.Sheet.{Declared, declares, inOpenBody, declare, declared, after, inBody, end?}
+use Rattle.model.proofs.Fit.Elements.{and-left, and-right, or-cases, first-each}
+use Rattle.model.proofs.Fit.Body.{BodyCommand, Faultless, passedOf}
+use Rattle.model.proofs.Fit.Sheet.{BodyFit, Rises, noBlock}
 use Rattle.model.proofs.Fit.Reading.{Good, ending, going}
-use Rattle.model.proofs.Fit.Declared.{EightValues, InWords, InBlocks, InBodies, InReleases, InSection, ReleasesDeclared, BlockFit, DeclaredHere, in-words, in-blocks, in-body, in-releases, rises, no-releases, release-first}
+use Rattle.model.proofs.Fit.Declared.{EightValues, InSection, BlockFit, DeclaredHere, in-words, in-blocks, in-body, in-releases, rises, no-releases, release-first}
 
 -- where the section is known
 at-section : (k : Known) (d : Declared) {s : Section} → k .section ≡ s → InSection s k d → InSection (k .section) k d
