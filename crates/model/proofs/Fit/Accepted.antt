@@ -57,6 +57,7 @@ accepted-fit bytes e =
       someBody = f .section .someBody;
       bodies = omega (arith, f .bodies (omega arith));
       body = λ p h. rw (words, blocks) at (f .body p h);
+      commands = omega (arith, f .commands (omega arith));
       mostReleases = omega (arith, f .releases (omega arith));
       releases = record { task = λ i h. omega (arith, f .released .task i h); rising = f .released .rising; later = λ i h. omega arith };
     }

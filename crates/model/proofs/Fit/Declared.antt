@@ -13,7 +13,7 @@ use Rattle.model.specs.Fault.{Section, wordSection, blockSection, bodySe
 use Rattle.model.specs.Sheet.{Declared}
 use Rattle.model.proofs.Fit.Elements.{and-left, and-right, or-cases}
 use Rattle.model.proofs.Fit.Body.{Faultless}
-use Rattle.model.proofs.Fit.Sheet.{BodyFit, releaseAt, Rises, blockAt}
+use Rattle.model.proofs.Fit.Sheet.{BodyFit, releaseAt, Rises, blockAt, commandCount}
 
 -- a BLOCK has eight values
 abbrev pub EightValues : Command → Type 0
@@ -69,6 +69,7 @@ pub record DeclaredHere (k : Known) (d : Declared) : Type 0 where
   pub words : k .counts .words ≤ 32 → k .counts .words + length (d .sheet .words) ≤ 32
   pub blocks : k .counts .blocks ≤ 16 → k .counts .blocks + length (d .sheet .blocks) ≤ 16
   pub bodies : k .counts .tasks ≤ 8 → k .counts .tasks + length (d .sheet .bodies) ≤ 8
+  pub commands : k .counts .commands ≤ 512 → k .counts .commands + length (d .body) + commandCount (d .sheet .bodies) ≤ 512
   pub releases : k .counts .releases ≤ 256 → k .counts .releases + length (d .sheet .releases) ≤ 256
   pub block : (b : ℕ) → b < length (d .sheet .blocks) → BlockFit (blockAt (d .sheet .blocks) b)
   pub body : (p : ℕ) → p < length (d .sheet .bodies) → BodyFit (k .counts .words + length (d .sheet .words)) (k .counts .blocks + length (d .sheet .blocks)) (at [] (d .sheet .bodies) p)

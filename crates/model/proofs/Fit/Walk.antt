@@ -5,12 +5,12 @@ use mathlib.Core.Bool.{true, false, not, _&&_, _||_, true≢false}
 use mathlib.Core.List.{List, []}
 use mathlib.Core.Option.{none}
 use native.Mathlib.Omega.{arith}
-use lib.Dec.{eqb}
+use lib.Dec.{eqb, ltb}
 use lib.ListN.{length}
 use borrow.Author.Tests.{ltb-true, leb-true, eqb-true}
 use Rattle.model.specs.Lists.{at}
 use Rattle.model.specs.Command.{Release, Block, Command, WORD, BLOCK, TASK, RELEASE, END, LOAD, ADD, READ, PAIR, SWAP, BEGIN, access, COMMIT}
-use Rattle.model.specs.Fault.{Section, Body, Known, words?, blocks?, body?, releases?, mayEnd, outside, within, bodiesOver, before, none?, inPlace, underCeiling, inRange, rising, faultOf}
+use Rattle.model.specs.Fault.{Section, Body, Known, words?, blocks?, body?, releases?, mayEnd, outside, within, bodiesOver, before, none?, roomForBlock, inPlace, underCeiling, inRange, rising, faultOf}
 use Rattle.model.specs.Sheet.{Declared, declares, inOpenBody, declare, declared, after, inBody, end?}
 use Rattle.model.proofs.Fit.Elements.{and-left, and-right, or-cases, first-each}
 use Rattle.model.proofs.Fit.Body.{BodyCommand, Faultless, passedOf}
@@ -34,6 +34,7 @@ word-step k v d q f =
       words = λ h. omega (arith, f .words room);
       blocks = f .blocks;
       bodies = f .bodies;
+      commands = λ h. omega (arith, f .commands h);
       releases = f .releases;
       block = f .block;
       body = λ i h. rw same at (f .body i h);
@@ -53,6 +54,7 @@ block-step k b d q v f =
       words = f .words;
       blocks = λ h. omega (arith, f .blocks room);
       bodies = f .bodies;
+      commands = λ h. omega (arith, f .commands h);
       releases = f .releases;
       block = first-each noBlock BlockFit b (d .sheet .blocks) (record { version = leb-true (b .version) 16777215 (p .inRange); values = v }) (f .block);
       body = λ i h. rw same at (f .body i h);
@@ -64,14 +66,15 @@ block-step k b d q v f =
 
 -- BODIES
 -- a command of an open body, after which the body is b
-body-step : (k : Known) (c : Command) (b : Body) (d : Declared) → BodyCommand c → faultOf k c ≡ none → body? (k .section) ≡ true → after k c ≡ inBody k b → DeclaredHere (inBody k b) d → DeclaredHere k (inOpenBody c d)
-body-step k c b d bc q s e f =
+body-step : (k : Known) (c : Command) (b : Body) (d : Declared) → BodyCommand c → faultOf k c ≡ none → body? (k .section) ≡ true → ltb (k .counts .commands) 512 ≡ true → after k c ≡ inBody k b → DeclaredHere (inBody k b) d → DeclaredHere k (inOpenBody c d)
+body-step k c b d bc q s n e f =
     let here = in-body (k .section) s in
     let g = subst (λ (z : Section). InSection z (inBody k b) d) here (f .section) in
     record {
       words = f .words;
       blocks = f .blocks;
       bodies = f .bodies;
+      commands = λ h. omega (arith, f .commands (ltb-true (k .counts .commands) 512 n));
       releases = f .releases;
       block = f .block;
       body = f .body;
@@ -93,6 +96,7 @@ task-step k d q f =
       words = f .words;
       blocks = f .blocks;
       bodies = λ h. omega (arith, f .bodies room);
+      commands = λ h. omega (arith, f .commands h);
       releases = f .releases;
       block = f .block;
       body = first-each [] (λ (l : List Command). BodyFit (k .counts .words + length (d .sheet .words)) (k .counts .blocks + length (d .sheet .blocks)) l) (d .body) (d .sheet .bodies) (record { known = after k TASK; opened = record { section = refl; wordCount = omega arith; blockCount = omega arith }; start = refl; faultless = g .others }) (f .body);
@@ -132,6 +136,7 @@ release-step k r d q f =
       words = f .words;
       blocks = f .blocks;
       bodies = f .bodies;
+      commands = λ h. omega (arith, f .commands h);
       releases = λ h. omega (arith, f .releases room);
       block = f .block;
       body = f .body;
@@ -147,6 +152,7 @@ end-step k d q =
       words = λ h. omega arith;
       blocks = λ h. omega arith;
       bodies = λ h. omega arith;
+      commands = λ h. omega arith;
       releases = λ h. omega arith;
       block = λ i (h : i < 0). absurd (omega arith);
       body = λ i (h : i < 0). absurd (omega arith);
@@ -162,20 +168,20 @@ within-section : (k : Known) → within k ≡ true → body? (k .section) ≡ tr
 within-section k e = and-left (body? (k .section)) (k .body .inside) e
 
 step : (k : Known) (c : Command) (d : Declared) → end? c ≡ false → EightValues c → faultOf k c ≡ none → DeclaredHere (after k c) d → DeclaredHere k (declare c d)
-unfolding after declare inPlace
+unfolding after declare inPlace underCeiling
 step k (WORD v) d e w q f = word-step k v d q f
 step k (BLOCK b) d e w q f = block-step k b d q w f
 step k TASK d e w q f = task-step k d q f
 step k (RELEASE r) d e w q f = release-step k r d q f
 step k END d e w q f = absurd (true≢false e)
-step k (LOAD r v) d e w q f = body-step k (LOAD r v) _ d tt q (passedOf k (LOAD r v) q .inPlace) refl f
-step k (ADD r s) d e w q f = body-step k (ADD r s) _ d tt q (passedOf k (ADD r s) q .inPlace) refl f
-step k (READ r x) d e w q f = body-step k (READ r x) _ d tt q (outside-section k (passedOf k (READ r x) q .inPlace)) refl f
-step k (PAIR x o n) d e w q f = body-step k (PAIR x o n) _ d tt q (outside-section k (passedOf k (PAIR x o n) q .inPlace)) refl f
-step k (SWAP r) d e w q f = body-step k (SWAP r) _ d tt q (outside-section k (and-left (outside k) (not (none? (k .body .pairs))) (passedOf k (SWAP r) q .inPlace))) refl f
-step k BEGIN d e w q f = body-step k BEGIN _ d tt q (outside-section k (and-left (outside k) (none? (k .body .pairs)) (passedOf k BEGIN q .inPlace))) refl f
-step k (access a) d e w q f = body-step k (access a) _ d tt q (within-section k (passedOf k (access a) q .inPlace)) refl f
-step k COMMIT d e w q f = body-step k COMMIT _ d tt q (within-section k (passedOf k COMMIT q .inPlace)) refl f
+step k (LOAD r v) d e w q f = body-step k (LOAD r v) _ d tt q (passedOf k (LOAD r v) q .inPlace) (passedOf k (LOAD r v) q .underCeiling) refl f
+step k (ADD r s) d e w q f = body-step k (ADD r s) _ d tt q (passedOf k (ADD r s) q .inPlace) (passedOf k (ADD r s) q .underCeiling) refl f
+step k (READ r x) d e w q f = body-step k (READ r x) _ d tt q (outside-section k (passedOf k (READ r x) q .inPlace)) (passedOf k (READ r x) q .underCeiling) refl f
+step k (PAIR x o n) d e w q f = body-step k (PAIR x o n) _ d tt q (outside-section k (passedOf k (PAIR x o n) q .inPlace)) (and-left (ltb (k .counts .commands) 512) (ltb (length (k .body .pairs)) 8) (passedOf k (PAIR x o n) q .underCeiling)) refl f
+step k (SWAP r) d e w q f = body-step k (SWAP r) _ d tt q (outside-section k (and-left (outside k) (not (none? (k .body .pairs))) (passedOf k (SWAP r) q .inPlace))) (passedOf k (SWAP r) q .underCeiling) refl f
+step k BEGIN d e w q f = body-step k BEGIN _ d tt q (outside-section k (and-left (outside k) (none? (k .body .pairs)) (passedOf k BEGIN q .inPlace))) (passedOf k BEGIN q .underCeiling) refl f
+step k (access a) d e w q f = body-step k (access a) _ d tt q (within-section k (passedOf k (access a) q .inPlace)) (and-left (ltb (k .counts .commands) 512) (roomForBlock (k .body) a) (passedOf k (access a) q .underCeiling)) refl f
+step k COMMIT d e w q f = body-step k COMMIT _ d tt q (within-section k (passedOf k COMMIT q .inPlace)) (passedOf k COMMIT q .underCeiling) refl f
 
 pub walk : {P : Command → Type 0} → ((c : Command) → P c → EightValues c) → {k : Known} {l : List Command} → Good P k l → DeclaredHere k (declared l)
 unfolding declared
