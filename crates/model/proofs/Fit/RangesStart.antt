@@ -1,0 +1,2 @@
+-- The start is in range.
+use Prim.Native.Nat.{ℕ}
