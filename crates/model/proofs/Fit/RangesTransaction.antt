@@ -14,7 +14,7 @@ use Rattle.model.specs.Exchange.{Entry, entry, Exchange, Exchanged, goes
 use Rattle.model.specs.Job.{Touched, untouched, remembered, copied, Transaction, Inner, between, first, copying, again, committing, Phase, idle, plain, reading, exchanging, transacting, Task, Turn, turn, rest, done, doneBy, ended, inPhase}
 use Rattle.model.specs.Transaction.{bank, bankValue, versionOf, storeOf, blockOf, rememberedOf, touchedOf, fresh, touch, within, stays, goesOn, restarted, rejected, loaded, added, firstRead, copyBy, copyTick, accessTick, checkBy, againRead, nothing?, spent?, gather, takenBack, commitBy, committed, commandTick, transactionTick}
 use Rattle.model.specs.Machine.{answer, readBy, swapBy, plainTick, statement}
-use Rattle.model.proofs.Fit.Elements.{or-none, or-none-right, replace-all, append-all}
+use Rattle.model.proofs.Fit.Elements.{or-none, or-none-right, replace-all, first-every}
 use Rattle.model.proofs.Fit.Exchange.{entryOf, EntriesFit, StepFit, ExchangeFit}
 use Rattle.model.proofs.Fit.Transaction.{TransactionFit, CommittingFit}
 use Rattle.model.proofs.Fit.Machine.{PhaseFit, ExchangingFit}
@@ -43,11 +43,6 @@ remembered-range (remembered v) h = h
 remembered-range (copied v k) h = h
 
 -- WHAT COMMIT GATHERS AND TAKES BACK
-entry-first : {e : Entry} (es : List Entry) → EntryRange e → ((i : ℕ) → EntryRange (entryOf es i)) → (i : ℕ) → EntryRange (entryOf (e ∷ es) i)
-unfolding at
-entry-first es f g zero = f
-entry-first es f g (suc i) = g i
-
 -- a version below the last one may rise
 new-bank : (v s : ℕ) → Value v → s < 256 → eqb (versionOf v) 16777215 ≡ false → Value (bankValue (suc (versionOf v)) s)
 new-bank v s hv hs e = let d = eqb-false (versionOf v) 16777215 e in omega arith
@@ -60,9 +55,9 @@ module _ (copies : List ℕ) (hc : (k : ℕ) → at 0 copies k < 256) where
     where
       go : (t : Touched) → TouchedRange t → spent? (t ∷ ts) ≡ false → (spent? ts ≡ false → (i : ℕ) → EntryRange (entryOf (gather copies (suc b) ts) i)) → (i : ℕ) → EntryRange (entryOf (gather copies b (t ∷ ts)) i)
       go untouched r e on = on e
-      go (remembered v) r e on = entry-first (gather copies (suc b) ts) (record { old = r; new = r; init = no-entry .init }) (on e)
+      go (remembered v) r e on = first-every (entry 0 0 0) EntryRange (entry (bank b) v v) (gather copies (suc b) ts) (record { old = r; new = r; init = no-entry .init }) (on e)
       go (copied v k) r e on =
-          entry-first (gather copies (suc b) ts)
+          first-every (entry 0 0 0) EntryRange (entry (bank b) v (bankValue (suc (versionOf v)) (at 0 copies k))) (gather copies (suc b) ts)
           (record { old = r; new = new-bank v (at 0 copies k) r (hc k) (or-none (eqb (versionOf v) 16777215) (spent? ts) e); init = no-entry .init })
           (on (or-none-right (eqb (versionOf v) 16777215) (spent? ts) e))
 
