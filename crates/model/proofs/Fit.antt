@@ -23,3 +23,4 @@ pub mod RangesExchange
 pub mod RangesTransaction
 pub mod RangesStatement
 pub mod RangesStart
+pub mod RangesSheet

@@ -1,4 +1,4 @@
--- The numbers of an accepted sheet are in range if its bytes are, and so are those of every machine that its run reaches.
+-- The numbers of the machine at the start are in range if the sheet's are.
 use Prim.Native.Nat.{ℕ, zero, suc, _+_, _*_, _-_, _<_, _≤_}
 use mathlib.Core.Path.{_≡_, refl, sym, _∙_, ap, subst}
 use mathlib.Core.Bool.{Bool, true, false}
@@ -49,10 +49,10 @@ banks-range store [] h v c = no-word
 banks-range store (b ∷ bs) h v zero = let l = v 0 (omega arith) in fresh-word-range (bankValue (b .version) store) (omega arith)
 banks-range store (b ∷ bs) h v (suc c) = banks-range (suc store) bs (omega arith) (λ i k. v (suc i) (omega arith)) c
 
-abbrev Row-range : List ℕ → Type 0
-Row-range l = (n : ℕ) → Value (at 0 l n)
+abbrev pub RowRange : List ℕ → Type 0
+RowRange l = (n : ℕ) → Value (at 0 l n)
 
-none-range : Row-range []
+pub none-range : RowRange []
 unfolding at
 none-range n = omega arith
 
@@ -65,11 +65,11 @@ module _ {s : Sheet} (c : SheetFit s) (f : SheetRange s) where
             (filled-every (freshWord 0) WordRange 32 (freshWord 0) (map freshWord (s .words)) no-word no-word (λ w. subst WordRange (sym (at-map freshWord 0 (s .words) w)) (fresh-word-range _ (f .word w))))
             (filled-every (freshWord 0) WordRange 16 (freshWord 0) (banksFrom (4 * length (s .bodies)) (s .blocks)) no-word no-word (banks-range (4 * length (s .bodies)) (s .blocks) (omega (arith, c .bodies, c .blocks)) (c .version)));
         status = λ p. replicate-every 0 (λ (n : ℕ). n ≤ 2) 8 0 (omega arith) (omega arith) p;
-        save = replicate-every [] Row-range 8 (zeros 8) (zeros-range 8) none-range;
-        store = filled-every [] Row-range 48 (zeros 8) (replicate (4 * length (s .bodies)) (zeros 8) ++ map valuesOf (s .blocks)) (zeros-range 8) none-range
-            (append-every [] Row-range (replicate (4 * length (s .bodies)) (zeros 8)) (map valuesOf (s .blocks))
-            (replicate-every [] Row-range (4 * length (s .bodies)) (zeros 8) (zeros-range 8) none-range)
-            (λ b. subst Row-range (sym (at-map valuesOf noBlock (s .blocks) b)) (f .value b)));
+        save = replicate-every [] RowRange 8 (zeros 8) (zeros-range 8) none-range;
+        store = filled-every [] RowRange 48 (zeros 8) (replicate (4 * length (s .bodies)) (zeros 8) ++ map valuesOf (s .blocks)) (zeros-range 8) none-range
+            (append-every [] RowRange (replicate (4 * length (s .bodies)) (zeros 8)) (map valuesOf (s .blocks))
+            (replicate-every [] RowRange (4 * length (s .bodies)) (zeros 8) (zeros-range 8) none-range)
+            (λ b. subst RowRange (sym (at-map valuesOf noBlock (s .blocks) b)) (f .value b)));
       }
 
   copies-range : (p : ℕ) → p < 8 → (k : ℕ) → at 0 (copiesOf p) k < 256
