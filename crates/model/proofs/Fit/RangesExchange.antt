@@ -1,13 +1,12 @@
 -- Reads and exchanges keep the ranges.
-use Prim.Native.Nat.{ℕ, zero, suc, _+_, _*_, _/_, _%_, _<_, _≤_}
-use mathlib.Core.Path.{_≡_, refl, sym, _∙_, ap, subst}
-use mathlib.Core.Bool.{Bool, true, false, not, _&&_, _||_}
-use mathlib.Core.List.{List, [], _∷_, _++_}
+use Prim.Native.Nat.{ℕ, suc, _<_, _≤_}
+use mathlib.Core.Bool.{Bool, true, false, _&&_, _||_}
+use mathlib.Core.List.{List, []}
 use native.Mathlib.Omega.{arith}
 use lib.Dec.{eqb}
 use lib.ListN.{length}
 use Rattle.model.specs.Lists.{at, replace}
-use Rattle.model.specs.Word.{Word, fresh, sameWord, Memory, cellOf, statusOf, saved, own, setCell, setStatus, setSave, setStored, Reading, loading, looking, fetching, Read, reads, gives, lookBy, readTick}
+use Rattle.model.specs.Word.{Word, fresh, sameWord, Memory, cellOf, statusOf, own, setCell, setStatus, setSave, setStored, Reading, loading, looking, fetching, lookBy, readTick}
 use Rattle.model.specs.Exchange.{Entry, entry, Step, start, test, load, look, fetch, fail, mark, install, commit, save, clean, cleanMark, Exchange, Exchanged, goes, ends, entryAt, changing, installed, cleaned, to, loaded, noted, onward, testBy, afterSave, installBy, cleanBy, commitBy, nextBy, next, cleanWordBy, exchangeTick}
 use Rattle.model.specs.Exchange.{lookBy as lookAtBy}
 use Rattle.model.proofs.Fit.Elements.{replace-all}

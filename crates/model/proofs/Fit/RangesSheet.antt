@@ -1,21 +1,21 @@
 -- The numbers of an accepted sheet are in range if its bytes are, and so are those of every machine that its run reaches.
-use Prim.Native.Nat.{ℕ, zero, suc, _+_, _*_, _<_, _≤_}
-use mathlib.Core.Path.{_≡_, refl, sym, _∙_, ap, subst}
-use mathlib.Core.List.{List, [], _∷_}
+use Prim.Native.Nat.{ℕ, zero, suc, _+_, _<_}
+use mathlib.Core.Path.{_≡_, sym, subst}
+use mathlib.Core.List.{List, []}
 use native.Mathlib.Omega.{arith}
-use lib.ListN.{length, getD, replicate}
+use lib.ListN.{getD, replicate}
 use Rattle.model.specs.Lists.{at}
 use Rattle.model.specs.Command.{Release, Block, blockOf, Command, WORD, BLOCK, TASK, RELEASE, END, LOAD, ADD, READ, PAIR, SWAP, BEGIN, access, COMMIT, Row, table, operand, bigEndian}
 use Rattle.model.specs.Fault.{Known}
-use Rattle.model.specs.Sheet.{Sheet, Declared, declares, inOpenBody, declare, declared, accepted, verdict, commandsFrom, sheetOf}
-use Rattle.model.specs.Machine.{Machine, startMachine, run}
+use Rattle.model.specs.Sheet.{Declared, declares, inOpenBody, declare, declared, accepted, verdict, sheetOf}
+use Rattle.model.specs.Machine.{startMachine, run}
 use Rattle.model.proofs.Fit.Elements.{first-every}
-use Rattle.model.proofs.Fit.Sheet.{noRelease, releaseAt, noBlock, blockAt, SheetFit}
+use Rattle.model.proofs.Fit.Sheet.{noRelease, noBlock}
 use Rattle.model.proofs.Fit.Reading.{FoundAt, Good, ending, going, good}
 use Rattle.model.proofs.Fit.Accepted.{EachRow, row-each, accepted-fit}
-use Rattle.model.proofs.Fit.Tick.{Ran, ran, afterTicks}
+use Rattle.model.proofs.Fit.Tick.{ran, afterTicks}
 use Rattle.model.proofs.Fit.Start.{start-fit}
-use Rattle.model.proofs.Fit.Ranges.{Value, CommandRange, Ranged, CommandsRange, Ranges}
+use Rattle.model.proofs.Fit.Ranges.{Value, CommandRange, CommandsRange, Ranges}
 use Rattle.model.proofs.Fit.RangesStatement.{after-ticks-range}
 use Rattle.model.proofs.Fit.RangesStart.{SheetRange, none-range, start-range}
 

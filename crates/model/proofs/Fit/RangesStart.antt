@@ -1,29 +1,21 @@
 -- The numbers of the machine at the start are in range if the sheet's are.
 use Prim.Native.Nat.{ℕ, zero, suc, _+_, _*_, _-_, _<_, _≤_}
-use mathlib.Core.Path.{_≡_, refl, sym, _∙_, ap, subst}
-use mathlib.Core.Bool.{Bool, true, false}
+use mathlib.Core.Path.{sym, subst}
 use mathlib.Core.List.{List, [], _∷_, _++_, map}
 use native.Mathlib.Omega.{arith}
-use lib.ListN.{length, getD, replicate, length-append, length-replicate, length-map}
+use lib.ListN.{length, replicate}
 use Rattle.model.specs.Lists.{at}
-use Rattle.model.specs.Command.{Release, Block, Command, WORD, BLOCK, TASK, RELEASE, END, LOAD, ADD, READ, PAIR, SWAP, BEGIN, access, COMMIT, Row, table, operand, bigEndian}
-use Rattle.model.specs.Fault.{Known, nothingKnown}
-use Rattle.model.specs.Sheet.{Sheet, Declared, declares, inOpenBody, declare, declared, accepted, verdict, commandsFrom, sheetOf}
-use Rattle.model.specs.Word.{Word, Memory}
+use Rattle.model.specs.Command.{Block, Command}
+use Rattle.model.specs.Sheet.{Sheet}
 use Rattle.model.specs.Word.{fresh as freshWord}
-use Rattle.model.specs.Job.{idle, Task}
 use Rattle.model.specs.Transaction.{bankValue}
-use Rattle.model.specs.Machine.{Machine, noTask, taskAt, filled, zeros, copiesOf, banksFrom, valuesOf, tasksFrom, startMemory, startMachine, run}
+use Rattle.model.specs.Machine.{noTask, taskAt, filled, zeros, copiesOf, banksFrom, valuesOf, tasksFrom, startMemory, startMachine}
 use Rattle.model.proofs.Lists.{at-map}
-use Rattle.model.proofs.Fit.Elements.{first-every, append-every, replicate-every}
-use Rattle.model.proofs.Fit.Sheet.{noRelease, releaseAt, noBlock, blockAt, SheetFit}
-use Rattle.model.proofs.Fit.Reading.{FoundAt, Good, ending, going, good}
-use Rattle.model.proofs.Fit.Accepted.{EachRow, row-each, accepted-fit}
-use Rattle.model.proofs.Fit.Tick.{Ran, ran, afterTicks}
-use Rattle.model.proofs.Fit.Start.{start-fit}
-use Rattle.model.proofs.Fit.Ranges.{Value, WordRange, MemoryRange, CommandRange, Ranged, CommandsRange, TaskRange, Ranges}
+use Rattle.model.proofs.Fit.Elements.{append-every, replicate-every}
+use Rattle.model.proofs.Fit.Sheet.{releaseAt, noBlock, blockAt, SheetFit}
+use Rattle.model.proofs.Fit.Ranges.{Value, WordRange, MemoryRange, CommandsRange, TaskRange, Ranges}
 use Rattle.model.proofs.Fit.RangesTransaction.{no-entry-range}
-use Rattle.model.proofs.Fit.RangesStatement.{zeros-range, after-ticks-range}
+use Rattle.model.proofs.Fit.RangesStatement.{zeros-range}
 
 -- the numbers of a sheet
 pub record SheetRange (s : Sheet) : Type 0 where

@@ -1,6 +1,6 @@
 -- Statements and ticks keep the ranges.
-use Prim.Native.Nat.{ℕ, zero, suc, _+_, _<_, _≤_}
-use mathlib.Core.Path.{_≡_, refl, sym, _∙_, ap, subst}
+use Prim.Native.Nat.{ℕ, zero, suc, _<_}
+use mathlib.Core.Path.{refl}
 use mathlib.Core.Bool.{Bool, true, false}
 use mathlib.Core.List.{List, [], _∷_, _++_}
 use native.Mathlib.Omega.{arith}
@@ -11,17 +11,16 @@ use Rattle.model.specs.Command.{Release, Command, WORD, BLOCK, TASK, REL
 use Rattle.model.specs.Word.{Memory, loading, Read, reads, gives, readTick}
 use Rattle.model.specs.Sheet.{Sheet}
 use Rattle.model.specs.Exchange.{Entry, entry, Exchanged, goes, ends, exchangeOf, start, exchangeTick}
-use Rattle.model.specs.Job.{between, Phase, idle, plain, reading, exchanging, transacting, Task, Turn, turn, started, ticked}
+use Rattle.model.specs.Job.{between, Phase, idle, plain, reading, exchanging, transacting, Task, turn, started, ticked}
 use Rattle.model.specs.Transaction.{fresh, loaded, added}
-use Rattle.model.specs.Machine.{answer, readBy, swapBy, plainTick, statement, Machine, machine, noTask, taskAt, unfinished, Running, nobody, running, runningOf, releaseBy, arriveBy, arrive, afterTurn, move, moveAny, tick, over, runBy, run}
+use Rattle.model.specs.Machine.{answer, readBy, swapBy, plainTick, statement, Machine, machine, noTask, taskAt, unfinished, Running, nobody, running, runningOf, releaseBy, arriveBy, arrive, move, moveAny, tick}
 use Rattle.model.proofs.Fit.Elements.{replace-all, append-all, replicate-every}
 use Rattle.model.proofs.Fit.Sheet.{SheetFit}
-use Rattle.model.proofs.Fit.Exchange.{entryOf}
 use Rattle.model.proofs.Fit.Machine.{PhaseFit, TaskFit, Fit}
 use Rattle.model.proofs.Fit.Running.{RunningFit, running-fit}
 use Rattle.model.proofs.Fit.Tick.{tasks-of, arrive-fit, arrived-fit, declared, afterTicks, after-ticks-fit}
-use Rattle.model.proofs.Fit.Ranges.{Value, MemoryRange, ReadRange, EntryRange, CommandRange, Ranged, CommandsRange, PhaseRange, TaskRange, Ranges}
-use Rattle.model.proofs.Fit.RangesExchange.{read-range, GoesRange, ExchangedRange, exchange-range}
+use Rattle.model.proofs.Fit.Ranges.{Value, MemoryRange, ReadRange, EntryRange, CommandsRange, PhaseRange, TaskRange, Ranges}
+use Rattle.model.proofs.Fit.RangesExchange.{read-range, ExchangedRange, exchange-range}
 use Rattle.model.proofs.Fit.RangesTransaction.{TurnRange, no-entry, no-entry-range, done-range, in-phase-range, fresh-range, within-range, loaded-range, added-range, transaction-range}
 
 module _ {m : Memory} (g : MemoryRange m) {t : Task} (f : TaskRange t) where

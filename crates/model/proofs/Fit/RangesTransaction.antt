@@ -1,26 +1,24 @@
 -- Transactions keep the ranges.
-use Prim.Native.Nat.{ℕ, zero, suc, _+_, _*_, _/_, _%_, _<_, _≤_}
-use mathlib.Core.Path.{_≡_, refl, sym, _∙_, ap, subst}
-use mathlib.Core.Bool.{Bool, true, false, not, _&&_, _||_}
-use mathlib.Core.List.{List, [], _∷_, _++_}
+use Prim.Native.Nat.{ℕ, suc, _<_}
+use mathlib.Core.Path.{_≡_, refl, sym, subst}
+use mathlib.Core.Bool.{Bool, true, false}
+use mathlib.Core.List.{List, [], _∷_}
 use native.Mathlib.Omega.{arith}
 use lib.Dec.{eqb}
-use lib.ListN.{length, replicate}
+use lib.ListN.{length}
 use borrow.Author.Tests.{eqb-false}
 use Rattle.model.specs.Lists.{at, replace}
 use Rattle.model.specs.Command.{Access, GET, PUT, Command, WORD, BLOCK, TASK, RELEASE, END, LOAD, ADD, READ, PAIR, SWAP, BEGIN, access, COMMIT}
-use Rattle.model.specs.Word.{Memory, stored, Reading, loading, Read, reads, gives, readTick, setStored}
-use Rattle.model.specs.Exchange.{Entry, entry, Exchange, Exchanged, goes, ends, exchangeOf, start, exchangeTick}
-use Rattle.model.specs.Job.{Touched, untouched, remembered, copied, Transaction, Inner, between, first, copying, again, committing, Phase, idle, plain, reading, exchanging, transacting, Task, Turn, turn, rest, done, doneBy, ended, inPhase}
-use Rattle.model.specs.Transaction.{bank, bankValue, versionOf, storeOf, blockOf, rememberedOf, touchedOf, fresh, touch, within, stays, goesOn, restarted, rejected, loaded, added, firstRead, copyBy, copyTick, accessTick, checkBy, againRead, nothing?, spent?, gather, takenBack, commitBy, committed, commandTick, transactionTick}
-use Rattle.model.specs.Machine.{answer, readBy, swapBy, plainTick, statement}
+use Rattle.model.specs.Word.{Memory, stored, loading, Read, reads, gives, readTick, setStored}
+use Rattle.model.specs.Exchange.{Entry, entry, Exchanged, goes, ends, exchangeOf, exchangeTick}
+use Rattle.model.specs.Job.{Touched, untouched, remembered, copied, Transaction, Inner, between, first, copying, again, committing, Phase, reading, Task, Turn, turn, rest, done, doneBy, inPhase}
+use Rattle.model.specs.Transaction.{bank, bankValue, versionOf, storeOf, blockOf, rememberedOf, touchedOf, fresh, touch, within, stays, goesOn, restarted, loaded, added, firstRead, copyBy, copyTick, accessTick, checkBy, againRead, nothing?, spent?, gather, takenBack, commitBy, committed, commandTick, transactionTick}
 use Rattle.model.proofs.Fit.Elements.{or-none, or-none-right, replace-all, first-every}
-use Rattle.model.proofs.Fit.Exchange.{entryOf, EntriesFit, StepFit, ExchangeFit}
-use Rattle.model.proofs.Fit.Transaction.{TransactionFit, CommittingFit}
-use Rattle.model.proofs.Fit.Machine.{PhaseFit, ExchangingFit}
+use Rattle.model.proofs.Fit.Exchange.{entryOf}
+use Rattle.model.proofs.Fit.Transaction.{TransactionFit}
 use Rattle.model.proofs.Fit.Blocks.{at-none}
-use Rattle.model.proofs.Fit.Ranges.{Value, WordRange, MemoryRange, ReadingRange, ReadRange, EntryRange, StepRange, ExchangeRange, TouchedRange, CommandRange, Ranged, CommandsRange, AgainRange, InnerRange, TransactionRange, PhaseRange, TaskRange}
-use Rattle.model.proofs.Fit.RangesExchange.{stored-range, read-range, GoesRange, ExchangedRange, exchange-range}
+use Rattle.model.proofs.Fit.Ranges.{Value, MemoryRange, ReadRange, EntryRange, TouchedRange, CommandsRange, InnerRange, TransactionRange, PhaseRange, TaskRange}
+use Rattle.model.proofs.Fit.RangesExchange.{stored-range, read-range, ExchangedRange, exchange-range}
 
 pub record TurnRange (u : Turn) : Type 0 where
   pub memory : MemoryRange (u .memory)
