@@ -23,4 +23,3 @@ pub mod RangesExchange
 pub mod RangesTransaction
 pub mod RangesStatement
 pub mod RangesStart
-pub mod RangesSheet
