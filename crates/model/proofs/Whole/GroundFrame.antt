@@ -29,7 +29,7 @@ pub record UpholdsPast (below : ℕ → ℕ → Type 0) (H′ : History) (m n : 
   pub own : PastAct below H′ (n .cells) (n .status) (n .saves) (replace acts p v) p v
 
 module _ {below : ℕ → ℕ → Type 0} {m : Memory} {acts : List Act} {p : ℕ} {H H′ : History} (T : Passes below m acts p H H′) where
-  busy-not-free : {r : ℕ} → Busy acts r → actAt acts r ≢ free
+  pub busy-not-free : {r : ℕ} → Busy acts r → actAt acts r ≢ free
   busy-not-free B f = let z : _≡_ {A = ℕ} 0 1 = cc (B .act) in omega arith
 
   pub grounds-later : {r : ℕ} → Busy acts r → GroundsOf H r → GroundsOf H′ r
