@@ -18,3 +18,4 @@ pub mod GroundFrame
 pub mod GroundEarly
 pub mod GroundStatement
 pub mod GroundKept
+pub mod Grounded

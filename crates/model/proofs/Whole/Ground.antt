@@ -88,20 +88,27 @@ module _ (below : ℕ → ℕ → Type 0) (H : History) (cells : List Word) (sta
   PastAct (reading c s) = PastReading c s
   PastAct (exchanging x) = PastExchange x
 
-abbrev pub Past : (ℕ → ℕ → Type 0) → History → Memory → List Act → Type 0
-Past below H m acts = (r : ℕ) → PastAct below H (m .cells) (m .status) (m .saves) acts r (actAt acts r)
+-- N, for all tasks
+pub record Past (below : ℕ → ℕ → Type 0) (H : History) (m : Memory) (acts : List Act) : Type 0 where
+  pub knows : (r : ℕ) → PastAct below H (m .cells) (m .status) (m .saves) acts r (actAt acts r)
 
 -- WHAT IS ASKED OF A HISTORY
 pub record Busy (acts : List Act) (r : ℕ) : Type 0 where
   pub exchange : Exchange
   pub act : actAt acts r ≡ exchanging exchange
 
--- H before and H′ after a tick of p, the memory being m at its beginning. Of tasks that do nothing to cells nothing is asked.
-pub record Passes (below : ℕ → ℕ → Type 0) (m : Memory) (acts : List Act) (p : ℕ) (H H′ : History) : Type 0 where
-  pub now : (c : ℕ) → H′ .seen p c (currentOf m c)
+-- H before and H′ after a tick of p. Of tasks that do nothing to cells nothing is asked.
+pub record Passes (below : ℕ → ℕ → Type 0) (acts : List Act) (p : ℕ) (H H′ : History) : Type 0 where
   pub seen : (r c v : ℕ) → actAt acts r ≢ free → H .seen r c v → H′ .seen r c v
   pub hit : (r c : ℕ) → Busy acts r → H .hit r c → H′ .hit r c
   pub pairs : (r : ℕ) → Busy acts r → H′ .pairs r ≡ H .pairs r
   -- of two tasks in an operation the lower one began first: what hit p has hit it, and so has p's own exchange
   pub down : (r c : ℕ) → Busy acts r → Busy acts p → below r p → H .hit p c → H′ .hit r c
   pub mine : (r e : ℕ) → Busy acts r → Busy acts p → below r p → e < length (H .pairs p) → pairAt (H .pairs p) e .old ≢ pairAt (H .pairs p) e .new → H′ .hit r (pairAt (H .pairs p) e .cell)
+
+-- the memory being m at the beginning of the tick, p's operation sees it
+abbrev pub SeesNow : Memory → ℕ → History → Type 0
+SeesNow m p H′ = (c : ℕ) → H′ .seen p c (currentOf m c)
+
+pub past-at-first : {below : ℕ → ℕ → Type 0} {H : History} {m : Memory} (acts : List Act) → ((p : ℕ) → actAt acts p ≡ free) → Past below H m acts
+past-at-first acts f = record { knows = λ r. rw (f r) tt }

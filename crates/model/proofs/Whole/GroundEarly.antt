@@ -15,7 +15,7 @@ use Rattle.model.proofs.Whole.Early.{Follows}
 use Rattle.model.proofs.Whole.Ground.{History, GroundsOf, SamePairs, Replaces, CountsOn, there, replaced, was-hit, PastStep, PastExchange, PastAct, Past, Busy, Passes}
 use Rattle.model.proofs.Whole.GroundFrame.{HitBelow, UpholdsPast, grounds-later, pairs-later}
 
-module _ {below : ℕ → ℕ → Type 0} {m : Memory} {acts : List Act} {p : ℕ} {x : Exchange} (S : Situation below m acts p (exchanging x)) {H H′ : History} (T : Passes below m acts p H H′) (P : Past below H m acts) where
+module _ {below : ℕ → ℕ → Type 0} {m : Memory} {acts : List Act} {p : ℕ} {x : Exchange} (S : Situation below m acts p (exchanging x)) {H H′ : History} (T : Passes below acts p H H′) (P : Past below H m acts) where
   abbrev pub Outcome-past : Memory → Act → Type 0
   Outcome-past n v = UpholdsPast below H′ m n acts p (exchanging x) v
 
@@ -23,7 +23,7 @@ module _ {below : ℕ → ℕ → Type 0} {m : Memory} {acts : List Act} {p : �
   running = record { exchange = x; act = S .act }
 
   pub past : PastExchange below H (m .cells) (m .status) (m .saves) acts p x
-  past = subst (λ (v : Act). PastAct below H (m .cells) (m .status) (m .saves) acts p v) (S .act) (P p)
+  past = subst (λ (v : Act). PastAct below H (m .cells) (m .status) (m .saves) acts p v) (S .act) (P .knows p)
 
   pub past-step-as : (s : Step) → x .step ≡ s → PastStep (CountsOn below (H .hit p) (m .cells) acts p) (H .seen p) (H .hit p) (GroundsOf H p) (m .status) (m .saves) x s
   past-step-as s e = subst (λ (z : Step). PastStep (CountsOn below (H .hit p) (m .cells) acts p) (H .seen p) (H .hit p) (GroundsOf H p) (m .status) (m .saves) x z) e (past .at-step)

@@ -28,7 +28,7 @@ pub record UpholdsPast (below : ℕ → ℕ → Type 0) (H′ : History) (m n : 
   pub marked : (r : ℕ) → r ≢ p → (statusOf n r ≡ statusOf m r) ⊎ ((z : Exchange) → actAt acts r ≡ exchanging z → below r p → HitBelow (H′ .hit r) z)
   pub own : PastAct below H′ (n .cells) (n .status) (n .saves) (replace acts p v) p v
 
-module _ {below : ℕ → ℕ → Type 0} {m : Memory} {acts : List Act} {p : ℕ} {H H′ : History} (T : Passes below m acts p H H′) where
+module _ {below : ℕ → ℕ → Type 0} {acts : List Act} {p : ℕ} {H H′ : History} (T : Passes below acts p H H′) where
   pub busy-not-free : {r : ℕ} → Busy acts r → actAt acts r ≢ free
   busy-not-free B f = let z : _≡_ {A = ℕ} 0 1 = cc (B .act) in omega arith
 
@@ -45,7 +45,7 @@ module _ {below : ℕ → ℕ → Type 0} {m : Memory} {acts : List Act} {p : �
   pub seen-later : {r : ℕ} {c v : ℕ} → Busy acts r → H .seen r c v → H′ .seen r c v
   seen-later {r} {c} {v} B s = T .seen r c v (busy-not-free B) s
 
-module _ {below : ℕ → ℕ → Type 0} {m : Memory} {acts : List Act} {p : ℕ} {v₀ : Act} (S : Situation below m acts p v₀) {H H′ : History} (T : Passes below m acts p H H′) {n : Memory} {v : Act} (M : Moved below m n acts p v) (U : UpholdsPast below H′ m n acts p v₀ v) where
+module _ {below : ℕ → ℕ → Type 0} {m : Memory} {acts : List Act} {p : ℕ} {v₀ : Act} (S : Situation below m acts p v₀) {H H′ : History} (T : Passes below acts p H H′) {n : Memory} {v : Act} (M : Moved below m n acts p v) (U : UpholdsPast below H′ m n acts p v₀ v) where
   -- a task r below p
   module _ (r : ℕ) (b : below r p) (ne : r ≢ p) where
     counts-later : (c : ℕ) (w : Word) → Busy acts r → ((e : Entry) (i : ℕ) → w ≢ installed p e i) → CountsOn below (H .hit r) (m .cells) acts r c w → CountsOn below (H′ .hit r) (n .cells) (replace acts p v) r c w
@@ -115,11 +115,13 @@ module _ {below : ℕ → ℕ → Type 0} {m : Memory} {acts : List Act} {p : �
     lower-later (exchanging x) e k h = exchange-later x e k h
 
   pub past-after : Past below H m acts → Past below H′ n (replace acts p v)
-  past-after P r = same? r p
-      (λ k. rw (k, replace-same free acts p v (S .task)) (U .own))
-      (λ ne. rw (replace-other free acts p r v ne) (go ne (S .rank r)))
+  past-after P = record {
+    knows = λ r. same? r p
+        (λ k. rw (k, replace-same free acts p v (S .task)) (U .own))
+        (λ ne. rw (replace-other free acts p r v ne) (go r ne (S .rank r)));
+  }
     where
-      go : r ≢ p → Rank below acts p r → PastAct below H′ (n .cells) (n .status) (n .saves) (replace acts p v) r (actAt acts r)
-      go ne (itself e) = absurd (ne e)
-      go ne (idle i) = rw i tt
-      go ne (lower b) = lower-later r b ne (actAt acts r) refl (S .invariant .knows r) (P r)
+      go : (r : ℕ) → r ≢ p → Rank below acts p r → PastAct below H′ (n .cells) (n .status) (n .saves) (replace acts p v) r (actAt acts r)
+      go r ne (itself e) = absurd (ne e)
+      go r ne (idle i) = rw i tt
+      go r ne (lower b) = lower-later r b ne (actAt acts r) refl (S .invariant .knows r) (P .knows r)

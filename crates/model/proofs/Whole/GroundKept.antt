@@ -16,12 +16,12 @@ use Rattle.model.proofs.Whole.Words.{and-true, changes}
 use Rattle.model.proofs.Whole.Outcome.{Decides, commits, refuses, Cleans, renews, passes, gives-back, leaves, marks-after, Outcome, starts, tests-done, tests-on, loads, looks-own, looks-other, fetches, saves-differing, saves-to-mark, saves, fails, marks, installs, misses, decides, decides-last, cleans, cleans-last, cleans-to-mark}
 use Rattle.model.proofs.Whole.Early.{follows-to, mine, at-step-as}
 use Rattle.model.proofs.Whole.Clean.{decided-cells, clean-entry}
-use Rattle.model.proofs.Whole.Ground.{History, GroundsOf, Replaces, CountsOn, there, was-hit, Past, Busy, Passes}
+use Rattle.model.proofs.Whole.Ground.{History, GroundsOf, Replaces, CountsOn, there, was-hit, Past, Busy, Passes, SeesNow}
 use Rattle.model.proofs.Whole.GroundFrame.{HitBelow, UpholdsPast, grounds-later}
 use Rattle.model.proofs.Whole.GroundEarly.{Outcome-past, running, past, past-step-as, gone-hit, still-counts, follow-pairs, replaced-on, same-past, quiet-past}
 use Rattle.model.proofs.Whole.GroundStatement.{changing-hits, marked-hit, load-past, look-own-past, look-other-past, fetch-past, save-past, differing-grounds, fail-past, mark-past, counts-on, install-past, miss-past}
 
-module _ {below : ℕ → ℕ → Type 0} {m : Memory} {acts : List Act} {p : ℕ} {x : Exchange} (S : Situation below m acts p (exchanging x)) {H H′ : History} (T : Passes below m acts p H H′) (P : Past below H m acts) where
+module _ {below : ℕ → ℕ → Type 0} {m : Memory} {acts : List Act} {p : ℕ} {x : Exchange} (S : Situation below m acts p (exchanging x)) {H H′ : History} (T : Passes below acts p H H′) (P : Past below H m acts) where
   -- COMMIT
   decided-grounds : {n : Memory} {yes? : Bool} → x .step ≡ commit → Decides p m n yes? → yes? ≡ false → GroundsOf H′ p
   decided-grounds s (commits e) k = absurd (true≢false k)
@@ -164,26 +164,26 @@ module _ {below : ℕ → ℕ → Type 0} {m : Memory} {acts : List Act} {p : �
         grounds = λ e. grounds-later T (running S T P) (g .0 e);
       }
 
-  pub exchange-upholds-past : {o : Exchanged} → Room m p (x .entries) → Outcome p m x o → Outcome-past S T P (memoryAfter o) (actAfter o)
-  exchange-upholds-past R (starts s) = absurd (at-step-as S start s)
-  exchange-upholds-past R (tests-done s h) = quiet-past S T P (to x commit) (follows-to x commit) refl (rw s) (rw s) tt
-  exchange-upholds-past R (tests-on s ne one) = quiet-past S T P (to x load) (follows-to x load) refl (rw s) (rw s) tt
-  exchange-upholds-past R (loads s) = load-past S T P s
-  exchange-upholds-past R (looks-own s w) = look-own-past S T P s w
-  exchange-upholds-past R (looks-other s w) = look-other-past S T P s w
-  exchange-upholds-past R (fetches s) = fetch-past S T P s
-  exchange-upholds-past R (saves-differing v s ne) = save-past S T P v fail s refl (differing-grounds S T P v s ne)
-  exchange-upholds-past R (saves-to-mark v s d o c) = save-past S T P v mark s refl (counts-on S T P (m .cells) _ refl (past-step-as S T P (save v) s .0))
-  exchange-upholds-past R (saves v s d u) = save-past S T P v install s refl (counts-on S T P (m .cells) _ refl (past-step-as S T P (save v) s .0))
-  exchange-upholds-past R (fails s) = fail-past S T P s
-  exchange-upholds-past R (marks s) = mark-past S T P s
-  exchange-upholds-past R (installs s h) = install-past S T P R s h
-  exchange-upholds-past R (misses s h) = miss-past S T P s h
-  exchange-upholds-past R (decides s d ne) = decides-past s d
-  exchange-upholds-past R (decides-last s d z) = decides-last-past d z
-  exchange-upholds-past R (cleans j yes? c ne) = cleans-past j yes? (cleared j yes? R c)
-  exchange-upholds-past R (cleans-last j yes? c k) = cleans-last-past j yes? (cleared j yes? R c) k
-  exchange-upholds-past R (cleans-to-mark j yes? s e h o) = cleans-to-mark-past j yes? s h
+  pub exchange-upholds-past : {o : Exchanged} → SeesNow m p H′ → Room m p (x .entries) → Outcome p m x o → Outcome-past S T P (memoryAfter o) (actAfter o)
+  exchange-upholds-past now R (starts s) = absurd (at-step-as S start s)
+  exchange-upholds-past now R (tests-done s h) = quiet-past S T P (to x commit) (follows-to x commit) refl (rw s) (rw s) tt
+  exchange-upholds-past now R (tests-on s ne one) = quiet-past S T P (to x load) (follows-to x load) refl (rw s) (rw s) tt
+  exchange-upholds-past now R (loads s) = load-past S T P now s
+  exchange-upholds-past now R (looks-own s w) = look-own-past S T P s w
+  exchange-upholds-past now R (looks-other s w) = look-other-past S T P s w
+  exchange-upholds-past now R (fetches s) = fetch-past S T P s
+  exchange-upholds-past now R (saves-differing v s ne) = save-past S T P v fail s refl (differing-grounds S T P v s ne)
+  exchange-upholds-past now R (saves-to-mark v s d o c) = save-past S T P v mark s refl (counts-on S T P (m .cells) _ refl (past-step-as S T P (save v) s .0))
+  exchange-upholds-past now R (saves v s d u) = save-past S T P v install s refl (counts-on S T P (m .cells) _ refl (past-step-as S T P (save v) s .0))
+  exchange-upholds-past now R (fails s) = fail-past S T P s
+  exchange-upholds-past now R (marks s) = mark-past S T P s
+  exchange-upholds-past now R (installs s h) = install-past S T P R s h
+  exchange-upholds-past now R (misses s h) = miss-past S T P s h
+  exchange-upholds-past now R (decides s d ne) = decides-past s d
+  exchange-upholds-past now R (decides-last s d z) = decides-last-past d z
+  exchange-upholds-past now R (cleans j yes? c ne) = cleans-past j yes? (cleared j yes? R c)
+  exchange-upholds-past now R (cleans-last j yes? c k) = cleans-last-past j yes? (cleared j yes? R c) k
+  exchange-upholds-past now R (cleans-to-mark j yes? s e h o) = cleans-to-mark-past j yes? s h
 
   abbrev pub NoGrounds : Exchanged → Type 0
   NoGrounds (goes n y) = Unit {0}

@@ -16,11 +16,11 @@ use Rattle.model.proofs.Whole.Invariant.{Held, Loaded, Situation, Room}
 use Rattle.model.proofs.Whole.Words.{current-own, current-other}
 use Rattle.model.proofs.Whole.Frame.{below-clear}
 use Rattle.model.proofs.Whole.Early.{follows-to, follows-onward, follows-noted, noted-here, from-zero, mine, at-step-as, replaced-held}
-use Rattle.model.proofs.Whole.Ground.{History, differs, beaten, GroundsOf, SamePairs, CountsOn, there, replaced, was-hit, PastStep, PastExchange, Past, Busy, Passes}
+use Rattle.model.proofs.Whole.Ground.{History, differs, beaten, GroundsOf, SamePairs, CountsOn, there, replaced, was-hit, PastStep, PastExchange, Past, Busy, Passes, SeesNow}
 use Rattle.model.proofs.Whole.GroundFrame.{HitBelow, grounds-later, pairs-later, seen-later}
 use Rattle.model.proofs.Whole.GroundEarly.{Outcome-past, running, past, past-step-as, gone-hit, still-counts, follow-pairs, replaced-on, same-past, quiet-past}
 
-module _ {below : ℕ → ℕ → Type 0} {m : Memory} {acts : List Act} {p : ℕ} {x : Exchange} (S : Situation below m acts p (exchanging x)) {H H′ : History} (T : Passes below m acts p H H′) (P : Past below H m acts) where
+module _ {below : ℕ → ℕ → Type 0} {m : Memory} {acts : List Act} {p : ℕ} {x : Exchange} (S : Situation below m acts p (exchanging x)) {H H′ : History} (T : Passes below acts p H H′) (P : Past below H m acts) where
   -- p's pairs as the history has them
   pub known : SamePairs (H′ .pairs p) (x .entries)
   known = pairs-later T (running S T P) (past S T P .pairs)
@@ -51,11 +51,11 @@ module _ {below : ℕ → ℕ → Type 0} {m : Memory} {acts : List Act} {p : �
   pub counts-on : (cells : List Word) (v : Act) → cells ≡ m .cells → {c : ℕ} {w : Word} → CountsOn below (H .hit p) (m .cells) acts p c w → CountsOn below (H′ .hit p) cells (replace acts p v) p c w
   counts-on cells v ec k = still-counts S T P cells v (λ h. rw ec h) k
 
-  pub load-past : x .step ≡ load → Outcome-past S T P m (exchanging (noted x (cellOf m (here x .cell)) false look))
-  load-past s =
+  pub load-past : SeesNow m p H′ → x .step ≡ load → Outcome-past S T P m (exchanging (noted x (cellOf m (here x .cell)) false look))
+  load-past now s =
       let l = inside load s refl in
       quiet-past S T P (noted x (cellOf m (here x .cell)) false look) (follows-noted x _ false look l) refl (rw s) (rw s)
-      (rw (noted-here x (cellOf m (here x .cell)) false look l) (there refl, T .now (here x .cell)))
+      (rw (noted-here x (cellOf m (here x .cell)) false look l) (there refl, now (here x .cell)))
 
   pub look-own-past : x .step ≡ look → own (m .status) (here x .init) ≡ true → Outcome-past S T P m (exchanging (noted x (here x .init) false (save (here x .init .value))))
   look-own-past s w =
