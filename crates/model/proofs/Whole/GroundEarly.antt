@@ -6,13 +6,14 @@ use mathlib.Core.Logic.{_≢_, _⊎_, inl, inr}
 use mathlib.Core.List.{List}
 use Rattle.model.specs.Lists.{at, replace}
 use Rattle.model.specs.Word.{Word, fresh, Memory, cellOf, statusOf}
-use Rattle.model.specs.Exchange.{Step, Exchange, entryAt}
+use Rattle.model.specs.Exchange.{Step, Exchange}
 use Rattle.model.proofs.Lists.{replace-same}
 use Rattle.model.proofs.Whole.Act.{Act, free, exchanging, actAt, stage, undecided, uncleaned}
 use Rattle.model.proofs.Whole.Invariant.{Situation}
 use Rattle.model.proofs.Whole.Frame.{nobody-above}
 use Rattle.model.proofs.Whole.Early.{Follows}
-use Rattle.model.proofs.Whole.Ground.{History, GroundsOf, SamePairs, Replaces, CountsOn, there, replaced, was-hit, PastStep, PastExchange, PastAct, Past, Busy, Passes}
+use Rattle.model.proofs.Fit.Exchange.{SamePairs}
+use Rattle.model.proofs.Whole.Ground.{History, GroundsOf, Replaces, CountsOn, there, replaced, was-hit, PastStep, PastExchange, PastAct, Past, Busy, Passes}
 use Rattle.model.proofs.Whole.GroundFrame.{HitBelow, UpholdsPast, grounds-later, pairs-later}
 
 module _ {below : ℕ → ℕ → Type 0} {m : Memory} {acts : List Act} {p : ℕ} {x : Exchange} (S : Situation below m acts p (exchanging x)) {H H′ : History} (T : Passes below acts p H H′) (P : Past below H m acts) where
@@ -48,7 +49,7 @@ module _ {below : ℕ → ℕ → Type 0} {m : Memory} {acts : List Act} {p : �
       go (inl h) = there (f h)
       go (inr h) = was-hit (T .hit p c running h)
 
-  pub follow-pairs : {x′ : Exchange} → Follows x x′ → SamePairs (H′ .pairs p) (x′ .entries)
+  pub follow-pairs : {x′ : Exchange} → Follows x x′ → SamePairs (x′ .entries) (H′ .pairs p)
   follow-pairs f =
       let Q = pairs-later T running (past .pairs) in
       record { size = f .size ∙ Q .size; cell = λ e. f .cell e ∙ Q .cell e; old = λ e. f .old e ∙ Q .old e; new = λ e. f .new e ∙ Q .new e }

@@ -1,19 +1,19 @@
 -- N carried over a statement of the running task, for all tasks at once.
-use Prim.Native.Nat.{ℕ, zero, suc, _<_, _≤_}
-use mathlib.Core.Bool.{Bool, true, false, true≢false}
-use mathlib.Core.Path.{_≡_, refl, sym, _∙_, ap, subst}
+use Prim.Native.Nat.{ℕ, _<_}
+use mathlib.Core.Bool.{true, true≢false}
+use mathlib.Core.Path.{_≡_, refl, sym, _∙_, ap}
 use mathlib.Core.Logic.{_≢_, _⊎_, inl, inr}
 use mathlib.Core.List.{List}
 use native.Mathlib.Omega.{arith}
-use lib.ListN.{length}
 use Rattle.model.specs.Lists.{at, replace}
-use Rattle.model.specs.Word.{Word, fresh, Memory, cellOf, statusOf, current, currentOf, Reading, loading, looking, fetching}
+use Rattle.model.specs.Word.{Word, Memory, cellOf, statusOf, current, loading, looking, fetching}
 use Rattle.model.specs.Exchange.{Entry, Step, start, test, load, look, fetch, fail, mark, install, commit, save, clean, cleanMark, Exchange, entryAt, installed}
 use Rattle.model.proofs.Lists.{replace-same, replace-other, same?}
-use Rattle.model.proofs.Whole.Act.{Act, free, reading, exchanging, actAt, Quiet, stage, undecided, here}
-use Rattle.model.proofs.Whole.Invariant.{WellFormed, valid, held, AtStep, InExchange, InReading, Knows, Rank, itself, idle, lower, Situation}
-use Rattle.model.proofs.Whole.Frame.{Frame, current-frame, lower-clear, Moved}
-use Rattle.model.proofs.Whole.Ground.{pairAt, History, Grounds, differs, beaten, GroundsOf, SamePairs, Replaces, ReplacedBy, CountsOn, there, replaced, was-hit, PastStep, PastExchange, PastReading, PastAct, Past, Busy, Passes}
+use Rattle.model.proofs.Whole.Act.{Act, free, reading, exchanging, actAt, stage, undecided}
+use Rattle.model.proofs.Whole.Invariant.{WellFormed, valid, held, AtStep, InExchange, Knows, Rank, itself, idle, lower, Situation}
+use Rattle.model.proofs.Whole.Frame.{current-frame, lower-clear, Moved}
+use Rattle.model.proofs.Fit.Exchange.{SamePairs}
+use Rattle.model.proofs.Whole.Ground.{History, Grounds, differs, beaten, GroundsOf, ReplacedBy, CountsOn, there, replaced, was-hit, PastStep, PastExchange, PastAct, Past, Busy, Passes}
 
 -- one of the cells that the exchange has come to was hit
 pub record HitBelow (hit : ℕ → Type 0) (z : Exchange) : Type 0 where
@@ -39,7 +39,7 @@ module _ {below : ℕ → ℕ → Type 0} {acts : List Act} {p : ℕ} {H H′ : 
       go (differs e v l s ne) = differs e v l (T .seen r _ v (busy-not-free B) s) ne
       go (beaten e l h) = beaten e l (T .hit r _ B h)
 
-  pub pairs-later : {r : ℕ} {fs : List Entry} → Busy acts r → SamePairs (H .pairs r) fs → SamePairs (H′ .pairs r) fs
+  pub pairs-later : {r : ℕ} {fs : List Entry} → Busy acts r → SamePairs fs (H .pairs r) → SamePairs fs (H′ .pairs r)
   pairs-later {r} B P = rw (T .pairs r B) P
 
   pub seen-later : {r : ℕ} {c v : ℕ} → Busy acts r → H .seen r c v → H′ .seen r c v

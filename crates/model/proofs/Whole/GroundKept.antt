@@ -1,23 +1,23 @@
 -- Commit and Clean uphold N; with that every statement keeps it: `exchange-past`, `start-past`, `quiet-past-kept`. A no has its grounds: `no-grounds`.
-use Prim.Native.Nat.{ℕ, zero, suc, _<_, _≤_}
-use mathlib.Core.Bool.{Bool, true, false, _&&_, true≢false}
-use mathlib.Core.Path.{_≡_, refl, sym, _∙_, ap, subst}
+use Prim.Native.Nat.{ℕ, suc, _<_, _≤_}
+use mathlib.Core.Bool.{Bool, false, true≢false}
+use mathlib.Core.Path.{_≡_, refl, sym, _∙_, ap}
 use mathlib.Core.Logic.{_≢_, _⊎_, inl, inr}
 use mathlib.Core.List.{List}
 use native.Mathlib.Omega.{arith}
 use lib.ListN.{length}
-use Rattle.model.specs.Lists.{at, replace}
-use Rattle.model.specs.Word.{Word, fresh, Memory, cellOf, statusOf, setCell, setStatus}
-use Rattle.model.specs.Exchange.{Entry, Step, start, test, load, install, commit, mark, fail, save, clean, cleanMark, Exchange, Exchanged, goes, ends, entryAt, changing, installed, to}
+use Rattle.model.specs.Lists.{at}
+use Rattle.model.specs.Word.{Word, fresh, Memory, cellOf, statusOf, setCell}
+use Rattle.model.specs.Exchange.{Entry, start, load, install, commit, mark, fail, save, clean, cleanMark, Exchange, Exchanged, goes, ends, entryAt, installed, to}
 use Rattle.model.proofs.Lists.{replace-same, replace-other, same?}
-use Rattle.model.proofs.Whole.Act.{Act, free, exchanging, actAt, actAfter, memoryAfter, stage, undecided, uncleaned}
-use Rattle.model.proofs.Whole.Invariant.{Settled, Situation, Room}
+use Rattle.model.proofs.Whole.Act.{Act, free, exchanging, actAt, actAfter, memoryAfter, stage, uncleaned}
+use Rattle.model.proofs.Whole.Invariant.{Situation, Room}
 use Rattle.model.proofs.Whole.Words.{and-true, changes}
 use Rattle.model.proofs.Whole.Outcome.{Decides, commits, refuses, Cleans, renews, passes, gives-back, leaves, marks-after, Outcome, starts, tests-done, tests-on, loads, looks-own, looks-other, fetches, saves-differing, saves-to-mark, saves, fails, marks, installs, misses, decides, decides-last, cleans, cleans-last, cleans-to-mark}
 use Rattle.model.proofs.Whole.Early.{follows-to, mine, at-step-as}
 use Rattle.model.proofs.Whole.Clean.{decided-cells, clean-entry}
 use Rattle.model.proofs.Whole.Ground.{History, GroundsOf, Replaces, CountsOn, there, was-hit, Past, Busy, Passes, SeesNow}
-use Rattle.model.proofs.Whole.GroundFrame.{HitBelow, UpholdsPast, grounds-later}
+use Rattle.model.proofs.Whole.GroundFrame.{HitBelow, grounds-later}
 use Rattle.model.proofs.Whole.GroundEarly.{Outcome-past, running, past, past-step-as, gone-hit, still-counts, follow-pairs, replaced-on, same-past, quiet-past}
 use Rattle.model.proofs.Whole.GroundStatement.{changing-hits, marked-hit, load-past, look-own-past, look-other-past, fetch-past, save-past, differing-grounds, fail-past, mark-past, counts-on, install-past, miss-past}
 
@@ -167,7 +167,7 @@ module _ {below : ℕ → ℕ → Type 0} {m : Memory} {acts : List Act} {p : �
   pub exchange-upholds-past : {o : Exchanged} → SeesNow m p H′ → Room m p (x .entries) → Outcome p m x o → Outcome-past S T P (memoryAfter o) (actAfter o)
   exchange-upholds-past now R (starts s) = absurd (at-step-as S start s)
   exchange-upholds-past now R (tests-done s h) = quiet-past S T P (to x commit) (follows-to x commit) refl (rw s) (rw s) tt
-  exchange-upholds-past now R (tests-on s ne one) = quiet-past S T P (to x load) (follows-to x load) refl (rw s) (rw s) tt
+  exchange-upholds-past now R (tests-on s h) = quiet-past S T P (to x load) (follows-to x load) refl (rw s) (rw s) tt
   exchange-upholds-past now R (loads s) = load-past S T P now s
   exchange-upholds-past now R (looks-own s w) = look-own-past S T P s w
   exchange-upholds-past now R (looks-other s w) = look-other-past S T P s w
@@ -192,7 +192,7 @@ module _ {below : ℕ → ℕ → Type 0} {m : Memory} {acts : List Act} {p : �
   pub no-grounds : {o : Exchanged} → Room m p (x .entries) → Outcome p m x o → NoGrounds o
   no-grounds R (starts s) = tt
   no-grounds R (tests-done s h) = tt
-  no-grounds R (tests-on s ne one) = tt
+  no-grounds R (tests-on s h) = tt
   no-grounds R (loads s) = tt
   no-grounds R (looks-own s w) = tt
   no-grounds R (looks-other s w) = tt

@@ -1,5 +1,5 @@
 -- Load, Look, Fetch, Save, Fail, Mark and Install uphold N.
-use Prim.Native.Nat.{ℕ, zero, suc, _<_, _≤_}
+use Prim.Native.Nat.{ℕ, suc, _<_}
 use mathlib.Core.Bool.{true, false}
 use mathlib.Core.Path.{_≡_, refl, sym, _∙_, ap}
 use mathlib.Core.Logic.{_≢_, _⊎_, inl, inr}
@@ -12,17 +12,18 @@ use Rattle.model.specs.Word.{Word, fresh, Memory, cellOf, statusOf, save
 use Rattle.model.specs.Exchange.{Entry, Step, test, load, look, fetch, fail, mark, install, save, Exchange, entryAt, installed, to, noted, onward}
 use Rattle.model.proofs.Lists.{replace-same, replace-other, same?}
 use Rattle.model.proofs.Whole.Act.{Act, free, exchanging, actAt, working, stageOf, uncleaned, here}
-use Rattle.model.proofs.Whole.Invariant.{Held, Loaded, Situation, Room}
+use Rattle.model.proofs.Whole.Invariant.{Loaded, Situation, Room}
 use Rattle.model.proofs.Whole.Words.{current-own, current-other}
 use Rattle.model.proofs.Whole.Frame.{below-clear}
 use Rattle.model.proofs.Whole.Early.{follows-to, follows-onward, follows-noted, noted-here, from-zero, mine, at-step-as, replaced-held}
-use Rattle.model.proofs.Whole.Ground.{History, differs, beaten, GroundsOf, SamePairs, CountsOn, there, replaced, was-hit, PastStep, PastExchange, Past, Busy, Passes, SeesNow}
+use Rattle.model.proofs.Fit.Exchange.{SamePairs}
+use Rattle.model.proofs.Whole.Ground.{History, differs, beaten, GroundsOf, CountsOn, there, replaced, was-hit, PastStep, PastExchange, Past, Busy, Passes, SeesNow}
 use Rattle.model.proofs.Whole.GroundFrame.{HitBelow, grounds-later, pairs-later, seen-later}
 use Rattle.model.proofs.Whole.GroundEarly.{Outcome-past, running, past, past-step-as, gone-hit, still-counts, follow-pairs, replaced-on, same-past, quiet-past}
 
 module _ {below : ℕ → ℕ → Type 0} {m : Memory} {acts : List Act} {p : ℕ} {x : Exchange} (S : Situation below m acts p (exchanging x)) {H H′ : History} (T : Passes below acts p H H′) (P : Past below H m acts) where
   -- p's pairs as the history has them
-  pub known : SamePairs (H′ .pairs p) (x .entries)
+  pub known : SamePairs (x .entries) (H′ .pairs p)
   known = pairs-later T (running S T P) (past S T P .pairs)
 
   pub hit-grounds : (e : ℕ) → e < length (x .entries) → H .hit p (entryAt x e .cell) → GroundsOf H′ p

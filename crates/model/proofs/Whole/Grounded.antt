@@ -1,23 +1,23 @@
 -- The theorem of N: every statement of the running task keeps it, what a reading gives was seen, and a no has its grounds.
-use Prim.Native.Nat.{ℕ, zero, suc, _<_, _≤_}
+use Prim.Native.Nat.{ℕ, _<_}
 use mathlib.Core.Bool.{Bool, true, false}
-use mathlib.Core.Path.{_≡_, refl, sym, _∙_, ap, subst}
-use mathlib.Core.Logic.{_≢_, _⊎_, inl, inr}
+use mathlib.Core.Path.{_≡_, refl, sym, subst}
+use mathlib.Core.Logic.{_≢_, inl}
 use mathlib.Core.List.{List}
 use native.Mathlib.Omega.{arith}
-use lib.ListN.{length}
 use Rattle.model.specs.Lists.{at, replace}
-use Rattle.model.specs.Word.{Word, Memory, memory, cellOf, statusOf, setStatus, saved, own, current, currentOf, Reading, loading, looking, fetching, Read, reads, gives, lookBy, readTick}
-use Rattle.model.specs.Exchange.{Entry, Step, start, test, Exchange, Exchanged, goes, ends, exchangeTick}
+use Rattle.model.specs.Word.{Word, Memory, cellOf, statusOf, setStatus, saved, own, Reading, loading, looking, fetching, gives, lookBy, readTick}
+use Rattle.model.specs.Exchange.{Entry, Step, start, test, Exchange, Exchanged, ends, exchangeTick}
 use Rattle.model.proofs.Lists.{replace-same, replace-other}
-use Rattle.model.proofs.Whole.Act.{Act, free, reading, exchanging, actAt, actBy, actOf, started?, actAfter, memoryAfter, Quiet, Distinct}
+use Rattle.model.proofs.Whole.Act.{Act, free, reading, exchanging, actBy, actOf, started?, actAfter, memoryAfter, Quiet, Distinct}
 use Rattle.model.proofs.Whole.Invariant.{WellFormed, Knows, Situation, Room}
 use Rattle.model.proofs.Whole.Words.{current-own, current-other}
 use Rattle.model.proofs.Whole.Outcome.{outcome}
-use Rattle.model.proofs.Whole.Frame.{Frame, frame-none, Moved}
+use Rattle.model.proofs.Whole.Frame.{frame-none, Moved}
 use Rattle.model.proofs.Whole.Kept.{quiet-moved, start-moved, read-loaded, actRead, reading-moved, exchange-moved}
-use Rattle.model.proofs.Whole.Ground.{History, Grounds, GroundsOf, SamePairs, ReplacedBy, CountsOn, there, PastAct, Past, Busy, Passes, SeesNow}
-use Rattle.model.proofs.Whole.GroundFrame.{HitBelow, UpholdsPast, past-after}
+use Rattle.model.proofs.Fit.Exchange.{SamePairs}
+use Rattle.model.proofs.Whole.Ground.{History, GroundsOf, ReplacedBy, there, PastAct, Past, Passes, SeesNow}
+use Rattle.model.proofs.Whole.GroundFrame.{past-after}
 use Rattle.model.proofs.Whole.GroundKept.{exchange-upholds-past, no-grounds, NoGrounds}
 
 -- A TASK IN NO EXCHANGE
@@ -38,7 +38,7 @@ module _ {below : ℕ → ℕ → Type 0} {m : Memory} {acts : List Act} {p : �
   pub load-past : SeesNow m p H′ → (c : ℕ) → Past below H′ m (replace acts p (reading c (looking (cellOf m c))))
   load-past now c = quiet-past (reading c (looking (cellOf m c))) (read-loaded S q c) refl (λ r ne. refl) (now c)
 
-  pub start-past : (es : List Entry) → Distinct es → SamePairs (H′ .pairs p) es → Past below H′ (setStatus m p 0) (replace acts p (exchanging (record { entries = es; i = 0; step = test })))
+  pub start-past : (es : List Entry) → Distinct es → SamePairs es (H′ .pairs p) → Past below H′ (setStatus m p 0) (replace acts p (exchanging (record { entries = es; i = 0; step = test })))
   start-past es d Q =
       quiet-past (exchanging (record { entries = es; i = 0; step = test })) (start-moved S q es d) refl (λ r ne. replace-other 0 (m .status) p r 0 ne)
       (record {
@@ -92,14 +92,14 @@ module _ {below : ℕ → ℕ → Type 0} {m : Memory} {acts : List Act} {p : �
 
 -- EXCHANGES
 module _ {below : ℕ → ℕ → Type 0} {m : Memory} {acts : List Act} {p : ℕ} {H H′ : History} (T : Passes below acts p H H′) (now : SeesNow m p H′) (P : Past below H m acts) where
-  pub exchange-past : (x : Exchange) → Situation below m acts p (actOf x) → Room m p (x .entries) → (x .step ≡ start → Distinct (x .entries) × SamePairs (H′ .pairs p) (x .entries))
+  pub exchange-past : (x : Exchange) → Situation below m acts p (actOf x) → Room m p (x .entries) → (x .step ≡ start → Distinct (x .entries) × SamePairs (x .entries) (H′ .pairs p))
       → Past below H′ (memoryAfter (exchangeTick p m x (x .step))) (replace acts p (actAfter (exchangeTick p m x (x .step))))
   unfolding exchangeTick
   exchange-past x S R d = started? x
       (λ s. subst (λ (z : Step). Past below H′ (memoryAfter (exchangeTick p m x z)) (replace acts p (actAfter (exchangeTick p m x z)))) (sym s) (at-start (subst (λ (z : Step). Situation below m acts p (actBy z x)) s S) (d s)))
       (λ k. let S′ : Situation below m acts p (exchanging x) = rw k at S in past-after S′ T (exchange-moved S′ R (outcome p m x)) (exchange-upholds-past S′ T P now R (outcome p m x)) P)
     where
-      at-start : Situation below m acts p free → Distinct (x .entries) × SamePairs (H′ .pairs p) (x .entries) → Past below H′ (memoryAfter (exchangeTick p m x start)) (replace acts p (actAfter (exchangeTick p m x start)))
+      at-start : Situation below m acts p free → Distinct (x .entries) × SamePairs (x .entries) (H′ .pairs p) → Past below H′ (memoryAfter (exchangeTick p m x start)) (replace acts p (actAfter (exchangeTick p m x start)))
       at-start S d = start-past S tt T P (x .entries) (d .0) (d .1)
 
   -- an exchange that answers no has its grounds
