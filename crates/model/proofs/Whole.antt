@@ -19,3 +19,4 @@ pub mod GroundEarly
 pub mod GroundStatement
 pub mod GroundKept
 pub mod Grounded
+pub mod Reorder
