@@ -10,3 +10,5 @@ pub mod Gather
 pub mod Commit
 pub mod Owners
 pub mod Pass
+pub mod Exchange
+pub mod Committing
