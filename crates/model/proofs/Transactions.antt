@@ -12,3 +12,4 @@ pub mod Owners
 pub mod Pass
 pub mod Exchange
 pub mod Committing
+pub mod Statement
