@@ -13,3 +13,4 @@ pub mod Pass
 pub mod Exchange
 pub mod Committing
 pub mod Statement
+pub mod Machine

@@ -126,7 +126,7 @@ module _ {words blocks p : ℕ} {m : Memory} {t : Task} {o : Operation} (S : Tas
       let T = pass-turned p now s out (record { most = S .fewBlocks; memory = S .memory; apart = S .apart own; phase = e; fit = F; arguments = K .arguments; pass = K .pass ny }) in
       record { facts = T .facts; effect = quiet (λ b. T .cells (bank b)) (T .slots ∙ sym own); stores = λ i ne. T .stores i (rw own at ne) }
 
-  phase-stated : (f : Phase) → t .phase ≡ f → JobFit words blocks (statement p m t f .task) → Cells p m f (statement p m t f .memory) → Stated blocks p m t o (statement p m t f) (operationAfter p (eventOf now p m t f) o)
+  pub phase-stated : (f : Phase) → t .phase ≡ f → JobFit words blocks (statement p m t f .task) → Cells p m f (statement p m t f .memory) → Stated blocks p m t o (statement p m t f) (operationAfter p (eventOf now p m t f) o)
   unfolding statement eventOf
   phase-stated idle e G c = idle-stated (rw e) (rw e tt)
   phase-stated plain e G c = command-stated (rw e) (t .commands) e c
