@@ -14,3 +14,4 @@ pub mod Exchange
 pub mod Committing
 pub mod Statement
 pub mod Machine
+pub mod Replay

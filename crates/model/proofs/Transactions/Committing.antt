@@ -29,23 +29,26 @@ use Rattle.model.proofs.Transactions.Commit.{committed as committed-cel
 use Rattle.model.proofs.Transactions.Pass.{operationAfter, done-facts, done-slots}
 use Rattle.model.proofs.Transactions.Exchange.{NotYes, Seen, goes-on, says-yes, says-yes-last, over, seen}
 
--- The statement of task p is the Commit that says yes for its transaction: n is the memory it leaves, o its operation.
-pub record CommitsNow (blocks p : ℕ) (m : Memory) (t : Task) (o : Operation) (n : Memory) : Type 0 where
+-- the statement of task p is the Commit that says yes for its transaction
+pub record TransactionYes (p : ℕ) (m : Memory) (t : Task) : Type 0 where
   pub transaction : Transaction
   pub exchange : Exchange
   pub phase : t .phase ≡ transacting transaction (committing exchange)
   pub step : exchange .step ≡ commit
   pub status : statusOf m p ≡ 0
-  pub arguments : o .arguments ≡ transactionOf (transaction .kept) (untilCommit (transaction .commands))
-  pub pass : PassFacts blocks m (t .copies) (t .registers) (t .commands) transaction (committing exchange) (o .answers)
+
+-- what is known there: the pass has no command left, o is its operation, and n is the memory that the statement leaves
+pub record CommitsNow (blocks p : ℕ) (m : Memory) (t : Task) (o : Operation) (n : Memory) (y : TransactionYes p m t) : Type 0 where
+  pub arguments : o .arguments ≡ transactionOf (y .transaction .kept) (untilCommit (y .transaction .commands))
+  pub pass : PassFacts blocks m (t .copies) (t .registers) (t .commands) (y .transaction) (committing (y .exchange)) (o .answers)
   pub left : untilCommit (t .commands) ≡ []
-  pub blocksFit : Blocks blocks (transaction .used) (transaction .blocks)
-  pub cells : Committed m n (t .copies) (transaction .blocks)
+  pub blocksFit : Blocks blocks (y .transaction .used) (y .transaction .blocks)
+  pub cells : Committed m n (t .copies) (y .transaction .blocks)
 
 -- what a statement does to blocks and copy slots: nothing, or it commits a transaction
 pub data Effect (blocks p : ℕ) (m : Memory) (t : Task) (o : Operation) (n : Memory) (t′ : Task) : Type 0 where
-  quiet : ((b : ℕ) → bankIn n b ≡ bankIn m b) → slotsOf t′ ≡ slotsOf t → Effect blocks p m t o n t′
-  commits : (C : CommitsNow blocks p m t o n) → slotsOf t ≡ t .copies → slotsOf t′ ≡ takenBack (t .copies) (C .transaction .blocks) → Effect blocks p m t o n t′
+  quiet : (TransactionYes p m t → ⊥) → ((b : ℕ) → bankIn n b ≡ bankIn m b) → slotsOf t′ ≡ slotsOf t → Effect blocks p m t o n t′
+  commits : (y : TransactionYes p m t) → CommitsNow blocks p m t o n y → slotsOf t ≡ t .copies → slotsOf t′ ≡ takenBack (t .copies) (y .transaction .blocks) → Effect blocks p m t o n t′
 
 -- a statement of task t with its latest operation o leaves the turn u and the operation o′
 pub record Stated (blocks p : ℕ) (m : Memory) (t : Task) (o : Operation) (u : Turn) (o′ : Operation) : Type 0 where
@@ -84,15 +87,18 @@ calm {e = e} ny (swapped y Y i S) = let z : e ≡ y = cc (Y .exchange) in absurd
 
 module _ {words blocks p : ℕ} {m : Memory} {t : Task} {x : Transaction} {e : Exchange} {o : Operation} (phase : t .phase ≡ transacting x (committing e))
     (fit : TransactionFit words blocks (t .copies) (t .commands) (t .pairs) x (committing e)) (T : TransactionFacts blocks m (t .copies) (t .registers) (t .commands) x (committing e) o) where
-  goes-stated : {n : Memory} (y : Exchange) {o′ : Operation} → stepSaidYes (y .step) ≡ stepSaidYes (e .step) → ((c : ℕ) → currentOf n c ≡ currentOf m c) → n .stores ≡ m .stores → SameOperation o o′
+  not-now : NotYes p m e → TransactionYes p m t → ⊥
+  not-now ny Y = let z : e ≡ Y .exchange = cc (phase, Y .phase) in ny (rw (← z) at (Y .step)) (Y .status)
+
+  goes-stated : {n : Memory} (y : Exchange) {o′ : Operation} → stepSaidYes (y .step) ≡ stepSaidYes (e .step) → NotYes p m e → ((c : ℕ) → currentOf n c ≡ currentOf m c) → n .stores ≡ m .stores → SameOperation o o′
       → Stated blocks p m t o (turn n (stays t x (committing y))) o′
-  goes-stated {n} y ey h st E =
+  goes-stated {n} y ey ny h st E =
       record {
         facts = record {
           arguments = E .arguments ∙ T .arguments;
-          pass = λ no. rw (E .answers) (inner-step (committing y) tt (pass-apart A x (T .pass (sym ey ∙ no) .past) (committing e) fit (λ w l. let z : _≡_ {A = ℕ} 0 1 = cc in absurd (omega arith)) (T .pass (sym ey ∙ no))));
+          pass = λ f. rw (E .answers) (inner-step (committing y) tt (pass-apart A x (T .pass (sym ey ∙ f) .past) (committing e) fit (λ w l. let z : _≡_ {A = ℕ} 0 1 = cc in absurd (omega arith)) (T .pass (sym ey ∙ f))));
         };
-        effect = quiet (λ b. h (bank b)) (rw (phase, ey));
+        effect = quiet (not-now ny) (λ b. h (bank b)) (rw (phase, ey));
         stores = λ i ne. rw st;
       }
     where
@@ -110,12 +116,8 @@ module _ {words blocks p : ℕ} {m : Memory} {t : Task} {x : Transaction} {e : E
       record {
         facts = record { arguments = E .arguments ∙ T .arguments; pass = λ no. absurd (true≢false (sym ey ∙ no)) };
         effect = commits
+            (record { transaction = x; exchange = e; phase = phase; step = ec; status = es })
             (record {
-              transaction = x;
-              exchange = e;
-              phase = phase;
-              step = ec;
-              status = es;
               arguments = T .arguments;
               pass = T .pass (rw ec);
               left = rw (F .commands);
@@ -134,19 +136,19 @@ module _ {words blocks p : ℕ} {m : Memory} {t : Task} {x : Transaction} {e : E
   last-stated n now true ey ny c st =
       record {
         facts = done-facts blocks n (rest (t .commands)) t (t .registers) [] (takenBack (t .copies) (x .blocks)) _;
-        effect = quiet (λ b. calm ny c (bank b)) (done-slots (rest (t .commands)) t (t .registers) [] (takenBack (t .copies) (x .blocks)) ∙ rw (phase, ← ey));
+        effect = quiet (not-now ny) (λ b. calm ny c (bank b)) (done-slots (rest (t .commands)) t (t .registers) [] (takenBack (t .copies) (x .blocks)) ∙ rw (phase, ← ey));
         stores = λ i ne. rw st;
       }
   last-stated n now false ey ny c st =
       record {
         facts = record { arguments = T .arguments; pass = λ no. begins-pass blocks n (t .copies) (x .kept) (x .commands) };
-        effect = quiet (λ b. calm ny c (bank b)) (rw (phase, ← ey));
+        effect = quiet (not-now ny) (λ b. calm ny c (bank b)) (rw (phase, ← ey));
         stores = λ i ne. rw st;
       }
 
   seen-stated : (now : ℕ) {out : Exchanged} → Seen p m e out → Cells p m (transacting x (committing e)) (committed t x out .memory) → Stated blocks p m t o (committed t x out) (operationAfter p (committingEvent now p m e out) o)
   unfolding committed committingEvent
-  seen-stated now (goes-on {y = y} ey ny st) c = goes-stated y ey (calm ny c) st (step-operation p m (e .step) o)
+  seen-stated now (goes-on {y = y} ey ny st) c = goes-stated y ey ny (calm ny c) st (step-operation p m (e .step) o)
   seen-stated now (says-yes {y = y} ey ec es) c = yes-stated y ey ec es c refl (step-operation p m (e .step) o)
   seen-stated now (says-yes-last ec es i) c = absurd (never c)
     where

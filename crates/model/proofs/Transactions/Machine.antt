@@ -29,7 +29,7 @@ use Rattle.model.proofs.Transactions.Gather.{nothing-touched}
 use Rattle.model.proofs.Transactions.Commit.{Committed, committed-nothing, committed-change, commits-whole}
 use Rattle.model.proofs.Transactions.Owners.{owners-stay, slots-apart, owners-exchanged}
 use Rattle.model.proofs.Transactions.Pass.{operationAfter}
-use Rattle.model.proofs.Transactions.Committing.{CommitsNow, Effect, quiet, commits, Stated}
+use Rattle.model.proofs.Transactions.Committing.{TransactionYes, CommitsNow, Effect, quiet, commits, Stated}
 use Rattle.model.proofs.Transactions.Statement.{JobFit, TaskSituation, phase-stated}
 
 abbrev pub turnOf : ℕ → Memory → List Task → Turn
@@ -49,8 +49,8 @@ pub record Running (words blocks tasks p : ℕ) (m : Memory) (ts : List Task) (o
   pub invariant : Transactions blocks tasks m ts operations
 
 -- the copy slots of a transaction that commits lie in bank values
-small : {blocks tasks p : ℕ} {m n : Memory} {slots : ℕ → List ℕ} {t : Task} {o : Operation} → p < tasks → Owners blocks tasks (bankIn m) slots → (C : CommitsNow blocks p m t o n) → slots p ≡ t .copies
-    → (b v k : ℕ) → touchedOf (C .transaction) b ≡ copied v k → at 0 (t .copies) k < 256
+pub small : {blocks tasks p : ℕ} {m n : Memory} {slots : ℕ → List ℕ} {t : Task} {o : Operation} → p < tasks → Owners blocks tasks (bankIn m) slots → {y : TransactionYes p m t} → CommitsNow blocks p m t o n y → slots p ≡ t .copies
+    → (b v k : ℕ) → touchedOf (y .transaction) b ≡ copied v k → at 0 (t .copies) k < 256
 small {p = p} lt D C e b v k u = let h = rw e at (D .below (slot p k) (lt, omega (arith, C .blocksFit .slot b v k u, C .blocksFit .most))) in omega arith
 
 module _ {words blocks tasks p : ℕ} {m : Memory} {ts : List Task} {operations : ℕ → Operation} (R : Running words blocks tasks p m ts operations) (now : ℕ) where
@@ -72,8 +72,8 @@ module _ {words blocks tasks p : ℕ} {m : Memory} {ts : List Task} {operations 
   bank-changes b = go (stated .effect)
     where
       go : Effect blocks p m (taskAt ts p) (operations p) (turnOf p m ts .memory) (turnOf p m ts .task) → Change (bankIn m b) (bankIn (turnOf p m ts .memory) b)
-      go (quiet h e) = unchanged (h b)
-      go (commits C e f) = committed-change (C .cells) (small (R .declared) (R .invariant .owners) C e) b
+      go (quiet y h e) = unchanged (h b)
+      go (commits y C e f) = committed-change (C .cells) (small (R .declared) (R .invariant .owners) C e) b
 
   -- stores are written only in copy slots of the task that runs
   pub block-stores : (b : ℕ) → b < blocks → at [] (turnOf p m ts .memory .stores) (storeOf (bankIn m b)) ≡ at [] (m .stores) (storeOf (bankIn m b))
@@ -116,8 +116,8 @@ module _ {words blocks tasks p : ℕ} {m : Memory} {ts : List Task} {operations 
     owners-after = go (stated .effect)
       where
         go : Effect blocks p m (taskAt ts p) (operations p) (turnOf p m ts .memory) (turnOf p m ts .task) → Owners blocks tasks (bankIn (turnOf p m ts .memory)) (λ q. slotsOf (taskAt (replace ts p (ticked (turnOf p m ts .task))) q))
-        go (quiet h e) = owners-stay h (λ q. same? q p (λ y. rw (y, own-task) e) (λ ne. rw (other-task q ne))) (R .invariant .owners)
-        go (commits C e f) = owners-exchanged p (R .declared) (C .blocksFit) (C .cells) (R .copies) e (rw own-task f) (λ q ne. rw (other-task q ne)) (R .invariant .owners)
+        go (quiet y h e) = owners-stay h (λ q. same? q p (λ y. rw (y, own-task) e) (λ ne. rw (other-task q ne))) (R .invariant .owners)
+        go (commits y C e f) = owners-exchanged p (R .declared) (C .blocksFit) (C .cells) (R .copies) e (rw own-task f) (λ q ne. rw (other-task q ne)) (R .invariant .owners)
 
     pub statement-keeps : Transactions blocks tasks (turnOf p m ts .memory) (replace ts p (ticked (turnOf p m ts .task))) later
     statement-keeps =

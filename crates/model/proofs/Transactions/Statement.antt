@@ -29,7 +29,7 @@ use Rattle.model.proofs.Transactions.Steps.{SlotsApart}
 use Rattle.model.proofs.Transactions.Steps.{begins as begins-pass}
 use Rattle.model.proofs.Transactions.Pass.{operationAfter, Turned, done-facts, done-slots, PutRoom, PassSituation, Outside, pass-turned}
 use Rattle.model.proofs.Transactions.Exchange.{Seen, goes-on, says-yes, says-yes-last, over, seen}
-use Rattle.model.proofs.Transactions.Committing.{Effect, quiet, commits, Stated, committing-stated}
+use Rattle.model.proofs.Transactions.Committing.{TransactionYes, Effect, quiet, commits, Stated, committing-stated}
 
 -- no exchange is at work
 no-exchange : {p : ℕ} {m n : Memory} {f : Phase} → exchangeIn f ≡ none → Cells p m f n → (c : ℕ) → currentOf n c ≡ currentOf m c
@@ -51,22 +51,22 @@ seen-stores (says-yes-last ec es i) = refl
 seen-stores (over ey ny st) = st
 
 module _ {blocks p : ℕ} {m : Memory} {t : Task} {o : Operation} where
-  quiet-stated : {n : Memory} {t′ : Task} {o′ : Operation} → TaskFacts blocks n t′ o′ → ((b : ℕ) → bankIn n b ≡ bankIn m b) → slotsOf t′ ≡ slotsOf t → n .stores ≡ m .stores → Stated blocks p m t o (turn n t′) o′
-  quiet-stated F h e st = record { facts = F; effect = quiet h e; stores = λ i ne. rw st }
+  quiet-stated : {n : Memory} {t′ : Task} {o′ : Operation} → (TransactionYes p m t → ⊥) → TaskFacts blocks n t′ o′ → ((b : ℕ) → bankIn n b ≡ bankIn m b) → slotsOf t′ ≡ slotsOf t → n .stores ≡ m .stores → Stated blocks p m t o (turn n t′) o′
+  quiet-stated y F h e st = record { facts = F; effect = quiet y h e; stores = λ i ne. rw st }
 
   -- outside transactions nothing is said of a task
-  module _ (own : slotsOf t ≡ t .copies) where
+  module _ (own : slotsOf t ≡ t .copies) (plainly : TransactionYes p m t → ⊥) where
     done-stated : {n : Memory} (rs : List ℕ) (ps : List Entry) {o′ : Operation} → ((b : ℕ) → bankIn n b ≡ bankIn m b) → n .stores ≡ m .stores → Stated blocks p m t o (turn n (done t rs ps (t .copies))) o′
-    done-stated {n} rs ps h st = quiet-stated (done-facts blocks n (rest (t .commands)) t rs ps (t .copies) _) h (done-slots (rest (t .commands)) t rs ps (t .copies) ∙ sym own) st
+    done-stated {n} rs ps h st = quiet-stated plainly (done-facts blocks n (rest (t .commands)) t rs ps (t .copies) _) h (done-slots (rest (t .commands)) t rs ps (t .copies) ∙ sym own) st
 
     read-stated : (r w : ℕ) (y : Read) {o′ : Operation} → Stated blocks p m t o (readBy m t r w y) o′
     unfolding readBy
-    read-stated r w (reads s) = quiet-stated tt (λ b. refl) (sym own) refl
+    read-stated r w (reads s) = quiet-stated plainly tt (λ b. refl) (sym own) refl
     read-stated r w (gives v) = done-stated (replace (t .registers) r v) (t .pairs) (λ b. refl) refl
 
     swap-stated : (r : ℕ) (out : Exchanged) {o′ : Operation} → ((b : ℕ) → bankIn (memoryAfter out) b ≡ bankIn m b) → memoryAfter out .stores ≡ m .stores → Stated blocks p m t o (swapBy t r out) o′
     unfolding swapBy
-    swap-stated r (goes n x) h st = quiet-stated tt h (sym own) st
+    swap-stated r (goes n x) h st = quiet-stated plainly tt h (sym own) st
     swap-stated r (ends n yes?) h st = done-stated (replace (t .registers) r (answer yes?)) [] h st
 
 swap-memory : (t : Task) (r : ℕ) (out : Exchanged) → swapBy t r out .memory ≡ memoryAfter out
@@ -74,20 +74,20 @@ unfolding swapBy
 swap-memory t r (goes n x) = refl
 swap-memory t r (ends n yes?) = refl
 
-module _ {blocks p : ℕ} {m : Memory} {t : Task} {o : Operation} (own : slotsOf t ≡ t .copies) where
+module _ {blocks p : ℕ} {m : Memory} {t : Task} {o : Operation} (own : slotsOf t ≡ t .copies) (plainly : TransactionYes p m t → ⊥) where
   -- a command that does not stand outside a transaction
   idle-stated : {o′ : Operation} → TaskFacts blocks m t o′ → Stated blocks p m t o (turn m t) o′
-  idle-stated F = quiet-stated F (λ b. refl) refl refl
+  idle-stated F = quiet-stated plainly F (λ b. refl) refl refl
 
   command-stated : (l : List Command) → t .phase ≡ plain → Cells p m plain (plainTick p m t l .memory) → Stated blocks p m t o (plainTick p m t l) (operationAfter p (plainEvent t l) o)
   unfolding plainTick plainEvent readTick exchangeTick swapBy
   command-stated [] e c = idle-stated (rw e tt)
-  command-stated (LOAD r v ∷ l) e c = done-stated own (loaded (t .registers) r v) (t .pairs) (λ b. refl) refl
-  command-stated (ADD r q ∷ l) e c = done-stated own (added (t .registers) r q) (t .pairs) (λ b. refl) refl
-  command-stated (READ r w ∷ l) e c = read-stated own r w (readTick m w loading)
-  command-stated (PAIR w a b ∷ l) e c = done-stated own (t .registers) (t .pairs ++ (entry w (at 0 (t .registers) a) (at 0 (t .registers) b) ∷ [])) (λ b. refl) refl
-  command-stated (SWAP r ∷ l) e c = swap-stated own r (exchangeTick p m (exchangeOf (t .pairs)) start) (λ b. no-exchange refl c (bank b)) refl
-  command-stated (BEGIN ∷ l) e c = quiet-stated (record { arguments = refl; pass = λ _. begins-pass blocks m (t .copies) (t .registers) l }) (λ b. refl) (sym own) refl
+  command-stated (LOAD r v ∷ l) e c = done-stated own plainly (loaded (t .registers) r v) (t .pairs) (λ b. refl) refl
+  command-stated (ADD r q ∷ l) e c = done-stated own plainly (added (t .registers) r q) (t .pairs) (λ b. refl) refl
+  command-stated (READ r w ∷ l) e c = read-stated own plainly r w (readTick m w loading)
+  command-stated (PAIR w a b ∷ l) e c = done-stated own plainly (t .registers) (t .pairs ++ (entry w (at 0 (t .registers) a) (at 0 (t .registers) b) ∷ [])) (λ b. refl) refl
+  command-stated (SWAP r ∷ l) e c = swap-stated own plainly r (exchangeTick p m (exchangeOf (t .pairs)) start) (λ b. no-exchange refl c (bank b)) refl
+  command-stated (BEGIN ∷ l) e c = quiet-stated plainly (record { arguments = refl; pass = λ _. begins-pass blocks m (t .copies) (t .registers) l }) (λ b. refl) (sym own) refl
   command-stated (access a ∷ l) e c = idle-stated (rw e tt)
   command-stated (COMMIT ∷ l) e c = idle-stated (rw e tt)
   command-stated (WORD v ∷ l) e c = idle-stated (rw e tt)
@@ -124,16 +124,19 @@ module _ {words blocks p : ℕ} {m : Memory} {t : Task} {o : Operation} (S : Tas
       let F : TransactionFit words blocks (t .copies) (t .commands) (t .pairs) x s = subst (λ (f : Phase). PhaseFit words blocks (t .copies) (t .commands) (t .pairs) f) e (S .fit) in
       let K : TransactionFacts blocks m (t .copies) (t .registers) (t .commands) x s o = subst (λ (f : Phase). PhaseFacts blocks m (t .copies) (t .registers) (t .commands) o f) e (S .facts) in
       let T = pass-turned p now s out (record { most = S .fewBlocks; memory = S .memory; apart = S .apart own; phase = e; fit = F; arguments = K .arguments; pass = K .pass ny }) in
-      record { facts = T .facts; effect = quiet (λ b. T .cells (bank b)) (T .slots ∙ sym own); stores = λ i ne. T .stores i (rw own at ne) }
+      record { facts = T .facts; effect = quiet (λ Y. outside Y) (λ b. T .cells (bank b)) (T .slots ∙ sym own); stores = λ i ne. T .stores i (rw own at ne) }
+    where
+      outside : TransactionYes p m t → ⊥
+      outside Y = let z : s ≡ committing (Y .exchange) = cc (e, Y .phase) in subst (λ (i : Inner). Outside x (t .commands) i) z out
 
   pub phase-stated : (f : Phase) → t .phase ≡ f → JobFit words blocks (statement p m t f .task) → Cells p m f (statement p m t f .memory) → Stated blocks p m t o (statement p m t f) (operationAfter p (eventOf now p m t f) o)
   unfolding statement eventOf
-  phase-stated idle e G c = idle-stated (rw e) (rw e tt)
-  phase-stated plain e G c = command-stated (rw e) (t .commands) e c
-  phase-stated (reading r w s) e G c = read-stated (rw e) r w (readTick m w s)
+  phase-stated idle e G c = idle-stated (rw e) (λ Y. let z : _≡_ {A = ℕ} 0 1 = cc (e, Y .phase) in omega arith) (rw e tt)
+  phase-stated plain e G c = command-stated (rw e) (λ Y. let z : _≡_ {A = ℕ} 0 1 = cc (e, Y .phase) in omega arith) (t .commands) e c
+  phase-stated (reading r w s) e G c = read-stated (rw e) (λ Y. let z : _≡_ {A = ℕ} 0 1 = cc (e, Y .phase) in omega arith) r w (readTick m w s)
   phase-stated (exchanging r x) e G c =
       let F = subst (λ (f : Phase). PhaseFit words blocks (t .copies) (t .commands) (t .pairs) f) e (S .fit) in
-      swap-stated (rw e) r (exchangeTick p m x (x .step))
+      swap-stated (rw e) (λ Y. let z : _≡_ {A = ℕ} 0 1 = cc (e, Y .phase) in omega arith) r (exchangeTick p m x (x .step))
       (plain-words (λ i l. omega (arith, F .exchange .entries .below i l, S .fewWords)) (rw (swap-memory t r (exchangeTick p m x (x .step))) at c))
       (seen-stores (seen p m x (outcome p m x)))
   phase-stated (transacting x between) e G c = pass-stated x between e (put-room words blocks p m t x G) refl
