@@ -4,3 +4,4 @@ pub mod Cases
 pub mod Fit
 pub mod Whole
 pub mod Transactions
+pub mod Order

@@ -72,11 +72,15 @@ pub record TaskFit (words blocks : ℕ) (text : List Command) (now : ℕ) (t : T
   pub ticks : t .ticks ≤ now
   pub phase : PhaseFit words blocks (t .copies) (t .commands) (t .pairs) (t .phase)
 
+-- task p of the sheet
+abbrev pub DeclaredFit : Sheet → ℕ → ℕ → Task → Type 0
+DeclaredFit s now p t = TaskFit (length (s .words)) (length (s .blocks)) (at [] (s .bodies) p) now t
+
 pub record Fit (s : Sheet) (m : Machine) : Type 0 where
   pub memory : MemoryFit (m .memory)
   pub tasks : length (m .tasks) ≡ 8
   -- the tasks that the sheet declares, and the others
-  pub task : (p : ℕ) → p < length (s .bodies) → TaskFit (length (s .words)) (length (s .blocks)) (at [] (s .bodies) p) (m .now) (taskAt (m .tasks) p)
+  pub task : (p : ℕ) → p < length (s .bodies) → DeclaredFit s (m .now) p (taskAt (m .tasks) p)
   pub undeclared : (p : ℕ) → length (s .bodies) ≤ p → taskAt (m .tasks) p ≡ noTask
   pub releases : ReleasesFit (length (s .bodies)) (m .now) (m .releases)
   pub dropped : m .dropped + length (m .releases) ≤ 256

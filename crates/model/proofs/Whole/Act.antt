@@ -1,7 +1,7 @@
 -- What each task does to the cells, and the stages of an exchange. The exchange layer knows no more of a task than this.
 use Prim.Native.Nat.{ℕ, zero, suc, _<_, _≤_}
-use mathlib.Core.Bool.{Bool, true, false}
-use mathlib.Core.Path.{_≡_, refl}
+use mathlib.Core.Bool.{Bool, true, false, true≢false}
+use mathlib.Core.Path.{_≡_, refl, sym}
 use mathlib.Core.List.{List}
 use lib.ListN.{length}
 use Rattle.model.specs.Lists.{at}
@@ -34,6 +34,23 @@ actBy (cleanMark j yes?) x = exchanging x
 -- an exchange that waits for its Start does nothing to the cells
 abbrev pub actOf : Exchange → Act
 actOf x = actBy (x .step) x
+
+pub started? : {P : Type 0} (x : Exchange) → (x .step ≡ start → P) → (actOf x ≡ exchanging x → P) → P
+started? {P} x f g = go (x .step) refl
+  where
+    go : (s : Step) → x .step ≡ s → P
+    go start s = f s
+    go test s = g (rw s)
+    go load s = g (rw s)
+    go look s = g (rw s)
+    go fetch s = g (rw s)
+    go (save v) s = g (rw s)
+    go fail s = g (rw s)
+    go mark s = g (rw s)
+    go install s = g (rw s)
+    go commit s = g (rw s)
+    go (clean j yes?) s = g (rw s)
+    go (cleanMark j yes?) s = g (rw s)
 
 -- what a tick of the exchange leaves
 abbrev pub actAfter : Exchanged → Act
@@ -99,6 +116,14 @@ covering working = 0
 covering failing = 0
 covering (cleaning j) = j
 covering (marking j) = j
+
+-- before the answer these are all entries below i
+pub undecided-all : (s : Stage) → undecided s ≡ true → (uncleaned s ≡ 0) × (covering s ≡ 0)
+undecided-all testing u = (refl, refl)
+undecided-all working u = (refl, refl)
+undecided-all failing u = (refl, refl)
+undecided-all (cleaning j) u = absurd (true≢false (sym u))
+undecided-all (marking j) u = absurd (true≢false (sym u))
 
 abbrev pub stage : Exchange → Stage
 stage x = stageOf (x .step)

@@ -105,7 +105,7 @@ module _ {p : ℕ} {m n : Memory} (F : Frame p m n) where
     -- another task: all that it knows
     module _ (q : ℕ) (ne : q ≢ p) where
       step-frame : (x : Exchange) (s : Step) → AtStep of (m .status) (m .saves) acts q x s → AtStep of (n .status) (n .saves) (replace acts p v) q x s
-      step-frame x start h = tt
+      step-frame x start h = h
       step-frame x test h = tt
       step-frame x load h = tt
       step-frame x look h = move-content p v clear h
@@ -117,7 +117,7 @@ module _ {p : ℕ} {m n : Memory} (F : Frame p m n) where
       step-frame x commit (inl e) = inl e
       step-frame x commit (inr d) = inr (λ e. d (kept-zero (F .status q ne) e))
       step-frame x (clean j yes?) h = (h .0, h .1 ∙ sym (kept-two (F .status q ne)))
-      step-frame x (cleanMark j yes?) h = (h .0, h .1 ∙ sym (kept-two (F .status q ne)), settled-frame (F .saves q j ne) (h .2), h .3)
+      step-frame x (cleanMark j yes?) h = (h .0, h .1 ∙ sym (kept-two (F .status q ne)), h .2)
 
       reading-frame : (c : ℕ) (r : Reading) → InReading of (m .status) (m .saves) acts q c r → InReading of (n .status) (n .saves) (replace acts p v) q c r
       reading-frame c loading h = tt

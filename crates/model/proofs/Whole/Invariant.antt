@@ -48,7 +48,7 @@ pub record Settled (of : ℕ → Type 0) (status : List ℕ) (saves : List (List
 
 module _ (of : ℕ → Type 0) (status : List ℕ) (saves : List (List ℕ)) (acts : List Act) (p : ℕ) where
   abbrev pub AtStep : Exchange → Step → Type 0
-  AtStep x start = Unit {0}
+  AtStep x start = ⊥
   AtStep x test = Unit {0}
   AtStep x load = Unit {0}
   AtStep x look = WellFormed of acts (here x .cell) (here x .init)
@@ -59,13 +59,13 @@ module _ (of : ℕ → Type 0) (status : List ℕ) (saves : List (List ℕ)) (ac
   AtStep x install = Settled of status saves acts p (here x) (x .i)
   AtStep x commit = (x .i ≡ length (x .entries)) ⊎ (at 0 status p ≢ 0)
   AtStep x (clean j yes?) = (j < x .i) × (yes? ≡ eqb (at 0 status p) 2)
-  AtStep x (cleanMark j yes?) = (j < x .i) × (yes? ≡ eqb (at 0 status p) 2) × Settled of status saves acts p (entryAt x j) j × (entryAt x j .overlapped ≡ true)
+  AtStep x (cleanMark j yes?) = (j < x .i) × (yes? ≡ eqb (at 0 status p) 2) × (entryAt x j .overlapped ≡ true)
 
   pub record InExchange (x : Exchange) : Type 0 where
     pub within : x .i ≤ length (x .entries)
     pub at-entry : stage x ≡ working → x .i < length (x .entries)
     pub distinct : Distinct (x .entries)
-    pub settled : (e : ℕ) → uncleaned (stage x) ≤ e → e < x .i → Settled of status saves acts p (entryAt x e) e
+    pub settled : (e : ℕ) → covering (stage x) ≤ e → e < x .i → Settled of status saves acts p (entryAt x e) e
     pub not-yet : undecided (stage x) ≡ true → at 0 status p ≢ 2
     pub at-step : AtStep x (x .step)
 

@@ -33,7 +33,7 @@ pub data Cleans (p : ℕ) (m : Memory) (x : Exchange) (j : ℕ) (yes? : Bool) : 
 pub data Outcome (p : ℕ) (m : Memory) (x : Exchange) : Exchanged → Type 0 where
   starts : x .step ≡ start → Outcome p m x (goes (setStatus m p 0) (record { entries = x .entries; i = 0; step = test }))
   tests-done : x .step ≡ test → (x .i ≡ length (x .entries)) ⊎ (statusOf m p ≡ 1) → Outcome p m x (goes m (to x commit))
-  tests-on : x .step ≡ test → x .i ≢ length (x .entries) → Outcome p m x (goes m (to x load))
+  tests-on : x .step ≡ test → x .i ≢ length (x .entries) → statusOf m p ≢ 1 → Outcome p m x (goes m (to x load))
   loads : x .step ≡ load → Outcome p m x (goes m (noted x (cellOf m (here x .cell)) false look))
   looks-own : x .step ≡ look → own (m .status) (here x .init) ≡ true → Outcome p m x (goes m (noted x (here x .init) false (save (here x .init .value))))
   looks-other : x .step ≡ look → own (m .status) (here x .init) ≡ false → Outcome p m x (goes m (noted x (here x .init) true fetch))
@@ -60,7 +60,7 @@ module _ (p : ℕ) (m : Memory) (x : Exchange) where
       go : (eqb (x .i) (length (x .entries)) ≡ true) ⊎ (eqb (statusOf m p) 1 ≡ true) → (x .i ≡ length (x .entries)) ⊎ (statusOf m p ≡ 1)
       go (inl f) = inl (eqb-true _ _ f)
       go (inr f) = inr (eqb-true _ _ f)
-  tested s false e = tests-on s (eqb-false _ _ (or-false _ _ e .0))
+  tested s false e = let g = or-false _ _ e in tests-on s (eqb-false _ _ (g .0)) (eqb-false _ _ (g .1))
 
   looked : x .step ≡ look → (b : Bool) → own (m .status) (here x .init) ≡ b → Outcome p m x (lookBy b m x (here x))
   unfolding lookBy

@@ -66,6 +66,10 @@ pub not-own : (status : List ℕ) (w : Word) → own status w ≡ false → (w .
 unfolding own
 not-own status w e = let a = or-false (w .valid) _ e in (a .0, eqb-false _ _ (a .1))
 
+pub not-counting : (status : List ℕ) (w : Word) → w .valid ≡ false → at 0 status (w .task) ≢ 2 → own status w ≡ false
+unfolding own
+not-counting status w e ne = rw (e, ne-eqb (at 0 status (w .task)) 2 ne)
+
 pub current-own : (status : List ℕ) (saves : List (List ℕ)) (w : Word) → own status w ≡ true → current status saves w ≡ w .value
 unfolding current currentBy
 current-own status saves w e = rw e
