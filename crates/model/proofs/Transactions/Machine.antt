@@ -48,6 +48,19 @@ pub record Running (words blocks tasks p : ℕ) (m : Memory) (ts : List Task) (o
   pub given : Given p m ts (turnOf p m ts .memory)
   pub invariant : Transactions blocks tasks m ts operations
 
+-- the latest operations after a statement of task p in tick `now`, of the tasks that are in a transaction then
+pub record Later (p now : ℕ) (m : Memory) (ts : List Task) (operations later : ℕ → Operation) : Type 0 where
+  pub mine : (x : Transaction) (s : Inner) → turnOf p m ts .task .phase ≡ transacting x s → later p ≡ operationAfter p (eventOf now p m (taskAt ts p) (taskAt ts p .phase)) (operations p)
+  pub others : (q : ℕ) → q ≢ p → (x : Transaction) (s : Inner) → taskAt ts q .phase ≡ transacting x s → later q ≡ operations q
+
+-- facts of a task go by its latest operation only in a transaction
+of-transactions : (blocks : ℕ) (m : Memory) (t : Task) (f : Phase) {o o′ : Operation} → t .phase ≡ f → ((x : Transaction) (s : Inner) → t .phase ≡ transacting x s → o′ ≡ o) → TaskFacts blocks m t o → TaskFacts blocks m t o′
+of-transactions blocks m t idle e g F = rw e tt
+of-transactions blocks m t plain e g F = rw e tt
+of-transactions blocks m t (reading r w s) e g F = rw e tt
+of-transactions blocks m t (exchanging r x) e g F = rw e tt
+of-transactions blocks m t (transacting x s) e g F = rw (g x s e) F
+
 -- the copy slots of a transaction that commits lie in bank values
 pub small : {blocks tasks p : ℕ} {m n : Memory} {slots : ℕ → List ℕ} {t : Task} {o : Operation} → p < tasks → Owners blocks tasks (bankIn m) slots → {y : TransactionYes p m t} → CommitsNow blocks p m t o n y → slots p ≡ t .copies
     → (b v k : ℕ) → touchedOf (y .transaction) b ≡ copied v k → at 0 (t .copies) k < 256
@@ -104,26 +117,25 @@ module _ {words blocks tasks p : ℕ} {m : Memory} {ts : List Task} {operations 
               pass-apart A x (K .pass ny .past) s F (λ w l. R .given .readings q ne w (rw e l)) (K .pass ny);
         })
 
-  -- THE INVARIANT STAYS, `later` being the latest operation of each task after the statement
-  module _ (later : ℕ → Operation) (mine : later p ≡ operationAfter p (eventOf now p m (taskAt ts p) (taskAt ts p .phase)) (operations p)) (others : (q : ℕ) → q ≢ p → later q ≡ operations q) where
-    own-task : taskAt (replace ts p (ticked (turnOf p m ts .task))) p ≡ ticked (turnOf p m ts .task)
-    own-task = replace-same noTask ts p (ticked (turnOf p m ts .task)) (R .there)
+  -- THE INVARIANT STAYS
+  own-task : taskAt (replace ts p (ticked (turnOf p m ts .task))) p ≡ ticked (turnOf p m ts .task)
+  own-task = replace-same noTask ts p (ticked (turnOf p m ts .task)) (R .there)
 
-    other-task : (q : ℕ) → q ≢ p → taskAt (replace ts p (ticked (turnOf p m ts .task))) q ≡ taskAt ts q
-    other-task q ne = replace-other noTask ts p q (ticked (turnOf p m ts .task)) ne
+  other-task : (q : ℕ) → q ≢ p → taskAt (replace ts p (ticked (turnOf p m ts .task))) q ≡ taskAt ts q
+  other-task q ne = replace-other noTask ts p q (ticked (turnOf p m ts .task)) ne
 
-    owners-after : Owners blocks tasks (bankIn (turnOf p m ts .memory)) (λ q. slotsOf (taskAt (replace ts p (ticked (turnOf p m ts .task))) q))
-    owners-after = go (stated .effect)
-      where
-        go : Effect blocks p m (taskAt ts p) (operations p) (turnOf p m ts .memory) (turnOf p m ts .task) → Owners blocks tasks (bankIn (turnOf p m ts .memory)) (λ q. slotsOf (taskAt (replace ts p (ticked (turnOf p m ts .task))) q))
-        go (quiet y h e) = owners-stay h (λ q. same? q p (λ y. rw (y, own-task) e) (λ ne. rw (other-task q ne))) (R .invariant .owners)
-        go (commits y C e f) = owners-exchanged p (R .declared) (C .blocksFit) (C .cells) (R .copies) e (rw own-task f) (λ q ne. rw (other-task q ne)) (R .invariant .owners)
+  owners-after : Owners blocks tasks (bankIn (turnOf p m ts .memory)) (λ q. slotsOf (taskAt (replace ts p (ticked (turnOf p m ts .task))) q))
+  owners-after = go (stated .effect)
+    where
+      go : Effect blocks p m (taskAt ts p) (operations p) (turnOf p m ts .memory) (turnOf p m ts .task) → Owners blocks tasks (bankIn (turnOf p m ts .memory)) (λ q. slotsOf (taskAt (replace ts p (ticked (turnOf p m ts .task))) q))
+      go (quiet y h e) = owners-stay h (λ q. same? q p (λ k. rw (k, own-task) e) (λ ne. rw (other-task q ne))) (R .invariant .owners)
+      go (commits y C e f) = owners-exchanged p (R .declared) (C .blocksFit) (C .cells) (R .copies) e (rw own-task f) (λ q ne. rw (other-task q ne)) (R .invariant .owners)
 
-    pub statement-keeps : Transactions blocks tasks (turnOf p m ts .memory) (replace ts p (ticked (turnOf p m ts .task))) later
-    statement-keeps =
-        record {
-          owners = owners-after;
-          task = λ q lt. same? q p
-              (λ e. rw (e, own-task, mine) (stated .facts))
-              (λ ne. rw (other-task q ne, others q ne) (other-facts q lt ne (taskAt ts q .phase) refl));
-        }
+  pub statement-keeps : {later : ℕ → Operation} → Later p now m ts operations later → Transactions blocks tasks (turnOf p m ts .memory) (replace ts p (ticked (turnOf p m ts .task))) later
+  statement-keeps {later} L =
+      record {
+        owners = owners-after;
+        task = λ q lt. same? q p
+            (λ e. rw (e, own-task) (of-transactions blocks (turnOf p m ts .memory) (turnOf p m ts .task) (turnOf p m ts .task .phase) refl (L .mine) (stated .facts)))
+            (λ ne. rw (other-task q ne) (of-transactions blocks (turnOf p m ts .memory) (taskAt ts q) (taskAt ts q .phase) refl (L .others q ne) (other-facts q lt ne (taskAt ts q .phase) refl)));
+      }
