@@ -9,6 +9,7 @@ use Rattle.model.specs.Lists.{at}
 use Rattle.model.specs.Command.{Block, Command, COMMIT}
 use Rattle.model.specs.Sheet.{Sheet}
 use Rattle.model.specs.Word.{Memory, current, currentOf}
+use Rattle.model.specs.Exchange.{Exchange}
 use Rattle.model.specs.Job.{Touched, untouched, copied, Transaction, Inner, between, Phase, transacting, Task, Turn}
 use Rattle.model.specs.Transaction.{bank, storeOf, versionOf, touchedOf, nothing?}
 use Rattle.model.specs.Machine.{taskAt}
@@ -18,12 +19,17 @@ use Rattle.model.specs.Claim.{each, blockIn, contentsOf}
 use Rattle.model.proofs.Fit.Transaction.{TransactionFit}
 use Rattle.model.proofs.Fit.Machine.{PhaseFit}
 use Rattle.model.proofs.Transactions.Facts.{bankIn, slotsOf, TransactionFacts, PhaseFacts}
+use Rattle.model.proofs.Transactions.Given.{SaysYes, Cells, same, swapped, Given}
 use Rattle.model.proofs.Transactions.Contents.{each-same}
 use Rattle.model.proofs.Transactions.Frame.{blocks-fit}
 use Rattle.model.proofs.Transactions.Gather.{nothing-touched}
 use Rattle.model.proofs.Transactions.Commit.{committed-nothing, commits-whole}
 use Rattle.model.proofs.Transactions.Committing.{TransactionYes, CommitsNow, Effect, quiet, commits, Stated}
 use Rattle.model.proofs.Transactions.Machine.{turnOf, Running, small, stated, block-stores}
+
+cells-stay : {p : ℕ} {m n : Memory} {f : Phase} → ((x : Exchange) → SaysYes p m f x → ⊥) → Cells p m f n → (c : ℕ) → currentOf n c ≡ currentOf m c
+cells-stay none (same g h) = h
+cells-stay none (swapped x y i w) = absurd (none x y)
 
 module _ (s : Sheet) {tasks p : ℕ} {m : Memory} {ts : List Task} {operations : ℕ → Operation} (R : Running (length (s .words)) (length (s .blocks)) tasks p m ts operations) where
   -- a statement that commits no transaction leaves every block's version and values: a pass that is stale, spent or rejected changes nothing
@@ -36,6 +42,14 @@ module _ (s : Sheet) {tasks p : ℕ} {m : Memory} {ts : List Task} {operations :
 
   pub blocks-stay : (TransactionYes p m (taskAt ts p) → ⊥) → contentsOf s (turnOf p m ts .memory) .blocks ≡ contentsOf s m .blocks
   blocks-stay none = each-same (length (s .blocks)) 0 (blockIn (turnOf p m ts .memory)) (blockIn m) (λ b lt. block-stays none (0 + b) (omega arith))
+
+  -- a statement that is no Commit that says yes leaves the contents
+  pub contents-stay : ((x : Exchange) → SaysYes p m (taskAt ts p .phase) x → ⊥) → contentsOf s (turnOf p m ts .memory) ≡ contentsOf s m
+  contents-stay none =
+      let cells : (c : ℕ) → currentOf (turnOf p m ts .memory) c ≡ currentOf m c = cells-stay none (R .given .cells) in
+      let words : contentsOf s (turnOf p m ts .memory) .words ≡ contentsOf s m .words = each-same (length (s .words)) 0 (currentOf (turnOf p m ts .memory)) (currentOf m) (λ c lt. cells (0 + c)) in
+      let blocks : contentsOf s (turnOf p m ts .memory) .blocks ≡ contentsOf s m .blocks = blocks-stay (λ y. none (y .exchange) (record { exchange = rw (y .phase); step = y .step; status = y .status })) in
+      rw (words, blocks)
 
   -- THE YES: the plain transaction takes the contents before to the contents after, and its answers are those of the pass
   pub commit-replays : TransactionYes p m (taskAt ts p) → plainly (operations p .arguments) (contentsOf s m) ≡ result (contentsOf s (turnOf p m ts .memory)) (operations p .answers)
