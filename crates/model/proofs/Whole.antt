@@ -15,3 +15,8 @@ pub mod Current
 pub mod Rates
 pub mod Ground
 pub mod GroundFrame
+pub mod GroundEarly
+pub mod GroundStatement
+pub mod GroundKept
+pub mod Grounded
+pub mod Reorder

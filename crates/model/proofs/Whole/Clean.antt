@@ -1,19 +1,18 @@
 -- Commit and Clean keep O, H, S and M.
-use Prim.Native.Nat.{ℕ, zero, suc, _<_, _≤_}
-use mathlib.Core.Bool.{Bool, true, false, not, _&&_, true≢false}
-use mathlib.Core.Path.{_≡_, refl, sym, _∙_, ap, subst}
-use mathlib.Core.Logic.{_≢_, _⊎_, inl, inr}
-use mathlib.Core.List.{List, []}
+use Prim.Native.Nat.{ℕ, suc, _<_, _≤_}
+use mathlib.Core.Bool.{Bool, true, false, true≢false}
+use mathlib.Core.Path.{_≡_, refl, sym, _∙_, ap}
+use mathlib.Core.Logic.{_≢_}
+use mathlib.Core.List.{List}
 use native.Mathlib.Omega.{arith}
 use lib.Dec.{eqb}
-use lib.ListN.{length}
 use borrow.Author.Tests.{ne-eqb}
 use Rattle.model.specs.Lists.{at, replace}
-use Rattle.model.specs.Word.{Word, fresh, Memory, cellOf, statusOf, saved, setCell, setStatus}
-use Rattle.model.specs.Exchange.{Entry, Step, commit, clean, cleanMark, Exchange, entryAt, changing, installed, cleaned, to}
+use Rattle.model.specs.Word.{Word, fresh, Memory, cellOf, statusOf, saved, setCell}
+use Rattle.model.specs.Exchange.{Step, commit, clean, cleanMark, Exchange, entryAt, installed, cleaned, to}
 use Rattle.model.proofs.Lists.{replace-same, replace-other, same?}
-use Rattle.model.proofs.Whole.Act.{Act, free, exchanging, actAt, Stage, working, stageOf, stage, undecided, uncleaned, covering}
-use Rattle.model.proofs.Whole.Invariant.{Held, WellFormed, valid, held, Anyone, Loaded, Found, Settled, AtStep, InExchange, Situation, Room}
+use Rattle.model.proofs.Whole.Act.{Act, free, exchanging, stageOf, stage, undecided, uncleaned, covering}
+use Rattle.model.proofs.Whole.Invariant.{WellFormed, valid, held, Anyone, Settled, AtStep, Situation, Room}
 use Rattle.model.proofs.Whole.Outcome.{Decides, commits, refuses, Cleans, renews, passes, gives-back, leaves, marks-after}
 use Rattle.model.proofs.Whole.Frame.{Frame, frame-none, frame-cell, frame-status, frame-mark, mark-keeps, kept-two, settled-frame, Moved, below-clear}
 use Rattle.model.proofs.Whole.Early.{follows-to, from-zero, mine, at-step-as, keep-content, held-on, replaced-status}

@@ -1,19 +1,19 @@
 -- What statements do to the current values: nothing, but for Commit at status 0, which changes its own cells from old to new.
-use Prim.Native.Nat.{ℕ, zero, suc, _<_, _≤_}
-use mathlib.Core.Bool.{Bool, true, false, not, _&&_, true≢false}
-use mathlib.Core.Path.{_≡_, refl, sym, _∙_, ap, subst}
+use Prim.Native.Nat.{ℕ, _<_}
+use mathlib.Core.Bool.{Bool, true, false, _&&_}
+use mathlib.Core.Path.{_≡_, refl, sym, _∙_, ap}
 use mathlib.Core.Logic.{_≢_, _⊎_, inl, inr}
-use mathlib.Core.List.{List, []}
+use mathlib.Core.List.{List}
 use native.Mathlib.Omega.{arith}
 use lib.Dec.{eqb}
 use lib.ListN.{length}
 use borrow.Author.Tests.{eqb-true, eqb-false}
 use Rattle.model.specs.Lists.{at, replace}
-use Rattle.model.specs.Word.{Word, fresh, Memory, cellOf, statusOf, saved, setCell, setStatus, setSave, own, current, currentOf}
-use Rattle.model.specs.Exchange.{Entry, Step, start, commit, clean, cleanMark, install, save, fail, mark, Exchange, Exchanged, entryAt, changing, installed, cleaned}
+use Rattle.model.specs.Word.{Word, fresh, Memory, cellOf, statusOf, saved, setCell, setStatus, setSave, current, currentOf}
+use Rattle.model.specs.Exchange.{start, commit, clean, cleanMark, install, fail, mark, Exchange, Exchanged, entryAt, changing, installed, cleaned}
 use Rattle.model.proofs.Lists.{replace-same, replace-other, same?}
-use Rattle.model.proofs.Whole.Act.{Act, free, exchanging, actAt, memoryAfter, Quiet, stage, here}
-use Rattle.model.proofs.Whole.Invariant.{Held, WellFormed, valid, held, Anyone, Settled, Situation, Room}
+use Rattle.model.proofs.Whole.Act.{Act, exchanging, memoryAfter, Quiet, here}
+use Rattle.model.proofs.Whole.Invariant.{WellFormed, valid, held, Anyone, Situation, Room}
 use Rattle.model.proofs.Whole.Words.{and-true, unchanging, own-valid, own-same, current-own, current-same, installed-new, installed-old, cleaned-new}
 use Rattle.model.proofs.Whole.Outcome.{Decides, commits, refuses, Cleans, renews, passes, gives-back, leaves, marks-after, Outcome, starts, tests-done, tests-on, loads, looks-own, looks-other, fetches, saves-differing, saves-to-mark, saves, fails, marks, installs, misses, decides, decides-last, cleans, cleans-last, cleans-to-mark}
 use Rattle.model.proofs.Whole.Frame.{Frame, frame-save, frame-status, mark-keeps, frame-mark, kept-two, current-frame, below-clear}
@@ -108,7 +108,7 @@ module _ {below : ℕ → ℕ → Type 0} {m : Memory} {acts : List Act} {p : �
     pub current-kept : {o : Exchanged} → Outcome p m x o → (x .step ≡ commit → statusOf m p ≢ 0) → (c : ℕ) → currentOf (memoryAfter o) c ≡ currentOf m c
     current-kept (starts s) ne c = absurd (at-step-as S start s)
     current-kept (tests-done s h) ne c = refl
-    current-kept (tests-on s h one) ne c = refl
+    current-kept (tests-on s h) ne c = refl
     current-kept (loads s) ne c = refl
     current-kept (looks-own s w) ne c = refl
     current-kept (looks-other s w) ne c = refl

@@ -1,21 +1,20 @@
 -- How an exchange goes on before Commit: what it has to show so that O, H, S and M are kept.
-use Prim.Native.Nat.{ℕ, zero, suc, _<_, _≤_}
-use mathlib.Core.Bool.{Bool, true, false, not, _&&_, true≢false}
+use Prim.Native.Nat.{ℕ, _<_, _≤_}
+use mathlib.Core.Bool.{Bool, true, not, true≢false}
 use mathlib.Core.Path.{_≡_, refl, sym, _∙_, ap, subst}
-use mathlib.Core.Logic.{_≢_, _⊎_, inl, inr}
-use mathlib.Core.List.{List, []}
+use mathlib.Core.Logic.{_≢_}
+use mathlib.Core.List.{List}
 use native.Mathlib.Omega.{arith}
-use lib.Dec.{eqb}
 use lib.ListN.{length}
 use borrow.Author.Tests.{not-true}
 use Rattle.model.specs.Lists.{at, replace}
-use Rattle.model.specs.Word.{Word, fresh, Memory, cellOf, statusOf, saved, setCell, setStatus, setSave, own, current}
-use Rattle.model.specs.Exchange.{Entry, entry, Step, start, test, load, look, fetch, fail, mark, install, commit, save, clean, cleanMark, Exchange, entryAt, changing, installed, to, loaded, noted, onward}
+use Rattle.model.specs.Word.{Word, Memory, statusOf, saved}
+use Rattle.model.specs.Exchange.{Entry, entry, Step, Exchange, entryAt, installed, to, loaded, noted, onward}
 use Rattle.model.proofs.Lists.{replace-same, replace-other, length-replace, at-below, same?}
-use Rattle.model.proofs.Whole.Act.{Act, free, exchanging, actAt, Stage, working, stageOf, stage, undecided, uncleaned, undecided-all, here}
-use Rattle.model.proofs.Whole.Invariant.{Held, WellFormed, valid, held, Anyone, Loaded, Found, Settled, AtStep, InExchange, Knows, Rank, itself, idle, lower, Situation, Room}
-use Rattle.model.proofs.Whole.Words.{own-valid, not-own, current-own, current-other, changes, unchanging}
-use Rattle.model.proofs.Whole.Frame.{Frame, frame-none, frame-cell, frame-save, frame-status, frame-mark, mark-keeps, kept-not-two, move-content, own-frame, current-frame, loaded-frame, found-frame, settled-frame, Moved, below-clear}
+use Rattle.model.proofs.Whole.Act.{Act, free, exchanging, working, stage, undecided, uncleaned, undecided-all, here}
+use Rattle.model.proofs.Whole.Invariant.{Held, WellFormed, valid, held, Anyone, Loaded, AtStep, InExchange, Knows, Rank, itself, idle, lower, Situation}
+use Rattle.model.proofs.Whole.Words.{own-valid, not-own}
+use Rattle.model.proofs.Whole.Frame.{Frame, frame-none, settled-frame, Moved, below-clear}
 
 -- the exchange goes on: the same pairs, and below i the same entries
 pub record Follows (x x′ : Exchange) : Type 0 where

@@ -1,8 +1,8 @@
 -- What a statement of task p leaves alone, said once, and how all that the other tasks know is carried over it.
-use Prim.Native.Nat.{ℕ, zero, suc, _<_, _≤_}
+use Prim.Native.Nat.{ℕ, _<_}
 use mathlib.Core.Bool.{Bool, true, false, not}
-use mathlib.Core.Path.{_≡_, refl, sym, _∙_, ap, subst}
-use mathlib.Core.Logic.{_≢_, _⊎_, inl, inr}
+use mathlib.Core.Path.{_≡_, refl, sym, _∙_, ap}
+use mathlib.Core.Logic.{_≢_, inl, inr}
 use mathlib.Core.List.{List, []}
 use native.Mathlib.Omega.{arith}
 use lib.Dec.{eqb}
@@ -10,10 +10,10 @@ use lib.ListN.{length}
 use borrow.Author.Tests.{ne-eqb}
 use Rattle.model.specs.Lists.{at, replace}
 use Rattle.model.specs.Word.{Word, Memory, cellOf, statusOf, saved, setCell, setStatus, setSave, own, current, Reading, loading, looking, fetching}
-use Rattle.model.specs.Exchange.{Entry, Step, start, test, load, look, fetch, fail, mark, install, commit, save, clean, cleanMark, Exchange, entryAt}
+use Rattle.model.specs.Exchange.{Entry, Step, start, test, load, look, fetch, fail, mark, install, commit, save, clean, cleanMark, Exchange}
 use Rattle.model.proofs.Lists.{replace-same, replace-other, same?}
-use Rattle.model.proofs.Whole.Act.{Act, free, reading, exchanging, actAt, here}
-use Rattle.model.proofs.Whole.Invariant.{Held, WellFormed, valid, held, Anyone, Loaded, Found, Settled, AtStep, InExchange, InReading, Knows, Invariant, Order, Rank, itself, idle, lower, Situation}
+use Rattle.model.proofs.Whole.Act.{Act, free, reading, exchanging, actAt}
+use Rattle.model.proofs.Whole.Invariant.{WellFormed, valid, held, Anyone, Loaded, Found, Settled, AtStep, InReading, Knows, Rank, itself, idle, lower, Situation}
 use Rattle.model.proofs.Whole.Words.{own-valid, own-same, current-own, current-same}
 
 -- a status that another task's statement leaves: the same, or marked, which it may be unless it is 2

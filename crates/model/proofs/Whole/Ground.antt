@@ -1,17 +1,15 @@
 -- N: what a task knows of the past, so that a no has its grounds. Whoever keeps a history says what was seen and hit; this layer only uses it.
-use Prim.Native.Nat.{ℕ, zero, suc, _<_, _≤_}
-use mathlib.Core.Bool.{Bool, true, false}
-use mathlib.Core.Path.{_≡_, refl}
+use Prim.Native.Nat.{ℕ, _<_, _≤_}
+use mathlib.Core.Bool.{true, false}
+use mathlib.Core.Path.{_≡_}
 use mathlib.Core.Logic.{_≢_}
 use mathlib.Core.List.{List}
 use lib.ListN.{length}
 use Rattle.model.specs.Lists.{at}
-use Rattle.model.specs.Word.{Word, fresh, Memory, statusOf, current, currentOf, Reading, loading, looking, fetching}
-use Rattle.model.specs.Exchange.{Entry, entry, Step, start, test, load, look, fetch, fail, mark, install, commit, save, clean, cleanMark, Exchange, entryAt, installed}
+use Rattle.model.specs.Word.{Word, fresh, Memory, current, currentOf, Reading, loading, looking, fetching}
+use Rattle.model.specs.Exchange.{Entry, Step, start, test, load, look, fetch, fail, mark, install, commit, save, clean, cleanMark, Exchange, entryAt, installed}
+use Rattle.model.proofs.Fit.Exchange.{entryOf, SamePairs}
 use Rattle.model.proofs.Whole.Act.{Act, free, reading, exchanging, actAt, stage, undecided, uncleaned, here}
-
-abbrev pub pairAt : List Entry → ℕ → Entry
-pairAt es e = at (entry 0 0 0) es e
 
 -- Of the operation of task r:
 -- seen r c v: cell c had the current value v at the beginning of one of its ticks;
@@ -24,17 +22,11 @@ pub record History : Type 1 where
 
 -- the grounds of a no: a value seen that is not the old one, or a hit
 pub data Grounds (seen : ℕ → ℕ → Type 0) (hit : ℕ → Type 0) (es : List Entry) : Type 0 where
-  differs : (e v : ℕ) → e < length es → seen (pairAt es e .cell) v → v ≢ pairAt es e .old → Grounds seen hit es
-  beaten : (e : ℕ) → e < length es → hit (pairAt es e .cell) → Grounds seen hit es
+  differs : (e v : ℕ) → e < length es → seen (entryOf es e .cell) v → v ≢ entryOf es e .old → Grounds seen hit es
+  beaten : (e : ℕ) → e < length es → hit (entryOf es e .cell) → Grounds seen hit es
 
 abbrev pub GroundsOf : History → ℕ → Type 0
 GroundsOf H r = Grounds (H .seen r) (H .hit r) (H .pairs r)
-
-pub record SamePairs (es fs : List Entry) : Type 0 where
-  pub size : length fs ≡ length es
-  pub cell : (e : ℕ) → pairAt fs e .cell ≡ pairAt es e .cell
-  pub old : (e : ℕ) → pairAt fs e .old ≡ pairAt es e .old
-  pub new : (e : ℕ) → pairAt fs e .new ≡ pairAt es e .new
 
 -- an uncleaned entry of the exchange has replaced that content of cell c
 pub record Replaces (x : Exchange) (c : ℕ) (w : Word) : Type 0 where
@@ -73,7 +65,7 @@ module _ (counts : ℕ → Word → Type 0) (seen : ℕ → ℕ → Type 0) (hit
 
 module _ (below : ℕ → ℕ → Type 0) (H : History) (cells : List Word) (status : List ℕ) (saves : List (List ℕ)) (acts : List Act) (r : ℕ) where
   pub record PastExchange (x : Exchange) : Type 0 where
-    pub pairs : SamePairs (H .pairs r) (x .entries)
+    pub pairs : SamePairs (x .entries) (H .pairs r)
     pub counts : (e : ℕ) → uncleaned (stage x) ≤ e → e < x .i → CountsOn below (H .hit r) cells acts r (entryAt x e .cell) (installed r (entryAt x e) e)
     pub grounds : undecided (stage x) ≡ true → at 0 status r ≢ 0 → GroundsOf H r
     pub at-step : PastStep (CountsOn below (H .hit r) cells acts r) (H .seen r) (H .hit r) (GroundsOf H r) status saves x (x .step)
@@ -88,20 +80,27 @@ module _ (below : ℕ → ℕ → Type 0) (H : History) (cells : List Word) (sta
   PastAct (reading c s) = PastReading c s
   PastAct (exchanging x) = PastExchange x
 
-abbrev pub Past : (ℕ → ℕ → Type 0) → History → Memory → List Act → Type 0
-Past below H m acts = (r : ℕ) → PastAct below H (m .cells) (m .status) (m .saves) acts r (actAt acts r)
+-- N, for all tasks
+pub record Past (below : ℕ → ℕ → Type 0) (H : History) (m : Memory) (acts : List Act) : Type 0 where
+  pub knows : (r : ℕ) → PastAct below H (m .cells) (m .status) (m .saves) acts r (actAt acts r)
 
 -- WHAT IS ASKED OF A HISTORY
 pub record Busy (acts : List Act) (r : ℕ) : Type 0 where
   pub exchange : Exchange
   pub act : actAt acts r ≡ exchanging exchange
 
--- H before and H′ after a tick of p, the memory being m at its beginning. Of tasks that do nothing to cells nothing is asked.
-pub record Passes (below : ℕ → ℕ → Type 0) (m : Memory) (acts : List Act) (p : ℕ) (H H′ : History) : Type 0 where
-  pub now : (c : ℕ) → H′ .seen p c (currentOf m c)
+-- H before and H′ after a tick of p. Of tasks that do nothing to cells nothing is asked.
+pub record Passes (below : ℕ → ℕ → Type 0) (acts : List Act) (p : ℕ) (H H′ : History) : Type 0 where
   pub seen : (r c v : ℕ) → actAt acts r ≢ free → H .seen r c v → H′ .seen r c v
   pub hit : (r c : ℕ) → Busy acts r → H .hit r c → H′ .hit r c
   pub pairs : (r : ℕ) → Busy acts r → H′ .pairs r ≡ H .pairs r
   -- of two tasks in an operation the lower one began first: what hit p has hit it, and so has p's own exchange
   pub down : (r c : ℕ) → Busy acts r → Busy acts p → below r p → H .hit p c → H′ .hit r c
-  pub mine : (r e : ℕ) → Busy acts r → Busy acts p → below r p → e < length (H .pairs p) → pairAt (H .pairs p) e .old ≢ pairAt (H .pairs p) e .new → H′ .hit r (pairAt (H .pairs p) e .cell)
+  pub mine : (r e : ℕ) → Busy acts r → Busy acts p → below r p → e < length (H .pairs p) → entryOf (H .pairs p) e .old ≢ entryOf (H .pairs p) e .new → H′ .hit r (entryOf (H .pairs p) e .cell)
+
+-- the memory being m at the beginning of the tick, p's operation sees it
+abbrev pub SeesNow : Memory → ℕ → History → Type 0
+SeesNow m p H′ = (c : ℕ) → H′ .seen p c (currentOf m c)
+
+pub past-at-first : {below : ℕ → ℕ → Type 0} {H : History} {m : Memory} (acts : List Act) → ((p : ℕ) → actAt acts p ≡ free) → Past below H m acts
+past-at-first acts f = record { knows = λ r. rw (f r) tt }

@@ -1,19 +1,19 @@
 -- N carried over a statement of the running task, for all tasks at once.
-use Prim.Native.Nat.{ℕ, zero, suc, _<_, _≤_}
-use mathlib.Core.Bool.{Bool, true, false, true≢false}
-use mathlib.Core.Path.{_≡_, refl, sym, _∙_, ap, subst}
+use Prim.Native.Nat.{ℕ, _<_}
+use mathlib.Core.Bool.{true, true≢false}
+use mathlib.Core.Path.{_≡_, refl, sym, _∙_, ap}
 use mathlib.Core.Logic.{_≢_, _⊎_, inl, inr}
 use mathlib.Core.List.{List}
 use native.Mathlib.Omega.{arith}
-use lib.ListN.{length}
 use Rattle.model.specs.Lists.{at, replace}
-use Rattle.model.specs.Word.{Word, fresh, Memory, cellOf, statusOf, current, currentOf, Reading, loading, looking, fetching}
+use Rattle.model.specs.Word.{Word, Memory, cellOf, statusOf, current, loading, looking, fetching}
 use Rattle.model.specs.Exchange.{Entry, Step, start, test, load, look, fetch, fail, mark, install, commit, save, clean, cleanMark, Exchange, entryAt, installed}
 use Rattle.model.proofs.Lists.{replace-same, replace-other, same?}
-use Rattle.model.proofs.Whole.Act.{Act, free, reading, exchanging, actAt, Quiet, stage, undecided, here}
-use Rattle.model.proofs.Whole.Invariant.{WellFormed, valid, held, AtStep, InExchange, InReading, Knows, Rank, itself, idle, lower, Situation}
-use Rattle.model.proofs.Whole.Frame.{Frame, current-frame, lower-clear, Moved}
-use Rattle.model.proofs.Whole.Ground.{pairAt, History, Grounds, differs, beaten, GroundsOf, SamePairs, Replaces, ReplacedBy, CountsOn, there, replaced, was-hit, PastStep, PastExchange, PastReading, PastAct, Past, Busy, Passes}
+use Rattle.model.proofs.Whole.Act.{Act, free, reading, exchanging, actAt, stage, undecided}
+use Rattle.model.proofs.Whole.Invariant.{WellFormed, valid, held, AtStep, InExchange, Knows, Rank, itself, idle, lower, Situation}
+use Rattle.model.proofs.Whole.Frame.{current-frame, lower-clear, Moved}
+use Rattle.model.proofs.Fit.Exchange.{SamePairs}
+use Rattle.model.proofs.Whole.Ground.{History, Grounds, differs, beaten, GroundsOf, ReplacedBy, CountsOn, there, replaced, was-hit, PastStep, PastExchange, PastAct, Past, Busy, Passes}
 
 -- one of the cells that the exchange has come to was hit
 pub record HitBelow (hit : ℕ → Type 0) (z : Exchange) : Type 0 where
@@ -28,8 +28,8 @@ pub record UpholdsPast (below : ℕ → ℕ → Type 0) (H′ : History) (m n : 
   pub marked : (r : ℕ) → r ≢ p → (statusOf n r ≡ statusOf m r) ⊎ ((z : Exchange) → actAt acts r ≡ exchanging z → below r p → HitBelow (H′ .hit r) z)
   pub own : PastAct below H′ (n .cells) (n .status) (n .saves) (replace acts p v) p v
 
-module _ {below : ℕ → ℕ → Type 0} {m : Memory} {acts : List Act} {p : ℕ} {H H′ : History} (T : Passes below m acts p H H′) where
-  busy-not-free : {r : ℕ} → Busy acts r → actAt acts r ≢ free
+module _ {below : ℕ → ℕ → Type 0} {acts : List Act} {p : ℕ} {H H′ : History} (T : Passes below acts p H H′) where
+  pub busy-not-free : {r : ℕ} → Busy acts r → actAt acts r ≢ free
   busy-not-free B f = let z : _≡_ {A = ℕ} 0 1 = cc (B .act) in omega arith
 
   pub grounds-later : {r : ℕ} → Busy acts r → GroundsOf H r → GroundsOf H′ r
@@ -39,13 +39,13 @@ module _ {below : ℕ → ℕ → Type 0} {m : Memory} {acts : List Act} {p : �
       go (differs e v l s ne) = differs e v l (T .seen r _ v (busy-not-free B) s) ne
       go (beaten e l h) = beaten e l (T .hit r _ B h)
 
-  pub pairs-later : {r : ℕ} {fs : List Entry} → Busy acts r → SamePairs (H .pairs r) fs → SamePairs (H′ .pairs r) fs
+  pub pairs-later : {r : ℕ} {fs : List Entry} → Busy acts r → SamePairs fs (H .pairs r) → SamePairs fs (H′ .pairs r)
   pairs-later {r} B P = rw (T .pairs r B) P
 
   pub seen-later : {r : ℕ} {c v : ℕ} → Busy acts r → H .seen r c v → H′ .seen r c v
   seen-later {r} {c} {v} B s = T .seen r c v (busy-not-free B) s
 
-module _ {below : ℕ → ℕ → Type 0} {m : Memory} {acts : List Act} {p : ℕ} {v₀ : Act} (S : Situation below m acts p v₀) {H H′ : History} (T : Passes below m acts p H H′) {n : Memory} {v : Act} (M : Moved below m n acts p v) (U : UpholdsPast below H′ m n acts p v₀ v) where
+module _ {below : ℕ → ℕ → Type 0} {m : Memory} {acts : List Act} {p : ℕ} {v₀ : Act} (S : Situation below m acts p v₀) {H H′ : History} (T : Passes below acts p H H′) {n : Memory} {v : Act} (M : Moved below m n acts p v) (U : UpholdsPast below H′ m n acts p v₀ v) where
   -- a task r below p
   module _ (r : ℕ) (b : below r p) (ne : r ≢ p) where
     counts-later : (c : ℕ) (w : Word) → Busy acts r → ((e : Entry) (i : ℕ) → w ≢ installed p e i) → CountsOn below (H .hit r) (m .cells) acts r c w → CountsOn below (H′ .hit r) (n .cells) (replace acts p v) r c w
@@ -115,11 +115,13 @@ module _ {below : ℕ → ℕ → Type 0} {m : Memory} {acts : List Act} {p : �
     lower-later (exchanging x) e k h = exchange-later x e k h
 
   pub past-after : Past below H m acts → Past below H′ n (replace acts p v)
-  past-after P r = same? r p
-      (λ k. rw (k, replace-same free acts p v (S .task)) (U .own))
-      (λ ne. rw (replace-other free acts p r v ne) (go ne (S .rank r)))
+  past-after P = record {
+    knows = λ r. same? r p
+        (λ k. rw (k, replace-same free acts p v (S .task)) (U .own))
+        (λ ne. rw (replace-other free acts p r v ne) (go r ne (S .rank r)));
+  }
     where
-      go : r ≢ p → Rank below acts p r → PastAct below H′ (n .cells) (n .status) (n .saves) (replace acts p v) r (actAt acts r)
-      go ne (itself e) = absurd (ne e)
-      go ne (idle i) = rw i tt
-      go ne (lower b) = lower-later r b ne (actAt acts r) refl (S .invariant .knows r) (P r)
+      go : (r : ℕ) → r ≢ p → Rank below acts p r → PastAct below H′ (n .cells) (n .status) (n .saves) (replace acts p v) r (actAt acts r)
+      go r ne (itself e) = absurd (ne e)
+      go r ne (idle i) = rw i tt
+      go r ne (lower b) = lower-later r b ne (actAt acts r) refl (S .invariant .knows r) (P .knows r)

@@ -1,7 +1,7 @@
 -- The invariants of the exchange layer: O (contents), H, S and M (what each task knows), L (what stands). And the situation of a statement.
-use Prim.Native.Nat.{ℕ, zero, suc, _<_, _≤_}
-use mathlib.Core.Bool.{Bool, true, false, not}
-use mathlib.Core.Path.{_≡_, refl}
+use Prim.Native.Nat.{ℕ, _<_, _≤_}
+use mathlib.Core.Bool.{true, false, not}
+use mathlib.Core.Path.{_≡_}
 use mathlib.Core.Logic.{_≢_, _⊎_}
 use mathlib.Core.List.{List, []}
 use lib.Dec.{eqb}
@@ -9,7 +9,7 @@ use lib.ListN.{length}
 use Rattle.model.specs.Lists.{at}
 use Rattle.model.specs.Word.{Word, fresh, Memory, cellOf, saved, own, current, Reading, loading, looking, fetching}
 use Rattle.model.specs.Exchange.{Entry, entry, Step, start, test, load, look, fetch, fail, mark, install, commit, save, clean, cleanMark, Exchange, entryAt, installed}
-use Rattle.model.proofs.Whole.Act.{Act, free, reading, exchanging, actAt, Stage, working, stage, undecided, hopeful, uncleaned, covering, here, Distinct}
+use Rattle.model.proofs.Whole.Act.{Act, free, reading, exchanging, actAt, working, stage, undecided, hopeful, uncleaned, covering, here, Distinct}
 
 -- CONTENTS
 -- the word stands in cell c for an uncleaned entry of its task's exchange

@@ -1,19 +1,17 @@
 -- O, H, S and M are kept: by a task in no exchange (readings, Start, whatever touches no cell), and by every outcome of an exchange's tick.
-use Prim.Native.Nat.{ℕ, zero, suc, _<_, _≤_}
+use Prim.Native.Nat.{ℕ, _<_}
 use mathlib.Core.Bool.{Bool, true, false}
 use mathlib.Core.Path.{_≡_, refl, sym, _∙_, ap, subst}
-use mathlib.Core.Logic.{_≢_}
 use mathlib.Core.List.{List}
 use native.Mathlib.Omega.{arith}
-use lib.ListN.{length}
-use Rattle.model.specs.Lists.{at, replace}
-use Rattle.model.specs.Word.{Word, Memory, cellOf, statusOf, setStatus, own, Reading, loading, looking, fetching, Read, reads, gives, lookBy, readTick}
+use Rattle.model.specs.Lists.{replace}
+use Rattle.model.specs.Word.{Word, Memory, cellOf, setStatus, own, Reading, loading, looking, fetching, Read, reads, gives, lookBy, readTick}
 use Rattle.model.specs.Exchange.{Entry, start, test, Exchange, Exchanged}
 use Rattle.model.proofs.Lists.{replace-same}
 use Rattle.model.proofs.Whole.Act.{Act, free, reading, exchanging, actAt, actAfter, memoryAfter, Quiet, Distinct}
-use Rattle.model.proofs.Whole.Invariant.{Held, WellFormed, valid, held, Anyone, Knows, Rank, itself, idle, lower, Situation, Room}
+use Rattle.model.proofs.Whole.Invariant.{WellFormed, valid, held, Anyone, Knows, Rank, itself, idle, lower, Situation, Room}
 use Rattle.model.proofs.Whole.Outcome.{Outcome, starts, tests-done, tests-on, loads, looks-own, looks-other, fetches, saves-differing, saves-to-mark, saves, fails, marks, installs, misses, decides, decides-last, cleans, cleans-last, cleans-to-mark}
-use Rattle.model.proofs.Whole.Frame.{Frame, frame-none, frame-status, move-content, own-frame, Moved, below-clear}
+use Rattle.model.proofs.Whole.Frame.{Frame, frame-none, frame-status, move-content, Moved, below-clear}
 use Rattle.model.proofs.Whole.Early.{at-step-as}
 use Rattle.model.proofs.Whole.Statement.{test-done-moved, test-on-moved, load-moved, look-own-moved, look-other-moved, fetch-moved, fail-moved, mark-moved, save-differing-moved, save-to-mark-moved, save-on-moved, miss-moved, install-moved}
 use Rattle.model.proofs.Whole.Clean.{decides-moved, decides-last-moved, cleaned-at, cleans-moved, cleans-last-moved, cleans-to-mark-moved}
@@ -81,7 +79,7 @@ module _ {below : ℕ → ℕ → Type 0} {m : Memory} {acts : List Act} {p : �
   pub exchange-moved : {o : Exchanged} → Outcome p m x o → Moved below m (memoryAfter o) acts p (actAfter o)
   exchange-moved (starts s) = absurd (at-step-as S start s)
   exchange-moved (tests-done s h) = test-done-moved S s h
-  exchange-moved (tests-on s ne one) = test-on-moved S s ne
+  exchange-moved (tests-on s h) = test-on-moved S s (h .0)
   exchange-moved (loads s) = load-moved S s
   exchange-moved (looks-own s w) = look-own-moved S s w
   exchange-moved (looks-other s w) = look-other-moved S s w

@@ -1,18 +1,16 @@
 -- The theorem of the exchange layer: the invariant holds at first, and every statement of the running task keeps it.
-use Prim.Native.Nat.{ℕ, zero, suc, _<_, _≤_}
-use mathlib.Core.Bool.{Bool, true, false, true≢false}
-use mathlib.Core.Path.{_≡_, refl, sym, _∙_, ap, subst}
-use mathlib.Core.Logic.{_≢_, _⊎_, inl, inr}
+use Prim.Native.Nat.{ℕ, _<_}
+use mathlib.Core.Bool.{true}
+use mathlib.Core.Path.{_≡_, refl, sym, subst}
 use mathlib.Core.List.{List}
 use native.Mathlib.Omega.{arith}
-use lib.ListN.{length}
 use Rattle.model.specs.Lists.{at, replace}
-use Rattle.model.specs.Word.{Word, Memory, memory, cellOf, setStatus, Reading, loading, looking, fetching, Read, reads, gives, readTick}
-use Rattle.model.specs.Exchange.{Entry, Step, start, test, load, look, fetch, fail, mark, install, commit, save, clean, cleanMark, Exchange, Exchanged, exchangeTick, entryAt, installed}
+use Rattle.model.specs.Word.{Word, Memory, memory, cellOf, setStatus, Reading, looking, Read, reads, gives, readTick}
+use Rattle.model.specs.Exchange.{Entry, Step, start, test, Exchange, Exchanged, exchangeTick}
 use Rattle.model.proofs.Whole.Act.{Act, free, reading, exchanging, actAt, actBy, actOf, actAfter, started?, memoryAfter, Quiet, Distinct}
-use Rattle.model.proofs.Whole.Invariant.{Held, WellFormed, valid, held, Loaded, Found, Settled, AtStep, InExchange, InReading, Knows, Covers, CoveredBy, Stands, stands, covered, Standing, Invariant, Situation, Room}
+use Rattle.model.proofs.Whole.Invariant.{valid, Invariant, Situation, Room}
 use Rattle.model.proofs.Whole.Outcome.{Outcome, outcome}
-use Rattle.model.proofs.Whole.Frame.{Frame, frame-none, Moved}
+use Rattle.model.proofs.Whole.Frame.{frame-none}
 use Rattle.model.proofs.Whole.Kept.{quiet-moved, start-moved, read-loaded, actRead, reading-moved, exchange-moved}
 use Rattle.model.proofs.Whole.Standing.{stays, GivesBack, AllInstalled, Upholds, invariant-after}
 use Rattle.model.proofs.Whole.Upheld.{exchange-upholds}

@@ -1,5 +1,5 @@
 -- Rates: a reading takes 2 or 3 ticks of its task, an exchange of k entries at most 9k + 4, whatever the other tasks do in between.
-use Prim.Native.Nat.{ℕ, zero, suc, _+_, _*_, _<_, _≤_}
+use Prim.Native.Nat.{ℕ, suc, _+_, _*_, _<_, _≤_}
 use mathlib.Core.Bool.{Bool, true, false}
 use mathlib.Core.Path.{_≡_, refl, sym, _∙_, ap, subst}
 use mathlib.Core.Logic.{_≢_, _⊎_, inl, inr}
@@ -7,10 +7,10 @@ use mathlib.Core.List.{List}
 use native.Mathlib.Omega.{arith}
 use lib.ListN.{length}
 use Rattle.model.specs.Lists.{at, replace}
-use Rattle.model.specs.Word.{Word, Memory, cellOf, statusOf, own, Reading, loading, looking, fetching, Read, reads, gives, lookBy, readTick}
+use Rattle.model.specs.Word.{Word, Memory, cellOf, statusOf, own, Reading, loading, looking, fetching, reads, gives, lookBy, readTick}
 use Rattle.model.specs.Exchange.{Entry, Step, start, test, load, look, fetch, fail, mark, install, commit, save, clean, cleanMark, Exchange, exchangeOf, Exchanged, goes, ends, exchangeTick}
 use Rattle.model.proofs.Lists.{replace-same, length-replace}
-use Rattle.model.proofs.Whole.Outcome.{Decides, commits, refuses, Cleans, renews, passes, gives-back, leaves, marks-after, Outcome, starts, tests-done, tests-on, loads, looks-own, looks-other, fetches, saves-differing, saves-to-mark, saves, fails, marks, installs, misses, decides, decides-last, cleans, cleans-last, cleans-to-mark, outcome}
+use Rattle.model.proofs.Whole.Outcome.{Cleans, renews, passes, gives-back, leaves, marks-after, Outcome, starts, tests-done, tests-on, loads, looks-own, looks-other, fetches, saves-differing, saves-to-mark, saves, fails, marks, installs, misses, decides, decides-last, cleans, cleans-last, cleans-to-mark, outcome}
 
 -- READINGS
 -- a reading of cell c that has done t ticks and not ended, the memory being any at each of them
@@ -106,7 +106,7 @@ module _ {t k p : ℕ} {m : Memory} {x : Exchange} (h : Ticked t k p m x) where
   tick-most : {o : Exchanged} → p < length (m .status) → Outcome p m x o → AtMostAfter (suc t) k p o
   tick-most l (starts s) = let b = at-most-as start s in record { size = h .size; most = (omega arith, inl (omega arith)) }
   tick-most l (tests-done s e) = let b = at-most-as test s in record { size = h .size; most = tested (b .1) (b .0) }
-  tick-most l (tests-on s ne one) = let b = at-most-as test s in record { size = h .size; most = (omega (arith, b .0, h .size), tested-on (b .1) one) }
+  tick-most l (tests-on s g) = let b = at-most-as test s in record { size = h .size; most = (omega (arith, b .0, h .size, g .0), tested-on (b .1) (g .1)) }
   tick-most l (loads s) = let b = at-most-as load s in record { size = noted-length _; most = (b .0, omega (arith, b .1)) }
   tick-most l (looks-own s w) = let b = at-most-as look s in record { size = noted-length _; most = (b .0, omega (arith, b .1)) }
   tick-most l (looks-other s w) = let b = at-most-as look s in record { size = noted-length _; most = (b .0, omega (arith, b .1)) }

@@ -1,18 +1,16 @@
 -- L: what is asked of a statement so that all that the tasks have installed goes on to stand or to be covered.
-use Prim.Native.Nat.{ℕ, zero, suc, _<_, _≤_}
-use mathlib.Core.Bool.{Bool, true, false, not, true≢false}
+use Prim.Native.Nat.{ℕ, _<_}
+use mathlib.Core.Bool.{true, false, true≢false}
 use mathlib.Core.Path.{_≡_, refl, sym, _∙_, ap, subst}
 use mathlib.Core.Logic.{_≢_}
 use mathlib.Core.List.{List}
-use native.Mathlib.Omega.{arith}
-use lib.ListN.{length}
 use Rattle.model.specs.Lists.{at, replace}
-use Rattle.model.specs.Word.{Word, fresh, Memory, cellOf, statusOf, Reading}
-use Rattle.model.specs.Exchange.{Entry, Step, Exchange, entryAt, installed, to}
+use Rattle.model.specs.Word.{Word, fresh, Memory, cellOf, statusOf}
+use Rattle.model.specs.Exchange.{Exchange, entryAt, installed}
 use Rattle.model.proofs.Lists.{replace-same, replace-other, same?}
-use Rattle.model.proofs.Whole.Act.{Act, free, reading, exchanging, actAt, Stage, stageOf, stage, hopeful, covering}
-use Rattle.model.proofs.Whole.Invariant.{Held, WellFormed, valid, held, InExchange, Knows, Covers, CoveredBy, Stands, stands, covered, Standing, Invariant, Rank, itself, idle, lower, Situation}
-use Rattle.model.proofs.Whole.Frame.{Frame, kept-zero, nobody-above, Moved, assemble}
+use Rattle.model.proofs.Whole.Act.{Act, free, reading, exchanging, actAt, stage, hopeful}
+use Rattle.model.proofs.Whole.Invariant.{WellFormed, valid, held, Knows, Covers, CoveredBy, Stands, stands, covered, Standing, Invariant, Rank, itself, idle, lower, Situation}
+use Rattle.model.proofs.Whole.Frame.{kept-zero, nobody-above, Moved, assemble}
 
 -- after the statement a content is in its cell, or covered by p
 pub data Keeps (n : Memory) (v : Act) (c : ℕ) (u : Word) : Type 0 where

@@ -1,21 +1,20 @@
 -- Test, Load, Look, Fetch, Save, Fail, Mark and Install keep O, H, S and M.
-use Prim.Native.Nat.{ℕ, zero, suc, _<_, _≤_}
-use mathlib.Core.Bool.{Bool, true, false, not, _&&_, true≢false}
-use mathlib.Core.Path.{_≡_, refl, sym, _∙_, ap, subst}
+use Prim.Native.Nat.{ℕ, suc, _<_}
+use mathlib.Core.Bool.{Bool, true, false, not, _&&_}
+use mathlib.Core.Path.{_≡_, refl, sym, _∙_, ap}
 use mathlib.Core.Logic.{_≢_, _⊎_, inl, inr}
 use mathlib.Core.List.{List, []}
 use native.Mathlib.Omega.{arith}
-use lib.Dec.{eqb}
 use lib.ListN.{length}
 use borrow.Author.Tests.{not-true}
 use Rattle.model.specs.Lists.{at, replace}
-use Rattle.model.specs.Word.{Word, fresh, Memory, cellOf, statusOf, saved, setCell, setStatus, setSave, own, current}
-use Rattle.model.specs.Exchange.{Entry, entry, Step, start, test, load, look, fetch, fail, mark, install, commit, save, clean, cleanMark, Exchange, entryAt, changing, installed, to, loaded, noted, onward}
+use Rattle.model.specs.Word.{fresh, Memory, cellOf, statusOf, saved, setCell, setStatus, setSave, own}
+use Rattle.model.specs.Exchange.{Entry, Step, test, load, look, fetch, fail, mark, install, commit, save, Exchange, changing, installed, to, loaded, noted, onward}
 use Rattle.model.proofs.Lists.{replace-same, replace-other, same?}
-use Rattle.model.proofs.Whole.Act.{Act, free, exchanging, actAt, Stage, working, stageOf, stage, undecided, uncleaned, here}
-use Rattle.model.proofs.Whole.Invariant.{Held, WellFormed, valid, held, Anyone, Loaded, Found, Settled, AtStep, InExchange, Situation, Room}
-use Rattle.model.proofs.Whole.Words.{and-true, current-own, current-other, changes, unchanging}
-use Rattle.model.proofs.Whole.Frame.{Frame, frame-none, frame-cell, frame-save, frame-status, frame-mark, mark-keeps, kept-not-two, move-content, current-frame, loaded-frame, found-frame, settled-frame, Moved, below-clear}
+use Rattle.model.proofs.Whole.Act.{Act, exchanging, working, stageOf, undecided, uncleaned, here}
+use Rattle.model.proofs.Whole.Invariant.{WellFormed, held, Anyone, Loaded, Found, AtStep, InExchange, Situation, Room}
+use Rattle.model.proofs.Whole.Words.{current-own, current-other, changes, unchanging}
+use Rattle.model.proofs.Whole.Frame.{frame-none, frame-cell, frame-save, frame-status, frame-mark, mark-keeps, kept-not-two, move-content, current-frame, loaded-frame, found-frame, settled-frame, Moved, below-clear}
 use Rattle.model.proofs.Whole.Early.{follows-to, follows-onward, noted-here, follows-noted, from-zero, mine, at-step-as, keep-content, held-on, loaded-content, replaced-status, early-moved, early-quiet}
 
 module _ {below : ℕ → ℕ → Type 0} {m : Memory} {acts : List Act} {p : ℕ} {x : Exchange} (S : Situation below m acts p (exchanging x)) where

@@ -1,18 +1,17 @@
 -- Every outcome of an exchange's tick upholds L.
-use Prim.Native.Nat.{ℕ, zero, suc, _<_, _≤_}
+use Prim.Native.Nat.{ℕ, suc, _<_}
 use mathlib.Core.Bool.{Bool, true, false, not, _&&_, true≢false}
 use mathlib.Core.Path.{_≡_, refl, sym, _∙_, ap}
 use mathlib.Core.Logic.{_≢_}
 use mathlib.Core.List.{List}
 use native.Mathlib.Omega.{arith}
-use lib.ListN.{length}
 use Rattle.model.specs.Word.{Word, fresh, Memory, cellOf, statusOf, setCell}
 use Rattle.model.specs.Exchange.{Step, start, test, load, look, fetch, fail, mark, install, commit, save, clean, cleanMark, Exchange, Exchanged, entryAt, changing, installed, to, onward}
 use Rattle.model.proofs.Lists.{replace-same, replace-other, same?}
 use Rattle.model.proofs.Whole.Act.{Act, free, exchanging, actAfter, memoryAfter, stageOf, stage, hopeful, covering, here}
-use Rattle.model.proofs.Whole.Invariant.{Settled, Covers, Situation, Room}
+use Rattle.model.proofs.Whole.Invariant.{Covers, Situation, Room}
 use Rattle.model.proofs.Whole.Words.{and-true, changes, not-counting}
-use Rattle.model.proofs.Whole.Outcome.{Decides, commits, refuses, Cleans, renews, passes, gives-back, leaves, marks-after, Outcome, starts, tests-done, tests-on, loads, looks-own, looks-other, fetches, saves-differing, saves-to-mark, saves, fails, marks, installs, misses, decides, decides-last, cleans, cleans-last, cleans-to-mark}
+use Rattle.model.proofs.Whole.Outcome.{Cleans, renews, passes, gives-back, leaves, marks-after, Outcome, starts, tests-done, tests-on, loads, looks-own, looks-other, fetches, saves-differing, saves-to-mark, saves, fails, marks, installs, misses, decides, decides-last, cleans, cleans-last, cleans-to-mark}
 use Rattle.model.proofs.Whole.Frame.{mark-keeps, kept-zero, below-clear}
 use Rattle.model.proofs.Whole.Early.{Follows, follows-to, follows-noted, mine, at-step-as, replaced-status}
 use Rattle.model.proofs.Whole.Clean.{decided-cells, clean-entry, clean-settled}
@@ -130,7 +129,7 @@ module _ {below : ℕ → ℕ → Type 0} {m : Memory} {acts : List Act} {p : �
     pub exchange-upholds : {o : Exchanged} → Outcome p m x o → Upholds below m (memoryAfter o) p (exchanging x) (actAfter o)
     exchange-upholds (starts s) = absurd (at-step-as S start s)
     exchange-upholds (tests-done s h) = same-upholds (to x commit) (follows-to x commit) refl (rw s) refl (λ k st. (rw s, st))
-    exchange-upholds (tests-on s ne one) = same-upholds (to x load) (follows-to x load) refl (rw s) refl (λ k st. (rw s, st))
+    exchange-upholds (tests-on s h) = same-upholds (to x load) (follows-to x load) refl (rw s) refl (λ k st. (rw s, st))
     exchange-upholds (loads s) = same-upholds _ (follows-noted x _ false look (mine S .at-entry (rw s))) refl (rw s) refl (λ k st. (rw s, st))
     exchange-upholds (looks-own s w) = same-upholds _ (follows-noted x _ false _ (mine S .at-entry (rw s))) refl (rw s) refl (λ k st. (rw s, st))
     exchange-upholds (looks-other s w) = same-upholds _ (follows-noted x _ true fetch (mine S .at-entry (rw s))) refl (rw s) refl (λ k st. (rw s, st))
