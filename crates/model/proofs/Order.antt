@@ -9,4 +9,5 @@ pub mod Moves
 pub mod Statement
 pub mod Noted
 pub mod Linked
+pub mod Ticks
 pub mod Example
