@@ -10,4 +10,6 @@ pub mod Statement
 pub mod Noted
 pub mod Linked
 pub mod Ticks
+pub mod Hit
+pub mod Owed
 pub mod Example
