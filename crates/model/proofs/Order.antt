@@ -12,4 +12,5 @@ pub mod Linked
 pub mod Ticks
 pub mod Hit
 pub mod Owed
+pub mod Theorem
 pub mod Example
