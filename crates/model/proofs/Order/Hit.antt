@@ -1,16 +1,16 @@
 -- The free answer's ground while the operation is still open: a higher task's exchange with a changing pair on a word began after it.
-use Prim.Native.Nat.{ℕ, suc, _<_, _≤_}
-use mathlib.Core.Bool.{Bool, true, false}
-use mathlib.Core.Path.{_≡_, refl, sym, _∙_, ap}
+use Prim.Native.Nat.{ℕ, _<_}
+use mathlib.Core.Bool.{Bool}
+use mathlib.Core.Path.{_≡_, refl, _∙_}
 use mathlib.Core.Logic.{_≢_}
 use mathlib.Core.List.{List}
 use mathlib.Core.Option.{some}
 use native.Mathlib.Omega.{arith}
 use Rattle.model.specs.Job.{Task}
-use Rattle.model.specs.Plain.{Pair, Arguments, swapOf}
+use Rattle.model.specs.Plain.{Pair, swapOf}
 use Rattle.model.specs.History.{Operation, History, operationAt}
-use Rattle.model.specs.Claim.{Among, Interfered}
-use Rattle.model.proofs.Order.Advance.{Amended, Advance, Carried, kept, amended, carried}
+use Rattle.model.specs.Claim.{Among}
+use Rattle.model.proofs.Order.Advance.{Advance, Carried, kept, amended, carried}
 use Rattle.model.proofs.Order.Noted.{latestOf}
 use Rattle.model.proofs.Order.Linked.{Open, Inside, givenTo, Linked}
 

@@ -1,12 +1,9 @@
 -- A run and its history in step: both are so many ticks one after the other.
 use Prim.Native.Nat.{ℕ, zero, suc, _+_, _≤_}
-use mathlib.Core.Bool.{Bool, true, false}
-use mathlib.Core.Path.{_≡_, refl, sym, _∙_, ap}
-use mathlib.Core.List.{List, [], _∷_}
+use mathlib.Core.Bool.{true, false}
+use mathlib.Core.Path.{_≡_, refl}
 use native.Mathlib.Omega.{arith}
-use lib.Dec.{eqb}
-use Rattle.model.specs.Command.{Release}
-use Rattle.model.specs.Machine.{Machine, Running, nobody, running, runningOf, releaseBy, arriveBy, arrive, move, moveAny, tick, over, runBy, run, unfinished, taskAt}
+use Rattle.model.specs.Machine.{Machine, runningOf, arrive, move, moveAny, tick, over, runBy, run}
 use Rattle.model.specs.History.{History, noHistory, observed, observedTick, historyBy, historyFrom, historyOf}
 use Rattle.model.proofs.Lists.{test?}
 

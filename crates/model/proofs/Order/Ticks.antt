@@ -1,27 +1,26 @@
--- Every tick keeps history and machine linked, and advances the history by at most one operation.
-use Prim.Native.Nat.{ℕ, zero, suc, _+_, _<_, _≤_}
-use mathlib.Core.Bool.{Bool, true, false}
+-- Every tick keeps history and machine linked, and move-advances the history by at most one operation.
+use Prim.Native.Nat.{ℕ, zero, suc, _<_}
+use mathlib.Core.Bool.{Bool}
 use mathlib.Core.Path.{_≡_, refl, sym, _∙_, ap, subst}
 use mathlib.Core.Logic.{_≢_, _⊎_, inl, inr}
-use mathlib.Core.List.{List, [], _∷_}
+use mathlib.Core.List.{List}
 use mathlib.Core.Option.{Option, none, some}
 use native.Mathlib.Decide.{decLt}
 use native.Mathlib.Omega.{arith}
-use lib.ListN.{length, replicate, length-replicate}
+use lib.ListN.{length}
 use Rattle.model.specs.Lists.{at, replace}
-use Rattle.model.specs.Word.{Memory}
-use Rattle.model.specs.Job.{Phase, idle, plain, Task, started, ticked}
-use Rattle.model.specs.Machine.{Machine, noTask, taskAt, Running, nobody, running, runningOf, arrive, move, moveAny, statement}
+use Rattle.model.specs.Job.{idle, Task, ticked}
+use Rattle.model.specs.Machine.{Machine, noTask, taskAt, Running, nobody, running, runningOf, move, statement}
 use Rattle.model.specs.Plain.{Arguments}
-use Rattle.model.specs.History.{Operation, History, noHistory, operationAt, nothing, noted, eventOf, observed, observedTick}
+use Rattle.model.specs.History.{History, operationAt, nothing, observed}
 use Rattle.model.proofs.Lists.{same?, replace-same, replace-other, length-replace}
 use Rattle.model.proofs.Order.Steps.{stateAfter, arrivedAt, historyAfter, state-next, history-next}
 use Rattle.model.proofs.Order.Arrive.{TaskArrived, waits, starts, Arrived, arrived, Runs, runs, none-runs}
 use Rattle.model.proofs.Order.Advance.{Advance, same}
-use Rattle.model.proofs.Order.Moves.{given, hasCommitted, settling, Moves, MovesBy, outside}
+use Rattle.model.proofs.Order.Moves.{given, hasCommitted}
 use Rattle.model.proofs.Order.Statement.{moves}
-use Rattle.model.proofs.Order.Noted.{latestOf, number-below, noted-nothing, size-nothing, latest-size, latest-nothing}
-use Rattle.model.proofs.Order.Linked.{Open, OpenBy, Inside, givenTo, Linked, Next, next}
+use Rattle.model.proofs.Order.Noted.{latestOf, number-below, noted-nothing, size-nothing, latest-size}
+use Rattle.model.proofs.Order.Linked.{OpenBy, Inside, givenTo, Linked, Next, next}
 
 -- a task whose release has come stands where it stood: outside
 given-arrived : {t t′ : Task} → TaskArrived t t′ → given (t′ .phase) ≡ given (t .phase)
@@ -108,28 +107,28 @@ module _ {u p : ℕ} {ts : List Task} {h h′ : History} (r : Runs ts p) (l : Li
   linked-runs = record { size = n .size; latest = n .latest; opened = opened′; nested = nested′ }
 
 -- THE MACHINE with its history
-pub record Going (m : Machine) (h : History) : Type 0 where
+pub record MachineLinked (m : Machine) (h : History) : Type 0 where
   pub size : length (m .tasks) ≡ 8
   pub linked : Linked (m .now) (m .tasks) h
 
-pub going-arrived : {m m′ : Machine} {h : History} → Arrived m m′ → Going m h → Going m′ h
-going-arrived {m} {m′} {h} a g = record { size = a .size ∙ g .size; linked = subst (λ (z : ℕ). Linked z (m′ .tasks) h) (sym (a .now)) (linked-arrived a (g .linked)) }
+pub arrive-linked : {m m′ : Machine} {h : History} → Arrived m m′ → MachineLinked m h → MachineLinked m′ h
+arrive-linked {m} {m′} {h} a g = record { size = a .size ∙ g .size; linked = subst (λ (z : ℕ). Linked z (m′ .tasks) h) (sym (a .now)) (linked-arrived a (g .linked)) }
 
 -- what the running task p's tick does to the history
-module _ {m : Machine} {h : History} (g : Going m h) where
+module _ {m : Machine} {h : History} (g : MachineLinked m h) where
   pub next-of : (p : ℕ) → Runs (m .tasks) p → Next (m .now) p h (observed m (running p) h) (givenTo (m .tasks) p) (given (statement p (m .memory) (taskAt (m .tasks) p) (taskAt (m .tasks) p .phase) .task .phase)) (hasCommitted (statement p (m .memory) (taskAt (m .tasks) p) (taskAt (m .tasks) p .phase) .task .phase))
   unfolding observed
   next-of p r = let below : p < 8 = omega (arith, r .below, g .size) in
       next (m .now) p h (g .linked .size) (g .linked .latest) below (moves (m .now) p (m .memory) (taskAt (m .tasks) p) (taskAt (m .tasks) p .phase) refl) (g .linked .opened p)
 
-  pub advances : (r : Running) → runningOf (m .tasks) ≡ r → Advance (m .now) h (observed m r h)
+  pub move-advances : (r : Running) → runningOf (m .tasks) ≡ r → Advance (m .now) h (observed m r h)
   unfolding observed
-  advances nobody e = same (noted-nothing (m .now) 0 h (g .linked .size))
-  advances (running p) e = next-of p (runs (m .tasks) p e) .advance
+  move-advances nobody e = same (noted-nothing (m .now) 0 h (g .linked .size))
+  move-advances (running p) e = next-of p (runs (m .tasks) p e) .advance
 
-  pub goes-on : (r : Running) → runningOf (m .tasks) ≡ r → Going (move m r) (observed m r h)
+  pub move-linked : (r : Running) → runningOf (m .tasks) ≡ r → MachineLinked (move m r) (observed m r h)
   unfolding observed move
-  goes-on nobody e = record {
+  move-linked nobody e = record {
     size = g .size;
     linked = record {
       size = size-nothing (m .now) 0 h (g .linked .size);
@@ -138,7 +137,7 @@ module _ {m : Machine} {h : History} (g : Going m h) where
       nested = λ q s lt i j. absurd (rw (none-runs (m .tasks) e q) at i);
     };
   }
-  goes-on (running p) e =
+  move-linked (running p) e =
       let r = runs (m .tasks) p e in
       let b = m .tasks in
       let t = statement p (m .memory) (taskAt b p) (taskAt b p .phase) .task in
@@ -168,9 +167,9 @@ module _ {m : Machine} (s : Started m) where
   pub arrived-now : (t : ℕ) → arrivedAt m t .now ≡ t
   arrived-now t = arrived-at m t .now ∙ now-is t
 
-  pub going : (t : ℕ) → Going (stateAfter m t) (historyAfter m t)
+  pub machine-linked : (t : ℕ) → MachineLinked (stateAfter m t) (historyAfter m t)
   unfolding stateAfter historyAfter
-  going zero = record {
+  machine-linked zero = record {
     size = s .size;
     linked = record {
       size = sym (s .now);
@@ -179,11 +178,11 @@ module _ {m : Machine} (s : Started m) where
       nested = λ p q lt i j. absurd (rw (s .idle p) at i);
     };
   }
-  going (suc t) = rw (state-next m t, history-next m t) (goes-on (going-arrived (arrived-at m t) (going t)) (runningOf (arrivedAt m t .tasks)) refl)
+  machine-linked (suc t) = rw (state-next m t, history-next m t) (move-linked (arrive-linked (arrived-at m t) (machine-linked t)) (runningOf (arrivedAt m t .tasks)) refl)
 
   -- the same, tick t's releases having arrived
-  pub going-at : (t : ℕ) → Going (arrivedAt m t) (historyAfter m t)
-  going-at t = going-arrived (arrived-at m t) (going t)
+  pub arrived-linked : (t : ℕ) → MachineLinked (arrivedAt m t) (historyAfter m t)
+  arrived-linked t = arrive-linked (arrived-at m t) (machine-linked t)
 
   pub advance : (t : ℕ) → Advance t (historyAfter m t) (historyAfter m (suc t))
-  advance t = rw (history-next m t) (subst (λ (z : ℕ). Advance z (historyAfter m t) (observed (arrivedAt m t) (runningOf (arrivedAt m t .tasks)) (historyAfter m t))) (arrived-now t) (advances (going-at t) (runningOf (arrivedAt m t .tasks)) refl))
+  advance t = rw (history-next m t) (subst (λ (z : ℕ). Advance z (historyAfter m t) (observed (arrivedAt m t) (runningOf (arrivedAt m t .tasks)) (historyAfter m t))) (arrived-now t) (move-advances (arrived-linked t) (runningOf (arrivedAt m t .tasks)) refl))

@@ -1,24 +1,23 @@
--- What a tick owes for what it settles, and that this settles it. All that exchanges and transactions have to prove for the claim stands here.
-use Prim.Native.Nat.{ℕ, zero, suc, _<_, _≤_}
+-- What justifies that which a tick settles. All that exchanges and transactions have to prove for the claim stands here.
+use Prim.Native.Nat.{ℕ, suc, _<_, _≤_}
 use mathlib.Core.Bool.{Bool, true, false, _&&_, true≢false}
-use mathlib.Core.Path.{_≡_, refl, sym, _∙_, ap}
+use mathlib.Core.Path.{_≡_, refl, sym, _∙_}
 use mathlib.Core.Logic.{_≢_, _⊎_, inl, inr}
 use mathlib.Core.List.{List, [], _∷_}
-use mathlib.Core.Option.{Option, none, some}
+use mathlib.Core.Option.{Option, some}
 use native.Mathlib.Omega.{arith}
 use lib.Dec.{eqb}
 use lib.ListN.{length}
 use borrow.Author.Tests.{ne-eqb}
 use Rattle.model.specs.Lists.{at}
-use Rattle.model.specs.Command.{Command}
-use Rattle.model.specs.Plain.{Contents, Pair, Arguments, readOf, swapOf, transactionOf, Result, result, allOld, swapBy, plainly}
+use Rattle.model.specs.Plain.{Contents, Pair, Arguments, readOf, swapOf, transactionOf, result, allOld, swapBy, plainly}
 use Rattle.model.specs.History.{Operation, History, operationAt, Event, nothing, begins, amends, answering, ending, noted}
-use Rattle.model.specs.Claim.{countedBy, Counts, Among, Interfered, Replays, plain, freely}
+use Rattle.model.specs.Claim.{countedBy, Counts, Among, Interfered, plain, freely}
 use Rattle.model.proofs.Lists.{same?}
 use Rattle.model.proofs.Order.Advance.{Changed}
-use Rattle.model.proofs.Order.Account.{Settled, commits, finds, Settles}
-use Rattle.model.proofs.Order.Moves.{Settling, settlesNothing, settlesRead, settlesYes, settlesNo, settlesTransaction, Moves, outside, begun, goesOn, answers, readEnds, swapCommits, swapEnds, swapCommitsAndEnds, swapRejected, transactionCommits, transactionEnds, transactionCommitsAndEnds, nothingTouched, isSpent}
-use Rattle.model.proofs.Order.Noted.{latestOf, newOperation, number-below, noted-nothing, noted-begins, noted-amends}
+use Rattle.model.proofs.Order.Growth.{Settled, commits, finds, Settles}
+use Rattle.model.proofs.Order.Moves.{Settling, settlesNothing, settlesRead, settlesYes, settlesNo, settlesTransaction, Moves, outside, begun, goesOn, answers, readEnds, swapCommits, swapEnds, swapCommitsAndEnds, swapRejected, transactionCommits, transactionEnds, transactionCommitsAndEnds, nothingTouched, endsSpent}
+use Rattle.model.proofs.Order.Noted.{latestOf, number-below, noted-nothing, noted-begins, noted-amends}
 use Rattle.model.proofs.Order.Linked.{Open, OpenBy, open-uncounted, open-counted}
 use Rattle.model.proofs.Order.Hit.{Hit}
 
@@ -35,21 +34,21 @@ module _ (contents : ℕ → Contents) where
     differed : (named : Pair) {v : ℕ} → Among named ps → Found (latestOf h p) u (named .word) v → v ≢ named .old → Ground u p h ps
     hit : (named : Pair) → Among named ps → Hit h p (named .word) → Ground u p h ps
 
-  pub record OwedRead (u p : ℕ) (h : History) (w v : ℕ) : Type 0 where
+  pub record JustifiedRead (u p : ℕ) (h : History) (w v : ℕ) : Type 0 where
     pub still : contents u ≡ contents (suc u)
     pub found : Found (latestOf h p) u w v
 
-  pub record OwedNo (u p : ℕ) (h : History) (ps : List Pair) : Type 0 where
+  pub record JustifiedNo (u p : ℕ) (h : History) (ps : List Pair) : Type 0 where
     pub still : contents u ≡ contents (suc u)
     pub ground : Ground u p h ps
 
   -- for tick u of task p, with the history before it
-  abbrev pub Owed : ℕ → ℕ → History → Settling → Type 0
-  Owed u p h settlesNothing = contents u ≡ contents (suc u)
-  Owed u p h (settlesRead w v) = OwedRead u p h w v
-  Owed u p h (settlesYes ps) = plainly (swapOf ps) (contents u) ≡ result (contents (suc u)) (1 ∷ [])
-  Owed u p h (settlesNo ps) = OwedNo u p h ps
-  Owed u p h (settlesTransaction rs l) = (o : Operation) → operationAt h (latestOf h p) ≡ some o → plainly (transactionOf rs l) (contents u) ≡ result (contents (suc u)) (o .answers)
+  abbrev pub Justified : ℕ → ℕ → History → Settling → Type 0
+  Justified u p h settlesNothing = contents u ≡ contents (suc u)
+  Justified u p h (settlesRead w v) = JustifiedRead u p h w v
+  Justified u p h (settlesYes ps) = plainly (swapOf ps) (contents u) ≡ result (contents (suc u)) (1 ∷ [])
+  Justified u p h (settlesNo ps) = JustifiedNo u p h ps
+  Justified u p h (settlesTransaction rs l) = (o : Operation) → operationAt h (latestOf h p) ≡ some o → plainly (transactionOf rs l) (contents u) ≡ result (contents (suc u)) (o .answers)
 
   -- a named word that differs makes the plain machine say no
   not-old : (words : List ℕ) (ps : List Pair) (named : Pair) → Among named ps → at 0 words (named .word) ≢ named .old → allOld words ps ≡ false
@@ -110,13 +109,13 @@ module _ (contents : ℕ → Contents) where
       settles-now f n g e = let c = noted-amends u p h size f (o .is) in
           one (o .is) (open-uncounted o) c n (commits (plain (f (o .operation)) (c .here) (rw (g ∙ o .arguments) e)))
 
-      settles-read : (w v : ℕ) → a ≡ readOf w → OwedRead u p h w v → Settles contents u h (noted u p (amends (λ o. ending u (answering (v ∷ []) o))) h)
+      settles-read : (w v : ℕ) → a ≡ readOf w → JustifiedRead u p h w v → Settles contents u h (noted u p (amends (λ o. ending u (answering (v ∷ []) o))) h)
       settles-read w v is w′ = let c = noted-amends u p h size (λ o. ending u (answering (v ∷ []) o)) (o .is) in
           let f = w′ .found in
           one (o .is) (open-uncounted o) c (rw (o .unspent) refl)
           (finds (f .tick) (f .from) (f .to) (plain _ (c .here) (rw (o .arguments, is) (gives-value (contents (f .tick)) w v (f .value)))) (w′ .still))
 
-      settles-no : (ps : List Pair) → a ≡ swapOf ps → OwedNo u p h ps → Settles contents u h (noted u p (amends (λ o. ending u (answering (0 ∷ []) o))) h)
+      settles-no : (ps : List Pair) → a ≡ swapOf ps → JustifiedNo u p h ps → Settles contents u h (noted u p (amends (λ o. ending u (answering (0 ∷ []) o))) h)
       settles-no ps is w = one (o .is) (open-uncounted o) c (rw (o .unspent) refl) (go (w .ground))
         where
           c : Changed h (noted u p (amends (λ o. ending u (answering (0 ∷ []) o))) h) (latestOf h p) (ending u (answering (0 ∷ []) (o .operation)))
@@ -149,7 +148,7 @@ module _ (contents : ℕ → Contents) where
           go (hit named i k) = let b = latest-before o in finds u (omega arith) (omega arith) (freely _ (c .here) refl (interfered named i k) refl) (w .still)
 
     -- EVERY TICK SETTLES WHAT IT OWES
-    pub settles : {g g′ : Option Arguments} {b b′ : Bool} {e : Event} {s : Settling} → Moves u g b e s g′ b′ → OpenBy h p g b → Owed u p h s → Settles contents u h (noted u p e h)
+    pub settles : {g g′ : Option Arguments} {b b′ : Bool} {e : Event} {s : Settling} → Moves u g b e s g′ b′ → OpenBy h p g b → Justified u p h s → Settles contents u h (noted u p e h)
     settles outside o w = nothing-settles w
     settles (begun {a = a}) o w = begins-settles a w
     settles goesOn o w = nothing-settles w
@@ -163,4 +162,4 @@ module _ (contents : ℕ → Contents) where
     settles transactionEnds o w = quiet-amends o _ (inr (open-counted o)) w
     settles transactionCommitsAndEnds o w = settles-now o _ (rw (o .unspent) refl) refl (w (o .operation) (o .is))
     settles nothingTouched o w = settles-now o _ (rw (o .unspent) refl) refl (w (o .operation) (o .is))
-    settles isSpent o w = quiet-amends o _ (inl refl) w
+    settles endsSpent o w = quiet-amends o _ (inl refl) w
