@@ -18,7 +18,8 @@ pub mod Statement
 pub mod Noted
 pub mod Linked
 pub mod Ticks
--- what settles an operation, and the theorem
+-- the start of a run, what settles an operation, and the theorem
+pub mod Start
 pub mod Hit
 pub mod Justified
 pub mod Theorem

@@ -9,13 +9,14 @@ use Rattle.model.specs.Sheet.{Sheet, sheetOf}
 use Rattle.model.specs.Machine.{Machine, taskAt, Running, nobody, running, runningOf, move, startMachine}
 use Rattle.model.specs.Plain.{Contents}
 use Rattle.model.specs.History.{History, operationAt, observed}
-use Rattle.model.specs.Claim.{contentsOf, declaredContents, WholeOperations}
+use Rattle.model.specs.Claim.{contentsOf, WholeOperations}
 use Rattle.model.proofs.Order.Ordered.{Ordered, whole-operations}
 use Rattle.model.proofs.Order.Growth.{Settles, Course, course-ordered}
 use Rattle.model.proofs.Order.Steps.{stateAfter, arrivedAt, historyAfter, state-next, history-next, stopped}
 use Rattle.model.proofs.Order.Moves.{Settling, settling, outside}
 use Rattle.model.proofs.Order.Statement.{moves}
 use Rattle.model.proofs.Order.Ticks.{MachineLinked, Started, arrived-at, arrived-now, arrived-linked, advance}
+use Rattle.model.proofs.Order.Start.{WithinCeilings, started, contents-start}
 use Rattle.model.proofs.Order.Justified.{Justified, settles}
 
 -- what the statement of task p settles
@@ -69,8 +70,13 @@ module _ (s : Sheet) {m : Machine} (start : Started m) (just : JustifiedRun s m)
   pub run-ordered : (t : ℕ) → Ordered (historyAfter m t) (contentsAfter s m 0) (contentsAfter s m t)
   run-ordered t = course-ordered (contentsAfter s m) course t
 
--- THE CLAIM, at every limit
-pub whole : (sheet : List ℕ) (limit : ℕ) → Started (startMachine (sheetOf sheet)) → contentsAfter (sheetOf sheet) (startMachine (sheetOf sheet)) 0 ≡ declaredContents (sheetOf sheet) → JustifiedRun (sheetOf sheet) (startMachine (sheetOf sheet)) → WholeOperations sheet limit
-whole sheet limit start declared just =
+-- THE CLAIM
+none-done : (s : Sheet) (m : Machine) → contentsAfter s m 0 ≡ contentsOf s (m .memory)
+unfolding stateAfter
+none-done s m = refl
+
+-- at every limit
+pub whole : (sheet : List ℕ) (limit : ℕ) → WithinCeilings (sheetOf sheet) → JustifiedRun (sheetOf sheet) (startMachine (sheetOf sheet)) → WholeOperations sheet limit
+whole sheet limit c just =
     let r = stopped limit (startMachine (sheetOf sheet)) in
-    whole-operations sheet limit (r .history) (sym declared) (ap (λ (n : Machine). contentsOf (sheetOf sheet) (n .memory)) (r .state)) (run-ordered (sheetOf sheet) start just (r .ticks))
+    whole-operations sheet limit (r .history) (sym (none-done (sheetOf sheet) (startMachine (sheetOf sheet)) ∙ contents-start c)) (ap (λ (n : Machine). contentsOf (sheetOf sheet) (n .memory)) (r .state)) (run-ordered (sheetOf sheet) (started c) just (r .ticks))
