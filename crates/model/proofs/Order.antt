@@ -23,3 +23,4 @@ pub mod Start
 pub mod Hit
 pub mod Justified
 pub mod Theorem
+pub mod LeftOut

@@ -1,10 +1,10 @@
 -- The order grows with the run: if each tick says where the operation that it settles stands, then after any number of ticks the history is in order.
 use Prim.Native.Nat.{ℕ, zero, suc, _≤_}
-use mathlib.Core.Bool.{true, false, true≢false}
+use mathlib.Core.Bool.{false, true≢false}
 use mathlib.Core.Path.{_≡_, refl, sym, _∙_, ap}
 use mathlib.Core.Logic.{_≢_, _⊎_, inl, inr}
 use mathlib.Core.List.{List, []}
-use mathlib.Core.Option.{Option, none, some}
+use mathlib.Core.Option.{none, some}
 use native.Mathlib.Omega.{arith}
 use Rattle.model.specs.Plain.{Contents}
 use Rattle.model.specs.History.{Operation, History, operationAt}
@@ -12,11 +12,7 @@ use Rattle.model.specs.Claim.{countedBy, Counts, Replays, In, Once}
 use Rattle.model.proofs.Lists.{same?, test?}
 use Rattle.model.proofs.Order.Ordered.{Ordered}
 use Rattle.model.proofs.Order.Log.{More, more-last, Stands, Log, stop, log-in, log-passes, log-commits, place, replayed, timely}
-use Rattle.model.proofs.Order.Advance.{AmendedAt, Advance, same, begins, amends, Carried, kept, amended, carried, replays-kept}
-
-counted-some : (x : Option Operation) → countedBy x ≡ true → (o : Operation) × (x ≡ some o)
-counted-some none e = let z : _≡_ {A = ℕ} 0 1 = cc in absurd (omega arith)
-counted-some (some o) e = (o, refl)
+use Rattle.model.proofs.Order.Advance.{AmendedAt, Advance, same, begins, amends, Carried, kept, amended, counted-some, carried, replays-kept}
 
 module _ (contents : ℕ → Contents) where
   -- Where operation a, which counts from tick u on, stands: in tick u, which it takes from contents to contents,

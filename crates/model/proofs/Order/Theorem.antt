@@ -53,7 +53,7 @@ module _ (s : Sheet) {m : Machine} (start : Started m) (just : JustifiedRun s m)
   justified-in t nobody e = still t e
   justified-in t (running p) e = just .justified t p e
 
-  tick-settles : (t : ℕ) → Settles (contentsAfter s m) t (historyAfter m t) (historyAfter m (suc t))
+  pub tick-settles : (t : ℕ) → Settles (contentsAfter s m) t (historyAfter m t) (historyAfter m (suc t))
   tick-settles t = rw (history-next m t) (subst (λ (u : ℕ). Settles (contentsAfter s m) u (historyAfter m t) (observed (arrivedAt m t) (runningOf (arrivedAt m t .tasks)) (historyAfter m t))) (arrived-now start t) (machine-settles (contentsAfter s m) (arrived-linked start t) (runningOf (arrivedAt m t .tasks)) now))
     where
       now : JustifiedIn (contentsAfter s m) (arrivedAt m t .now) (arrivedAt m t) (historyAfter m t) (runningOf (arrivedAt m t .tasks))
