@@ -51,7 +51,7 @@ module _ (p : ℕ) (m : Memory) (x : Exchange) where
   pub seen : {o : Exchanged} → Outcome p m x o → Seen p m x o
   seen (starts e) = before start e refl refl refl
   seen (tests-done e f) = before test e refl refl refl
-  seen (tests-on e f g) = before test e refl refl refl
+  seen (tests-on e f) = before test e refl refl refl
   seen (loads e) = before load e refl refl refl
   seen (looks-own e f) = before look e refl refl refl
   seen (looks-other e f) = before look e refl refl refl
