@@ -15,3 +15,4 @@ pub mod Committing
 pub mod Statement
 pub mod Machine
 pub mod Replay
+pub mod Start
