@@ -16,3 +16,4 @@ pub mod Statement
 pub mod Machine
 pub mod Replay
 pub mod Start
+pub mod Latest
