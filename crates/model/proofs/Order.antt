@@ -1,12 +1,26 @@
+-- Demand 3, history and order: the claim of a run follows once each tick justifies what it settles (Justified.antt says what that is;
+-- `whole` in Theorem.antt draws the conclusion).
+-- the claim about any history, and about three small runs by computation
 pub mod Ordered
+pub mod Example
+-- an order as a log by ticks, and how it grows with the history: the abstract theorem
 pub mod Log
 pub mod Advance
-pub mod Account
+pub mod Growth
+-- the machine's side: so many ticks one after the other, the task that runs
 pub mod Steps
 pub mod Arrive
+-- what a statement means for its operation
 pub mod Exchange
 pub mod Moves
 pub mod Statement
+-- the history's side: one operation begun or amended a tick, the open operations of the tasks
 pub mod Noted
 pub mod Linked
-pub mod Example
+pub mod Ticks
+-- the start of a run, what settles an operation, and the theorem
+pub mod Start
+pub mod Hit
+pub mod Justified
+pub mod Theorem
+pub mod LeftOut

@@ -1,11 +1,11 @@
 -- What a tick does to the history: nothing, an operation begins, or an open one is amended. What an operation has said stays said.
-use Prim.Native.Nat.{ℕ, suc, _<_, _≤_}
-use mathlib.Core.Bool.{Bool, true, false, not, _&&_, _||_, true≢false}
-use mathlib.Core.Path.{_≡_, refl, sym, _∙_, ap}
-use mathlib.Core.Logic.{_≢_, _⊎_, inl, inr}
+use Prim.Native.Nat.{ℕ, _<_}
+use mathlib.Core.Bool.{true, false}
+use mathlib.Core.Path.{_≡_, refl, _∙_}
+use mathlib.Core.Logic.{_≢_, _⊎_}
 use mathlib.Core.Option.{Option, none, some}
 use native.Mathlib.Omega.{arith}
-use Rattle.model.specs.Plain.{Contents, plainly, result}
+use Rattle.model.specs.Plain.{Contents}
 use Rattle.model.specs.History.{Operation, History, operationAt}
 use Rattle.model.specs.Claim.{countedBy, Counts, Interfered, Replays, plain, freely}
 use Rattle.model.proofs.Lists.{same?}
@@ -44,6 +44,11 @@ pub data Advance (u : ℕ) (h h′ : History) : Type 0 where
   begins : Begun u h h′ → Advance u h h′
   amends : AmendedAt u h h′ → Advance u h h′
 
+-- one that counts is there
+pub counted-some : (x : Option Operation) → countedBy x ≡ true → (o : Operation) × (x ≡ some o)
+counted-some none e = let z : _≡_ {A = ℕ} 0 1 = cc in absurd (omega arith)
+counted-some (some o) e = (o, refl)
+
 -- operation b is in h′ what it is in h, or has been amended
 pub data Carried (u : ℕ) (h′ : History) (b : ℕ) (o : Operation) : Type 0 where
   kept : operationAt h′ b ≡ some o → Carried u h′ b o
@@ -65,6 +70,14 @@ module _ {u : ℕ} {h h′ : History} (step : Advance u h h′) where
           let same-operation : m .before ≡ o = cc in
           amended (m .after) (rw e (m .changed .here)) (rw same-operation at (m .amended)))
           (λ ne. kept (m .changed .else b ne ∙ is))
+
+  -- one that counts goes on counting
+  pub counts-kept : (b : ℕ) → Counts h b → Counts h′ b
+  counts-kept b n = let o = counted-some (operationAt h b) n in go (o .0) (rw (o .1) at n) (carried b (o .1))
+    where
+      go : (o : Operation) → countedBy (some o) ≡ true → Carried u h′ b o → Counts h′ b
+      go o n (kept e) = rw e n
+      go o n (amended o′ e m) = rw e (m .counts n)
 
   -- an ended operation is never amended
   pub ended-kept : {o : Operation} {t : ℕ} (b : ℕ) → operationAt h b ≡ some o → o .last ≡ some t → operationAt h′ b ≡ some o

@@ -1,8 +1,7 @@
 -- Releases arrive and a task is chosen: memory and clock stay, idle jobs may start; the running task is the highest with an unfinished job.
-use Prim.Native.Nat.{ℕ, zero, suc, _+_, _<_, _≤_}
-use mathlib.Core.Bool.{Bool, true, false, true≢false}
-use mathlib.Core.Path.{_≡_, refl, sym, _∙_, ap}
-use mathlib.Core.Logic.{_≢_, _⊎_, inl, inr}
+use Prim.Native.Nat.{ℕ, suc, _+_, _<_}
+use mathlib.Core.Bool.{Bool, true, false}
+use mathlib.Core.Path.{_≡_, refl, _∙_, ap}
 use mathlib.Core.List.{List, [], _∷_}
 use native.Mathlib.Omega.{arith}
 use lib.Dec.{eqb, ltb}
@@ -11,7 +10,7 @@ use borrow.Author.Tests.{ltb-true, ltb-false, lt-ltb}
 use Rattle.model.specs.Lists.{at, replace}
 use Rattle.model.specs.Command.{Release}
 use Rattle.model.specs.Job.{Phase, idle, plain, reading, exchanging, transacting, Task, started}
-use Rattle.model.specs.Machine.{Machine, noTask, taskAt, unfinished, Running, nobody, running, candidate, runningFrom, runningOf, firstOf, firstBy, releaseBy, arriveBy, arrive}
+use Rattle.model.specs.Machine.{Machine, noTask, taskAt, unfinished, Running, nobody, running, candidate, runningFrom, runningOf, releaseBy, arriveBy, arrive}
 use Rattle.model.proofs.Lists.{same?, test?, replace-same, replace-other, length-replace, replace-past, at-past}
 
 pub idle-phase : (f : Phase) → unfinished f ≡ false → f ≡ idle

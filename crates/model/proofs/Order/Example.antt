@@ -1,7 +1,7 @@
 -- The claim on three small runs: an order that time decides, an order that the answers decide, and P5, where a no rests on the free answer alone.
 use Prim.Native.Nat.{ℕ, zero, suc, _+_}
 use mathlib.Core.Bool.{Bool, true, false}
-use mathlib.Core.Path.{_≡_, refl, sym}
+use mathlib.Core.Path.{_≡_, refl}
 use mathlib.Core.Logic.{_≢_, _⊎_, inl, inr}
 use mathlib.Core.List.{List, [], _∷_, _++_}
 use mathlib.Core.Option.{Option, none, some}
@@ -11,8 +11,8 @@ use Rattle.model.specs.Lists.{at, replace}
 use Rattle.model.specs.Sheet.{sheetOf}
 use Rattle.model.specs.Word.{current}
 use Rattle.model.specs.Machine.{run, startMachine}
-use Rattle.model.specs.Plain.{Contents, Pair, Arguments, readOf, swapOf, result, plainly}
-use Rattle.model.specs.History.{Operation, History, operationAt, historyOf}
+use Rattle.model.specs.Plain.{Contents, Pair, readOf, swapOf, result, plainly}
+use Rattle.model.specs.History.{Operation, History, historyOf}
 use Rattle.model.specs.Claim.{countedBy, Counts, each, Interfered, Replays, plain, freely, over, then, In, EndedBefore, WholeOperations}
 use Rattle.model.proofs.Bytes.{word, task, release, end, load, read, pair, swap}
 use Rattle.model.proofs.Order.Ordered.{Ordered, whole-operations, ended-before}

@@ -1,16 +1,16 @@
 -- What a tick of an exchange means for its operation: the pairs stay, and it has said yes from the Commit on that turned status 0 into 2.
 use Prim.Native.Nat.{ℕ, suc}
-use mathlib.Core.Bool.{Bool, true, false, not, _&&_, _||_, true≢false}
-use mathlib.Core.Path.{_≡_, refl, sym, _∙_, ap}
-use mathlib.Core.List.{List, [], _∷_, map}
+use mathlib.Core.Bool.{Bool, true, false, _&&_, _||_, true≢false}
+use mathlib.Core.Path.{_≡_, refl, sym}
+use mathlib.Core.List.{List, map}
 use lib.Dec.{eqb}
 use lib.ListN.{length}
 use lib.Seq.{map-set-same}
 use Rattle.model.specs.Lists.{at, replace}
-use Rattle.model.specs.Word.{Word, fresh, sameWord, Memory, cellOf, statusOf, saved, setCell, setStatus, setSave, own}
-use Rattle.model.specs.Exchange.{Entry, entry, Step, start, test, load, look, fetch, save, fail, mark, install, commit, clean, cleanMark, Exchange, Exchanged, goes, ends, entryAt, changing, installed, cleaned, loaded, noted, testBy, lookBy, afterSave, installBy, cleanBy, commitBy, nextBy, next, cleanWordBy, exchangeTick}
+use Rattle.model.specs.Word.{Word, sameWord, Memory, cellOf, statusOf, setCell, setStatus, own}
+use Rattle.model.specs.Exchange.{Entry, entry, Step, start, test, load, look, fetch, save, fail, mark, install, commit, clean, cleanMark, Exchange, Exchanged, goes, ends, entryAt, changing, installed, cleaned, loaded, testBy, lookBy, afterSave, installBy, cleanBy, commitBy, nextBy, next, cleanWordBy, exchangeTick}
 use Rattle.model.specs.Plain.{Pair}
-use Rattle.model.specs.History.{Operation, Event, nothing, amends, pairOf, stepEvent}
+use Rattle.model.specs.History.{Operation, pairOf, stepEvent}
 use Rattle.model.specs.History.{commitBy as eventBy}
 
 -- the exchange has said yes before this step

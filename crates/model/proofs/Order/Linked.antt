@@ -1,23 +1,22 @@
 -- History and machine: a task inside an operation is inside its latest one, which is open and has that task and those arguments;
 -- of two such tasks the higher one's operation began later.
-use Prim.Native.Nat.{ℕ, zero, suc, _+_, _<_, _≤_}
+use Prim.Native.Nat.{ℕ, suc, _<_}
 use mathlib.Core.Bool.{Bool, true, false, true≢false}
-use mathlib.Core.Path.{_≡_, refl, sym, _∙_, ap, subst}
+use mathlib.Core.Path.{_≡_, refl, sym, _∙_}
 use mathlib.Core.Logic.{_≢_, _⊎_, inl, inr}
 use mathlib.Core.List.{List, [], _∷_}
 use mathlib.Core.Option.{Option, none, some}
 use native.Mathlib.Omega.{arith}
 use lib.ListN.{length}
-use Rattle.model.specs.Plain.{Pair, Arguments, readOf, swapOf, transactionOf}
+use Rattle.model.specs.Plain.{Pair, Arguments, swapOf}
 use Rattle.model.specs.History.{Operation, History, operationAt, Event, nothing, begins, amends, answering, ending, noted}
-use Rattle.model.specs.History.{committed as asCommitted, spent as asSpent}
 use Rattle.model.specs.Claim.{countedBy}
-use Rattle.model.specs.Job.{Phase, Task}
+use Rattle.model.specs.Job.{Task}
 use Rattle.model.specs.Machine.{taskAt}
-use Rattle.model.proofs.Lists.{same?, at-past}
-use Rattle.model.proofs.Order.Advance.{Amended, Changed, Begun, AmendedAt, Advance}
+use Rattle.model.proofs.Lists.{at-past}
+use Rattle.model.proofs.Order.Advance.{Amended, Changed, Advance}
 use Rattle.model.proofs.Order.Advance.{same as advanceSame, begins as advanceBegins, amends as advanceAmends}
-use Rattle.model.proofs.Order.Moves.{given, hasCommitted, Settling, Moves, outside, begun, goesOn, answers, readEnds, swapCommits, swapEnds, swapCommitsAndEnds, swapRejected, transactionCommits, transactionEnds, transactionCommitsAndEnds, nothingTouched, isSpent}
+use Rattle.model.proofs.Order.Moves.{given, hasCommitted, Settling, Moves, outside, begun, goesOn, answers, readEnds, swapCommits, swapEnds, swapCommitsAndEnds, swapRejected, transactionCommits, transactionEnds, transactionCommitsAndEnds, nothingTouched, endsSpent}
 use Rattle.model.proofs.Order.Noted.{latestOf, newOperation, number-below, noted-nothing, size-nothing, latest-nothing, noted-begins, size-begins, latest-begins, latest-begins-else, noted-amends, size-amends, latest-amends, latest-size}
 
 -- task p's latest operation is open, has these arguments, and has committed or not
@@ -168,4 +167,4 @@ module _ (u p : ℕ) (h : History) (size : length (h .began) ≡ u) (latest : le
   next transactionEnds o = amends-next o _ none _ (committed-ends u o _ refl) (λ c. tt)
   next transactionCommitsAndEnds o = amends-next o _ none _ (uncommitted u o _ refl refl (inr refl)) (λ c. tt)
   next nothingTouched o = amends-next o _ none _ (uncommitted u o _ refl refl (inr refl)) (λ c. tt)
-  next isSpent o = amends-next o _ none _ (uncommitted u o _ refl refl (inr refl)) (λ c. tt)
+  next endsSpent o = amends-next o _ none _ (uncommitted u o _ refl refl (inr refl)) (λ c. tt)

@@ -1,5 +1,5 @@
 -- The log: each operation of an order at one tick, the contents before and after it those of the run. `contents t` are those after t ticks.
-use Prim.Native.Nat.{ℕ, suc, _<_, _≤_}
+use Prim.Native.Nat.{ℕ, suc, _≤_}
 use mathlib.Core.Path.{_≡_, refl, sym, ap, subst}
 use mathlib.Core.Logic.{_⊎_, inl, inr}
 use mathlib.Core.List.{List, [], _∷_, _++_}
@@ -7,7 +7,7 @@ use mathlib.Core.Option.{some}
 use native.Mathlib.Omega.{arith}
 use Rattle.model.specs.Plain.{Contents}
 use Rattle.model.specs.History.{Operation, History, operationAt}
-use Rattle.model.specs.Claim.{Replays, Sequence, over, then, In, Once, EndedBefore, RespectsTime}
+use Rattle.model.specs.Claim.{Replays, Sequence, over, then, In, Once, RespectsTime}
 use Rattle.model.proofs.Lists.{same?}
 
 -- the list l′ holds a besides what l holds

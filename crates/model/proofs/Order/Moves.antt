@@ -1,16 +1,15 @@
 -- What a tick means for the running task's operation: its event in the history, what it settles, and where the task stands before and after it.
-use Prim.Native.Nat.{ℕ, suc}
+use Prim.Native.Nat.{ℕ}
 use mathlib.Core.Bool.{Bool, true, false}
-use mathlib.Core.Path.{_≡_, refl}
 use mathlib.Core.List.{List, [], _∷_}
 use mathlib.Core.Option.{Option, none, some}
 use Rattle.model.specs.Command.{Command, WORD, BLOCK, TASK, RELEASE, END, LOAD, ADD, READ, PAIR, SWAP, BEGIN, access, COMMIT}
 use Rattle.model.specs.Word.{Memory, Read, reads, gives, readTick}
-use Rattle.model.specs.Exchange.{Exchange, Exchanged, goes, ends, exchangeTick}
-use Rattle.model.specs.Job.{Transaction, Inner, between, first, copying, again, committing, Phase, idle, plain, reading, exchanging, transacting, Task}
+use Rattle.model.specs.Exchange.{Exchanged, goes, ends, exchangeTick}
+use Rattle.model.specs.Job.{Transaction, Inner, between, first, copying, again, committing, Phase, idle, plain, reading, exchanging, transacting}
 use Rattle.model.specs.Transaction.{nothing?}
 use Rattle.model.specs.Plain.{Pair, Arguments, readOf, swapOf, transactionOf}
-use Rattle.model.specs.History.{Operation, Event, nothing, begins, amends, answering, ending, untilCommit}
+use Rattle.model.specs.History.{Event, nothing, begins, amends, answering, ending, untilCommit}
 use Rattle.model.specs.History.{committed as asCommitted, spent as asSpent}
 use Rattle.model.proofs.Order.Exchange.{saidYes, saysYes, pairsOf}
 
@@ -107,7 +106,7 @@ pub data Moves (u : ℕ) : Option Arguments → Bool → Event → Settling → 
   transactionEnds : {rs : List ℕ} {l : List Command} {c : Bool} → Moves u (some (transactionOf rs l)) true (amends (λ o. ending u o)) settlesNothing none c
   transactionCommitsAndEnds : {rs : List ℕ} {l : List Command} {c : Bool} → Moves u (some (transactionOf rs l)) false (amends (λ o. ending u o)) (settlesTransaction rs l) none c
   nothingTouched : {rs : List ℕ} {l : List Command} {c : Bool} → Moves u (some (transactionOf rs l)) false (amends (λ o. ending u (asCommitted o))) (settlesTransaction rs l) none c
-  isSpent : {rs : List ℕ} {l : List Command} {c : Bool} → Moves u (some (transactionOf rs l)) false (amends (λ o. ending u (asSpent o))) settlesNothing none c
+  endsSpent : {rs : List ℕ} {l : List Command} {c : Bool} → Moves u (some (transactionOf rs l)) false (amends (λ o. ending u (asSpent o))) settlesNothing none c
 
 abbrev pub MovesBy : ℕ → Phase → Event → Settling → Phase → Type 0
 MovesBy u f e s f′ = Moves u (given f) (hasCommitted f) e s (given f′) (hasCommitted f′)

@@ -1,12 +1,12 @@
 -- What a noted event leaves: one entry a tick, one operation begun or amended, the others as they were.
-use Prim.Native.Nat.{ℕ, zero, suc, _+_, _<_, _≤_}
-use mathlib.Core.Bool.{Bool, true, false}
+use Prim.Native.Nat.{ℕ, zero, suc, _<_}
+use mathlib.Core.Bool.{false}
 use mathlib.Core.Path.{_≡_, refl, sym, _∙_, ap}
 use mathlib.Core.Logic.{_≢_}
 use mathlib.Core.List.{List, [], _∷_, _++_}
 use mathlib.Core.Option.{Option, none, some}
 use native.Mathlib.Omega.{arith}
-use lib.ListN.{length, getD, length-append}
+use lib.ListN.{length, length-append}
 use Rattle.model.specs.Lists.{at, replace}
 use Rattle.model.specs.Plain.{Arguments}
 use Rattle.model.specs.History.{Operation, History, operationAt, Event, nothing, begins, amends, amendBy, noted}

@@ -1,17 +1,14 @@
 -- The claim of demand 3 about any history between two contents, and how it gives the claim about a run.
-use Prim.Native.Nat.{ℕ, zero, suc, _+_, _<_}
-use mathlib.Core.Bool.{Bool, true, false}
-use mathlib.Core.Path.{_≡_, refl, sym, ap}
-use mathlib.Core.Logic.{_⊎_, inl, inr}
-use mathlib.Core.List.{List, [], _∷_}
-use mathlib.Core.Option.{Option, none, some}
+use Prim.Native.Nat.{ℕ, _<_}
+use mathlib.Core.Path.{_≡_}
+use mathlib.Core.List.{List}
+use mathlib.Core.Option.{some}
 use native.Mathlib.Omega.{arith}
 use Rattle.model.specs.Sheet.{sheetOf}
-use Rattle.model.specs.Word.{current}
 use Rattle.model.specs.Machine.{run, startMachine}
 use Rattle.model.specs.Plain.{Contents}
 use Rattle.model.specs.History.{Operation, History, operationAt, historyOf}
-use Rattle.model.specs.Claim.{contentsOf, each, declaredContents, countedBy, Counts, Sequence, In, Once, EndedBefore, RespectsTime, WholeOperations}
+use Rattle.model.specs.Claim.{contentsOf, declaredContents, Counts, Sequence, In, Once, EndedBefore, RespectsTime, WholeOperations}
 
 -- a history from the contents c to the contents c′ with the order of its operations
 pub record Ordered (h : History) (c c′ : Contents) : Type 0 where

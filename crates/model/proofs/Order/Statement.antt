@@ -1,22 +1,22 @@
 -- Every statement is one of the moves: a walk over the commands and phases.
 use Prim.Native.Nat.{ℕ, suc}
 use mathlib.Core.Bool.{Bool, true, false, _||_, true≢false}
-use mathlib.Core.Path.{_≡_, refl, sym, _∙_, ap, subst}
-use mathlib.Core.List.{List, [], _∷_, _++_, map}
-use mathlib.Core.Option.{Option, none, some}
+use mathlib.Core.Path.{_≡_, refl}
+use mathlib.Core.List.{List, [], _∷_, _++_}
+use mathlib.Core.Option.{none, some}
 use lib.Dec.{eqb}
-use Rattle.model.specs.Lists.{at, replace}
+use Rattle.model.specs.Lists.{replace}
 use Rattle.model.specs.Command.{Access, GET, PUT, Command, WORD, BLOCK, TASK, RELEASE, END, LOAD, ADD, READ, PAIR, SWAP, BEGIN, access, COMMIT}
-use Rattle.model.specs.Word.{Memory, Reading, loading, Read, reads, gives, readTick}
-use Rattle.model.specs.Exchange.{Entry, Step, Exchange, exchangeOf, Exchanged, goes, ends, exchangeTick, start}
-use Rattle.model.specs.Job.{Touched, untouched, remembered, copied, Transaction, Inner, between, first, copying, again, committing, Phase, idle, plain, reading, exchanging, transacting, Task, Turn, rest, doneBy}
+use Rattle.model.specs.Word.{Memory, Reading, Read, reads, gives, readTick}
+use Rattle.model.specs.Exchange.{Entry, Exchange, Exchanged, goes, ends, exchangeTick}
+use Rattle.model.specs.Job.{Touched, untouched, remembered, copied, Transaction, Inner, between, first, copying, again, committing, Phase, idle, plain, reading, exchanging, transacting, Task, rest, doneBy}
 use Rattle.model.specs.Transaction.{bank, blockOf, versionOf, rememberedOf, touchedOf, nothing?, spent?, firstRead, copyBy, copyTick, accessTick, checkBy, againRead, commitBy, committed, commandTick, transactionTick}
 use Rattle.model.specs.Machine.{answer, readBy, swapBy, plainTick, statement}
-use Rattle.model.specs.Plain.{Pair, Arguments, readOf, swapOf, transactionOf}
-use Rattle.model.specs.History.{Operation, Event, nothing, begins, amends, answering, ending, pairOf, untilCommit, plainEvent, readEvent, stepEvent, swapEvent, commitEvent, commandEvent, checkEvent, againEvent, committingEvent, transactionEvent, eventOf}
+use Rattle.model.specs.Plain.{Pair, swapOf}
+use Rattle.model.specs.History.{Event, nothing, amends, answering, ending, plainEvent, readEvent, swapEvent, commitEvent, commandEvent, checkEvent, againEvent, committingEvent, transactionEvent, eventOf}
 use Rattle.model.specs.History.{committed as asCommitted, commitBy as eventBy}
-use Rattle.model.proofs.Order.Exchange.{saidYes, saysYes, step-event, yes-once, pairsOf, Goes, Follows, follows}
-use Rattle.model.proofs.Order.Moves.{given, innerCommitted, hasCommitted, Settling, settlesNothing, settlesRead, settlesYes, settlesNo, settlesTransaction, readSettles, endSettles, swapSettles, transactionSettles, commandSettles, innerSettles, settling, Moves, outside, begun, goesOn, answers, readEnds, swapCommits, swapEnds, swapCommitsAndEnds, swapRejected, transactionCommits, transactionEnds, transactionCommitsAndEnds, nothingTouched, isSpent, MovesBy}
+use Rattle.model.proofs.Order.Exchange.{saidYes, saysYes, step-event, yes-once, pairsOf, Follows, follows}
+use Rattle.model.proofs.Order.Moves.{given, innerCommitted, hasCommitted, Settling, settlesNothing, readSettles, swapSettles, transactionSettles, commandSettles, innerSettles, settling, Moves, outside, begun, goesOn, answers, readEnds, swapCommits, swapEnds, swapCommitsAndEnds, swapRejected, transactionCommits, transactionEnds, transactionCommitsAndEnds, nothingTouched, endsSpent, MovesBy}
 
 -- a command is done: its task is outside
 done-outside : (l : List Command) (t : Task) (rs : List ℕ) (ps : List Entry) (cs : List ℕ) → given (doneBy l t rs ps cs .phase) ≡ none
@@ -108,7 +108,7 @@ module _ (u p : ℕ) (m : Memory) (t : Task) where
     commit-moves : (n s : Bool) → Within false (commitEvent u n s) (transactionSettles n x) (commitBy n s m t x .task)
     unfolding commitEvent commitBy
     commit-moves true s = rw (done-outside (rest (t .commands)) t (t .registers) [] (t .copies)) nothingTouched
-    commit-moves false true = isSpent
+    commit-moves false true = endsSpent
     commit-moves false false = goesOn
 
     command-moves : t .phase ≡ transacting x between → (l : List Command) → Within false (commandEvent u x l) (commandSettles x l) (commandTick m t x l .task)

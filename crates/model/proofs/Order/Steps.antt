@@ -1,13 +1,10 @@
 -- A run and its history in step: both are so many ticks one after the other.
 use Prim.Native.Nat.{ℕ, zero, suc, _+_, _≤_}
-use mathlib.Core.Bool.{Bool, true, false}
-use mathlib.Core.Path.{_≡_, refl, sym, _∙_, ap}
-use mathlib.Core.List.{List, [], _∷_}
+use mathlib.Core.Bool.{true, false}
+use mathlib.Core.Path.{_≡_, refl}
 use native.Mathlib.Omega.{arith}
-use lib.Dec.{eqb}
-use Rattle.model.specs.Command.{Release}
-use Rattle.model.specs.Machine.{Machine, Running, nobody, running, runningOf, releaseBy, arriveBy, arrive, move, moveAny, tick, over, runBy, run, unfinished, taskAt}
-use Rattle.model.specs.History.{History, noHistory, observedTick, historyBy, historyFrom, historyOf}
+use Rattle.model.specs.Machine.{Machine, runningOf, arrive, move, moveAny, tick, over, runBy, run}
+use Rattle.model.specs.History.{History, noHistory, observed, observedTick, historyBy, historyFrom, historyOf}
 use Rattle.model.proofs.Lists.{test?}
 
 -- the machine after t ticks, whether or not the run has stopped before
@@ -26,9 +23,14 @@ unfolding arrivedAt observedTick
 historyAfter m zero = noHistory
 historyAfter m (suc t) = observedTick (arrivedAt m t) (historyAfter m t)
 
-pub tick-moves : (m : Machine) (t : ℕ) → stateAfter m (suc t) ≡ moveAny (arrivedAt m t)
-unfolding stateAfter tick arrivedAt
-tick-moves m t = refl
+-- one tick more: the task that runs moves, and the history observes it
+pub state-next : (m : Machine) (t : ℕ) → stateAfter m (suc t) ≡ move (arrivedAt m t) (runningOf (arrivedAt m t .tasks))
+unfolding stateAfter tick moveAny arrivedAt
+state-next m t = refl
+
+pub history-next : (m : Machine) (t : ℕ) → historyAfter m (suc t) ≡ observed (arrivedAt m t) (runningOf (arrivedAt m t .tasks)) (historyAfter m t)
+unfolding historyAfter observedTick
+history-next m t = refl
 
 -- where n more ticks of the run stop, k being done
 record Stops (m : Machine) (n k : ℕ) : Type 0 where

@@ -1,0 +1,188 @@
+-- Every tick keeps history and machine linked, and move-advances the history by at most one operation.
+use Prim.Native.Nat.{ℕ, zero, suc, _<_}
+use mathlib.Core.Bool.{Bool}
+use mathlib.Core.Path.{_≡_, refl, sym, _∙_, ap, subst}
+use mathlib.Core.Logic.{_≢_, _⊎_, inl, inr}
+use mathlib.Core.List.{List}
+use mathlib.Core.Option.{Option, none, some}
+use native.Mathlib.Decide.{decLt}
+use native.Mathlib.Omega.{arith}
+use lib.ListN.{length}
+use Rattle.model.specs.Lists.{at, replace}
+use Rattle.model.specs.Job.{idle, Task, ticked}
+use Rattle.model.specs.Machine.{Machine, noTask, taskAt, Running, nobody, running, runningOf, move, statement}
+use Rattle.model.specs.Plain.{Arguments}
+use Rattle.model.specs.History.{History, operationAt, nothing, observed}
+use Rattle.model.proofs.Lists.{same?, replace-same, replace-other, length-replace}
+use Rattle.model.proofs.Order.Steps.{stateAfter, arrivedAt, historyAfter, state-next, history-next}
+use Rattle.model.proofs.Order.Arrive.{TaskArrived, waits, starts, Arrived, arrived, Runs, runs, none-runs}
+use Rattle.model.proofs.Order.Advance.{Advance, same}
+use Rattle.model.proofs.Order.Moves.{given, hasCommitted}
+use Rattle.model.proofs.Order.Statement.{moves}
+use Rattle.model.proofs.Order.Noted.{latestOf, number-below, noted-nothing, size-nothing, latest-size}
+use Rattle.model.proofs.Order.Linked.{OpenBy, Inside, givenTo, Linked, Next, next}
+
+-- a task whose release has come stands where it stood: outside
+given-arrived : {t t′ : Task} → TaskArrived t t′ → given (t′ .phase) ≡ given (t .phase)
+given-arrived (waits e) = rw e refl
+given-arrived (starts i e) = rw (e, i) refl
+
+committed-arrived : {t t′ : Task} → TaskArrived t t′ → hasCommitted (t′ .phase) ≡ hasCommitted (t .phase)
+committed-arrived (waits e) = rw e refl
+committed-arrived (starts i e) = rw (e, i) refl
+
+pub linked-arrived : {u : ℕ} {m m′ : Machine} {h : History} → Arrived m m′ → Linked u (m .tasks) h → Linked u (m′ .tasks) h
+linked-arrived a l = record {
+  size = l .size;
+  latest = l .latest;
+  opened = λ p. rw (given-arrived (a .task p), committed-arrived (a .task p)) (l .opened p);
+  nested = λ p q lt i j. l .nested p q lt (rw (given-arrived (a .task p)) at i) (rw (given-arrived (a .task q)) at j);
+}
+
+-- an operation that stays as it is stays open
+open-kept : (h h′ : History) (p : ℕ) (g : Option Arguments) (b : Bool) → latestOf h′ p ≡ latestOf h p → (Inside g → operationAt h′ (latestOf h p) ≡ operationAt h (latestOf h p)) → OpenBy h p g b → OpenBy h′ p g b
+open-kept h h′ p none b l e o = tt
+open-kept h h′ p (some a) b l e o = record {
+  operation = o .operation;
+  is = rw l (e tt ∙ o .is);
+  task = o .task;
+  arguments = o .arguments;
+  unended = o .unended;
+  committed = o .committed;
+  unspent = o .unspent;
+  said = o .said;
+}
+
+pub latest-below : {u : ℕ} {ts : List Task} {h : History} → Linked u ts h → (p : ℕ) → Inside (givenTo ts p) → latestOf h p < u
+latest-below {u} {ts} {h} l p i = go (givenTo ts p) (hasCommitted (taskAt ts p .phase)) i (l .opened p)
+  where
+    go : (g : Option Arguments) (b : Bool) → Inside g → OpenBy h p g b → latestOf h p < u
+    go none b i o = absurd i
+    go (some a) b i o = omega (arith, number-below h (latestOf h p) (o .is), l .size)
+
+-- task p runs, and is t′ afterwards
+module _ {u p : ℕ} {ts : List Task} {h h′ : History} (r : Runs ts p) (l : Linked u ts h) (t′ : Task) (n : Next u p h h′ (givenTo ts p) (given (t′ .phase)) (hasCommitted (t′ .phase))) where
+  abbrev ts′ : List Task
+  ts′ = replace ts p t′
+
+  above-outside : (q : ℕ) → p < q → Inside (givenTo ts q) → ⊥
+  above-outside q lt i = rw (r .highest q lt) at i
+
+  -- a lower task's latest operation is another one
+  lower-apart : (q : ℕ) → q ≢ p → Inside (givenTo ts q) → Inside (givenTo ts p) → latestOf h q ≢ latestOf h p
+  lower-apart q ne i j = go (decLt q p)
+    where
+      go : Dec (q < p) → latestOf h q ≢ latestOf h p
+      go (yes lt) = λ e. omega (arith, l .nested q p lt i j)
+      go (no gt) = absurd (above-outside q (omega arith) i)
+
+  other-given : (q : ℕ) → q ≢ p → givenTo ts′ q ≡ givenTo ts q
+  other-given q ne = rw (replace-other noTask ts p q t′ ne) refl
+
+  here-given : givenTo ts′ p ≡ given (t′ .phase)
+  here-given = rw (replace-same noTask ts p t′ (r .below)) refl
+
+  opened′ : (q : ℕ) → OpenBy h′ q (givenTo ts′ q) (hasCommitted (taskAt ts′ q .phase))
+  opened′ q = same? q p
+      (λ e. rw (e, replace-same noTask ts p t′ (r .below)) (n .mine))
+      (λ ne. rw (replace-other noTask ts p q t′ ne) (open-kept h h′ q (givenTo ts q) (hasCommitted (taskAt ts q .phase)) (n .other q ne)
+      (λ i. n .else (latestOf h q) (let k = latest-below l q i in omega arith) (lower-apart q ne i)) (l .opened q)))
+
+  nested′ : (q s : ℕ) → q < s → Inside (givenTo ts′ q) → Inside (givenTo ts′ s) → latestOf h′ q < latestOf h′ s
+  nested′ q s lt i j = same? s p
+      (λ e. let ne : q ≢ p = omega arith in rw (e, n .other q ne) (top ne (rw (other-given q ne) at i) (n .since (rw (e, here-given) at j))))
+      (λ ne. same? q p
+      (λ e. absurd (above-outside s (omega arith) (rw (other-given s ne) at j)))
+      (λ k. rw (n .other q k, n .other s ne) (l .nested q s lt (rw (other-given q k) at i) (rw (other-given s ne) at j))))
+    where
+      top : q ≢ p → Inside (givenTo ts q) → (Inside (givenTo ts p) × (latestOf h′ p ≡ latestOf h p)) ⊎ (latestOf h′ p ≡ u) → latestOf h q < latestOf h′ p
+      top ne i (inl k) = rw (k .1) (go (decLt q p))
+        where
+          go : Dec (q < p) → latestOf h q < latestOf h p
+          go (yes lt) = l .nested q p lt i (k .0)
+          go (no gt) = absurd (above-outside q (omega arith) i)
+      top ne i (inr e) = rw e (latest-below l q i)
+
+  pub linked-runs : Linked (suc u) ts′ h′
+  linked-runs = record { size = n .size; latest = n .latest; opened = opened′; nested = nested′ }
+
+-- THE MACHINE with its history
+pub record MachineLinked (m : Machine) (h : History) : Type 0 where
+  pub size : length (m .tasks) ≡ 8
+  pub linked : Linked (m .now) (m .tasks) h
+
+pub arrive-linked : {m m′ : Machine} {h : History} → Arrived m m′ → MachineLinked m h → MachineLinked m′ h
+arrive-linked {m} {m′} {h} a g = record { size = a .size ∙ g .size; linked = subst (λ (z : ℕ). Linked z (m′ .tasks) h) (sym (a .now)) (linked-arrived a (g .linked)) }
+
+-- what the running task p's tick does to the history
+module _ {m : Machine} {h : History} (g : MachineLinked m h) where
+  pub next-of : (p : ℕ) → Runs (m .tasks) p → Next (m .now) p h (observed m (running p) h) (givenTo (m .tasks) p) (given (statement p (m .memory) (taskAt (m .tasks) p) (taskAt (m .tasks) p .phase) .task .phase)) (hasCommitted (statement p (m .memory) (taskAt (m .tasks) p) (taskAt (m .tasks) p .phase) .task .phase))
+  unfolding observed
+  next-of p r = let below : p < 8 = omega (arith, r .below, g .size) in
+      next (m .now) p h (g .linked .size) (g .linked .latest) below (moves (m .now) p (m .memory) (taskAt (m .tasks) p) (taskAt (m .tasks) p .phase) refl) (g .linked .opened p)
+
+  pub move-advances : (r : Running) → runningOf (m .tasks) ≡ r → Advance (m .now) h (observed m r h)
+  unfolding observed
+  move-advances nobody e = same (noted-nothing (m .now) 0 h (g .linked .size))
+  move-advances (running p) e = next-of p (runs (m .tasks) p e) .advance
+
+  pub move-linked : (r : Running) → runningOf (m .tasks) ≡ r → MachineLinked (move m r) (observed m r h)
+  unfolding observed move
+  move-linked nobody e = record {
+    size = g .size;
+    linked = record {
+      size = size-nothing (m .now) 0 h (g .linked .size);
+      latest = latest-size (m .now) 0 h (g .linked .size) nothing ∙ g .linked .latest;
+      opened = λ q. rw (none-runs (m .tasks) e q) tt;
+      nested = λ q s lt i j. absurd (rw (none-runs (m .tasks) e q) at i);
+    };
+  }
+  move-linked (running p) e =
+      let r = runs (m .tasks) p e in
+      let b = m .tasks in
+      let t = statement p (m .memory) (taskAt b p) (taskAt b p .phase) .task in
+      record { size = length-replace (m .tasks) p (ticked t) ∙ g .size; linked = linked-runs r (g .linked) (ticked t) (next-of p r) }
+
+-- THE RUN
+pub record Started (m : Machine) : Type 0 where
+  pub now : m .now ≡ 0
+  pub size : length (m .tasks) ≡ 8
+  pub idle : (p : ℕ) → taskAt (m .tasks) p .phase ≡ idle
+
+pub arrived-at : (m : Machine) (t : ℕ) → Arrived (stateAfter m t) (arrivedAt m t)
+unfolding arrivedAt
+arrived-at m t = arrived (stateAfter m t .releases) (stateAfter m t)
+
+move-now : (m : Machine) (r : Running) → move m r .now ≡ suc (m .now)
+unfolding move
+move-now m nobody = refl
+move-now m (running p) = refl
+
+module _ {m : Machine} (s : Started m) where
+  pub now-is : (t : ℕ) → stateAfter m t .now ≡ t
+  unfolding stateAfter
+  now-is zero = s .now
+  now-is (suc t) = ap (λ (n : Machine). n .now) (state-next m t) ∙ move-now (arrivedAt m t) (runningOf (arrivedAt m t .tasks)) ∙ ap suc (arrived-at m t .now ∙ now-is t)
+
+  pub arrived-now : (t : ℕ) → arrivedAt m t .now ≡ t
+  arrived-now t = arrived-at m t .now ∙ now-is t
+
+  pub machine-linked : (t : ℕ) → MachineLinked (stateAfter m t) (historyAfter m t)
+  unfolding stateAfter historyAfter
+  machine-linked zero = record {
+    size = s .size;
+    linked = record {
+      size = sym (s .now);
+      latest = refl;
+      opened = λ p. rw (s .idle p) tt;
+      nested = λ p q lt i j. absurd (rw (s .idle p) at i);
+    };
+  }
+  machine-linked (suc t) = rw (state-next m t, history-next m t) (move-linked (arrive-linked (arrived-at m t) (machine-linked t)) (runningOf (arrivedAt m t .tasks)) refl)
+
+  -- the same, tick t's releases having arrived
+  pub arrived-linked : (t : ℕ) → MachineLinked (arrivedAt m t) (historyAfter m t)
+  arrived-linked t = arrive-linked (arrived-at m t) (machine-linked t)
+
+  pub advance : (t : ℕ) → Advance t (historyAfter m t) (historyAfter m (suc t))
+  advance t = rw (history-next m t) (subst (λ (z : ℕ). Advance z (historyAfter m t) (observed (arrivedAt m t) (runningOf (arrivedAt m t .tasks)) (historyAfter m t))) (arrived-now t) (move-advances (arrived-linked t) (runningOf (arrivedAt m t .tasks)) refl))
