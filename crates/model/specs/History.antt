@@ -214,7 +214,9 @@ historyBy false go m h = go (tick m) (observedTick (arrive (m .releases) m) h)
 unfoldable pub historyFrom : ℕ → Machine → History → History
 unfolding historyBy over
 historyFrom zero m h = h
-historyFrom (suc n) m h = historyBy (over m) (historyFrom n) m h
+historyFrom (suc n) m h =
+    let go : Machine → History → History = historyFrom n in
+    historyBy (over m) go m h
 
 unfoldable pub historyOf : ℕ → Machine → History
 unfolding historyFrom
