@@ -10,3 +10,9 @@ pub mod Gather
 pub mod Commit
 pub mod Owners
 pub mod Pass
+pub mod Exchange
+pub mod Committing
+pub mod Statement
+pub mod Machine
+pub mod Replay
+pub mod Start

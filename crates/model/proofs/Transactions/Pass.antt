@@ -68,7 +68,7 @@ unfolding current currentBy
 saved-value status saves w e = rw e
 
 -- THE SITUATION of a statement of task t in a pass
-pub record Situation (words blocks : ℕ) (m : Memory) (t : Task) (x : Transaction) (s : Inner) (o : Operation) : Type 0 where
+pub record PassSituation (words blocks : ℕ) (m : Memory) (t : Task) (x : Transaction) (s : Inner) (o : Operation) : Type 0 where
   pub most : blocks ≤ 16
   pub memory : MemoryFit m
   pub apart : SlotsApart blocks m (t .copies)
@@ -77,7 +77,7 @@ pub record Situation (words blocks : ℕ) (m : Memory) (t : Task) (x : Transacti
   pub arguments : o .arguments ≡ transactionOf (x .kept) (untilCommit (x .commands))
   pub pass : PassFacts blocks m (t .copies) (t .registers) (t .commands) x s (o .answers)
 
-module _ {words blocks : ℕ} {m : Memory} {t : Task} {x : Transaction} {s : Inner} {o : Operation} (S : Situation words blocks m t x s o) where
+module _ {words blocks : ℕ} {m : Memory} {t : Task} {x : Transaction} {s : Inner} {o : Operation} (S : PassSituation words blocks m t x s o) where
   -- another inner step of the same command
   stays-turned : (s′ : Inner) → saidYes s′ ≡ false → AtInner m (t .copies) x s′ → Turned blocks m t (turn m (stays t x s′)) o
   stays-turned s′ e h = same-memory (record { arguments = S .arguments; pass = λ _. inner-step s′ h (S .pass) }) (rw e)
@@ -193,19 +193,19 @@ module _ {words blocks : ℕ} {m : Memory} {t : Task} {x : Transaction} {s : Inn
   command-turned p now (END ∷ l) y e room = nothing-turned y
 
 -- EVERY STATEMENT OUTSIDE THE EXCHANGE
-abbrev pub Outside : Inner → Type 0
-Outside between = Unit {0}
-Outside (first a r) = Unit {0}
-Outside (copying a n) = Unit {0}
-Outside (again a v r) = Unit {0}
-Outside (committing e) = ⊥
+abbrev pub Outside : Transaction → List Command → Inner → Type 0
+Outside x l between = PutRoom x l
+Outside x l (first a r) = Unit {0}
+Outside x l (copying a n) = Unit {0}
+Outside x l (again a v r) = Unit {0}
+Outside x l (committing e) = ⊥
 
-pub pass-turned : {words blocks : ℕ} {m : Memory} {t : Task} {x : Transaction} {o : Operation} (p now : ℕ) (s : Inner) → Outside s → PutRoom x (t .commands) → Situation words blocks m t x s o
+pub pass-turned : {words blocks : ℕ} {m : Memory} {t : Task} {x : Transaction} {o : Operation} (p now : ℕ) (s : Inner) → Outside x (t .commands) s → PassSituation words blocks m t x s o
     → Turned blocks m t (transactionTick p m t x s) (operationAfter p (transactionEvent now p m t x s) o)
 unfolding transactionTick transactionEvent
-pass-turned {t = t} p now between out room S = command-turned S p now (t .commands) refl refl room
-pass-turned p now (first a r) out room S = first-turned S a r (S .fit .inner .notYet) (S .fit .inner .atWork .block) (S .pass .inner)
-pass-turned p now (copying (GET r b c) n) out room S = absurd (true≢false (sym (S .fit .inner .put)))
-pass-turned p now (copying (PUT b c r) n) out room S = let F = S .fit .inner in copy-turned S b c r n (rw (F .first .read)) (F .first .left) (F .most) (S .pass .inner)
-pass-turned {m = m} p now (again a v r) out room S = let F = S .fit .inner in again-turned S p a v (F .atWork .commands) (S .pass .inner) (F .again) (readTick m (bank (blockOf a)) r)
-pass-turned p now (committing e) out room S = absurd out
+pass-turned {t = t} p now between room S = command-turned S p now (t .commands) refl refl room
+pass-turned p now (first a r) out S = first-turned S a r (S .fit .inner .notYet) (S .fit .inner .atWork .block) (S .pass .inner)
+pass-turned p now (copying (GET r b c) n) out S = absurd (true≢false (sym (S .fit .inner .put)))
+pass-turned p now (copying (PUT b c r) n) out S = let F = S .fit .inner in copy-turned S b c r n (rw (F .first .read)) (F .first .left) (F .most) (S .pass .inner)
+pass-turned {m = m} p now (again a v r) out S = let F = S .fit .inner in again-turned S p a v (F .atWork .commands) (S .pass .inner) (F .again) (readTick m (bank (blockOf a)) r)
+pass-turned p now (committing e) out S = absurd out

@@ -1,0 +1,141 @@
+-- A statement of the running task keeps the transaction layer's invariant; no block changes but by a transaction's yes, which is the plain transaction.
+use Prim.Native.Nat.{ℕ, zero, suc, _+_, _<_, _≤_}
+use mathlib.Core.Bool.{Bool, true, false, true≢false}
+use mathlib.Core.Path.{_≡_, refl, sym, _∙_, ap, subst}
+use mathlib.Core.Logic.{_≢_}
+use mathlib.Core.List.{List, [], _∷_}
+use mathlib.Core.Option.{Option, none, some}
+use native.Mathlib.Omega.{arith}
+use lib.ListN.{length}
+use Rattle.model.specs.Lists.{at, replace}
+use Rattle.model.specs.Command.{Command, COMMIT}
+use Rattle.model.specs.Sheet.{Sheet}
+use Rattle.model.specs.Word.{Word, Memory, current, currentOf}
+use Rattle.model.specs.Job.{Touched, untouched, copied, Transaction, Inner, between, Phase, idle, plain, reading, exchanging, transacting, Task, Turn, ticked}
+use Rattle.model.specs.Transaction.{bank, storeOf, touchedOf, nothing?, takenBack}
+use Rattle.model.specs.Machine.{taskAt, noTask, statement}
+use Rattle.model.specs.Plain.{transactionOf, result, plainly}
+use Rattle.model.specs.History.{Operation, untilCommit, eventOf}
+use Rattle.model.specs.Claim.{blockIn, contentsOf}
+use Rattle.model.proofs.Lists.{replace-same, replace-other, same?}
+use Rattle.model.proofs.Fit.Memory.{MemoryFit}
+use Rattle.model.proofs.Fit.Transaction.{TransactionFit}
+use Rattle.model.proofs.Fit.Machine.{PhaseFit}
+use Rattle.model.proofs.Transactions.Facts.{bankIn, Change, unchanged, raised, saidYes, slotsOf, Owner, block, slot, Owners, PassFacts, TransactionFacts, PhaseFacts, TaskFacts, Transactions}
+use Rattle.model.proofs.Transactions.Given.{loadedBy, readingIn, SameContent, Cells, Given}
+use Rattle.model.proofs.Transactions.Frame.{Apart, Blocks, blocks-fit, pass-apart}
+use Rattle.model.proofs.Transactions.Steps.{SlotsApart}
+use Rattle.model.proofs.Transactions.Gather.{nothing-touched}
+use Rattle.model.proofs.Transactions.Commit.{Committed, committed-nothing, committed-change, commits-whole}
+use Rattle.model.proofs.Transactions.Owners.{owners-stay, slots-apart, owners-exchanged}
+use Rattle.model.proofs.Transactions.Pass.{operationAfter}
+use Rattle.model.proofs.Transactions.Committing.{TransactionYes, CommitsNow, Effect, quiet, commits, Stated}
+use Rattle.model.proofs.Transactions.Statement.{JobFit, TaskSituation, phase-stated}
+
+abbrev pub turnOf : ℕ → Memory → List Task → Turn
+turnOf p m ts = statement p m (taskAt ts p) (taskAt ts p .phase)
+
+-- WHAT THE OTHER LAYERS SAY of a tick in which task p runs, in a sheet with that many words, blocks and tasks
+pub record Running (words blocks tasks p : ℕ) (m : Memory) (ts : List Task) (operations : ℕ → Operation) : Type 0 where
+  pub fewWords : words ≤ 32
+  pub fewBlocks : blocks ≤ 16
+  pub declared : p < tasks
+  pub there : p < length ts
+  pub memory : MemoryFit m
+  pub copies : length (taskAt ts p .copies) ≡ 4
+  pub fit : (q : ℕ) → q < tasks → JobFit words blocks (taskAt ts q)
+  pub fitAfter : JobFit words blocks (turnOf p m ts .task)
+  pub given : Given p m ts (turnOf p m ts .memory)
+  pub invariant : Transactions blocks tasks m ts operations
+
+-- the latest operations after a statement of task p in tick `now`, of the tasks that are in a transaction then
+pub record Later (p now : ℕ) (m : Memory) (ts : List Task) (operations later : ℕ → Operation) : Type 0 where
+  pub mine : (x : Transaction) (s : Inner) → turnOf p m ts .task .phase ≡ transacting x s → later p ≡ operationAfter p (eventOf now p m (taskAt ts p) (taskAt ts p .phase)) (operations p)
+  pub others : (q : ℕ) → q ≢ p → (x : Transaction) (s : Inner) → taskAt ts q .phase ≡ transacting x s → later q ≡ operations q
+
+-- facts of a task go by its latest operation only in a transaction
+of-transactions : (blocks : ℕ) (m : Memory) (t : Task) (f : Phase) {o o′ : Operation} → t .phase ≡ f → ((x : Transaction) (s : Inner) → t .phase ≡ transacting x s → o′ ≡ o) → TaskFacts blocks m t o → TaskFacts blocks m t o′
+of-transactions blocks m t idle e g F = rw e tt
+of-transactions blocks m t plain e g F = rw e tt
+of-transactions blocks m t (reading r w s) e g F = rw e tt
+of-transactions blocks m t (exchanging r x) e g F = rw e tt
+of-transactions blocks m t (transacting x s) e g F = rw (g x s e) F
+
+-- the copy slots of a transaction that commits lie in bank values
+pub small : {blocks tasks p : ℕ} {m n : Memory} {slots : ℕ → List ℕ} {t : Task} {o : Operation} → p < tasks → Owners blocks tasks (bankIn m) slots → {y : TransactionYes p m t} → CommitsNow blocks p m t o n y → slots p ≡ t .copies
+    → (b v k : ℕ) → touchedOf (y .transaction) b ≡ copied v k → at 0 (t .copies) k < 256
+small {p = p} lt D C e b v k u = let h = rw e at (D .below (slot p k) (lt, omega (arith, C .blocksFit .slot b v k u, C .blocksFit .most))) in omega arith
+
+module _ {words blocks tasks p : ℕ} {m : Memory} {ts : List Task} {operations : ℕ → Operation} (R : Running words blocks tasks p m ts operations) (now : ℕ) where
+  pub stated : Stated blocks p m (taskAt ts p) (operations p) (turnOf p m ts) (operationAfter p (eventOf now p m (taskAt ts p) (taskAt ts p .phase)) (operations p))
+  stated =
+      phase-stated
+      (record {
+        fewWords = R .fewWords;
+        fewBlocks = R .fewBlocks;
+        memory = R .memory;
+        fit = R .fit p (R .declared);
+        facts = R .invariant .task p (R .declared);
+        apart = λ e. slots-apart p (taskAt ts p .copies) (R .declared) e (R .invariant .owners);
+      })
+      now (taskAt ts p .phase) refl (R .fitAfter) (R .given .cells)
+
+  -- V: a bank word keeps its current value, or its version rises by one
+  pub bank-changes : (b : ℕ) → Change (bankIn m b) (bankIn (turnOf p m ts .memory) b)
+  bank-changes b = go (stated .effect)
+    where
+      go : Effect blocks p m (taskAt ts p) (operations p) (turnOf p m ts .memory) (turnOf p m ts .task) → Change (bankIn m b) (bankIn (turnOf p m ts .memory) b)
+      go (quiet y h e) = unchanged (h b)
+      go (commits y C e f) = committed-change (C .cells) (small (R .declared) (R .invariant .owners) C e) b
+
+  -- stores are written only in copy slots of the task that runs
+  pub block-stores : (b : ℕ) → b < blocks → at [] (turnOf p m ts .memory .stores) (storeOf (bankIn m b)) ≡ at [] (m .stores) (storeOf (bankIn m b))
+  block-stores b lt = stated .stores (storeOf (bankIn m b)) (λ k l e. let z : _≡_ {A = ℕ} 0 1 = cc (R .invariant .owners .different (block b) (slot p k) lt (R .declared, l) e) in omega arith)
+
+  module _ (q : ℕ) (declared : q < tasks) (ne : q ≢ p) where
+    slot-stores : (k : ℕ) → k < 4 → at [] (turnOf p m ts .memory .stores) (at 0 (slotsOf (taskAt ts q)) k) ≡ at [] (m .stores) (at 0 (slotsOf (taskAt ts q)) k)
+    slot-stores k l = stated .stores (at 0 (slotsOf (taskAt ts q)) k) (λ j i e.
+        let z : slot q k ≡ slot p j = R .invariant .owners .different (slot q k) (slot p j) (declared, l) (R .declared, i) e in
+        let y : q ≡ p = cc in
+        ne y)
+
+    -- what is said of the others stays
+    other-facts : (f : Phase) → taskAt ts q .phase ≡ f → TaskFacts blocks (turnOf p m ts .memory) (taskAt ts q) (operations q)
+    other-facts idle e = rw e tt
+    other-facts plain e = rw e tt
+    other-facts (reading r w s) e = rw e tt
+    other-facts (exchanging r x) e = rw e tt
+    other-facts (transacting x s) e =
+        let K : TransactionFacts blocks m (taskAt ts q .copies) (taskAt ts q .registers) (taskAt ts q .commands) x s (operations q) = subst (λ (f : Phase). PhaseFacts blocks m (taskAt ts q .copies) (taskAt ts q .registers) (taskAt ts q .commands) (operations q) f) e (R .invariant .task q declared) in
+        let F : TransactionFit words blocks (taskAt ts q .copies) (taskAt ts q .commands) (taskAt ts q .pairs) x s = subst (λ (f : Phase). PhaseFit words blocks (taskAt ts q .copies) (taskAt ts q .commands) (taskAt ts q .pairs) f) e (R .fit q declared) in
+        rw e
+        (record {
+          arguments = K .arguments;
+          pass = λ ny.
+              let own : slotsOf (taskAt ts q) ≡ taskAt ts q .copies = rw (e, ny) in
+              let A : Apart blocks 4 m (turnOf p m ts .memory) (taskAt ts q .copies) = record { banks = bank-changes; blockStores = block-stores; slotStores = λ k l. rw own at (slot-stores k l) } in
+              pass-apart A x (K .pass ny .past) s F (λ w l. R .given .readings q ne w (rw e l)) (K .pass ny);
+        })
+
+  -- THE INVARIANT STAYS
+  own-task : taskAt (replace ts p (ticked (turnOf p m ts .task))) p ≡ ticked (turnOf p m ts .task)
+  own-task = replace-same noTask ts p (ticked (turnOf p m ts .task)) (R .there)
+
+  other-task : (q : ℕ) → q ≢ p → taskAt (replace ts p (ticked (turnOf p m ts .task))) q ≡ taskAt ts q
+  other-task q ne = replace-other noTask ts p q (ticked (turnOf p m ts .task)) ne
+
+  owners-after : Owners blocks tasks (bankIn (turnOf p m ts .memory)) (λ q. slotsOf (taskAt (replace ts p (ticked (turnOf p m ts .task))) q))
+  owners-after = go (stated .effect)
+    where
+      go : Effect blocks p m (taskAt ts p) (operations p) (turnOf p m ts .memory) (turnOf p m ts .task) → Owners blocks tasks (bankIn (turnOf p m ts .memory)) (λ q. slotsOf (taskAt (replace ts p (ticked (turnOf p m ts .task))) q))
+      go (quiet y h e) = owners-stay h (λ q. same? q p (λ k. rw (k, own-task) e) (λ ne. rw (other-task q ne))) (R .invariant .owners)
+      go (commits y C e f) = owners-exchanged p (R .declared) (C .blocksFit) (C .cells) (R .copies) e (rw own-task f) (λ q ne. rw (other-task q ne)) (R .invariant .owners)
+
+  pub statement-keeps : {later : ℕ → Operation} → Later p now m ts operations later → Transactions blocks tasks (turnOf p m ts .memory) (replace ts p (ticked (turnOf p m ts .task))) later
+  statement-keeps {later} L =
+      record {
+        owners = owners-after;
+        task = λ q lt. same? q p
+            (λ e. rw (e, own-task) (of-transactions blocks (turnOf p m ts .memory) (turnOf p m ts .task) (turnOf p m ts .task .phase) refl (L .mine) (stated .facts)))
+            (λ ne. rw (other-task q ne) (of-transactions blocks (turnOf p m ts .memory) (taskAt ts q) (taskAt ts q .phase) refl (L .others q ne) (other-facts q lt ne (taskAt ts q .phase) refl)));
+      }

@@ -1,0 +1,150 @@
+-- Every statement of a task, in a transaction or not: what is said of its task afterwards, and what it does to blocks, slots and stores.
+use Prim.Native.Nat.{ℕ, zero, suc, _+_, _<_, _≤_}
+use mathlib.Core.Bool.{Bool, true, false, true≢false}
+use mathlib.Core.Path.{_≡_, refl, sym, _∙_, ap, subst}
+use mathlib.Core.Logic.{_≢_}
+use mathlib.Core.List.{List, [], _∷_, _++_}
+use mathlib.Core.Option.{Option, none, some}
+use native.Mathlib.Omega.{arith}
+use lib.Dec.{eqb}
+use lib.ListN.{length}
+use Rattle.model.specs.Lists.{at, replace}
+use Rattle.model.specs.Command.{Access, GET, PUT, Command, WORD, BLOCK, TASK, RELEASE, END, LOAD, ADD, READ, PAIR, SWAP, BEGIN, access, COMMIT}
+use Rattle.model.specs.Word.{Memory, current, currentOf, Reading, loading, Read, reads, gives, readTick}
+use Rattle.model.specs.Exchange.{Entry, entry, exchangeOf, start, Exchange, Exchanged, goes, ends, exchangeTick}
+use Rattle.model.specs.Job.{Touched, untouched, remembered, copied, Transaction, Inner, between, first, copying, again, committing, Phase, idle, plain, reading, exchanging, transacting, Task, Turn, turn, rest, done, doneBy, inPhase}
+use Rattle.model.specs.Transaction.{bank, blockOf, touchedOf, fresh, within, loaded, added, stays, copyBy, copyTick, accessTick, commandTick, transactionTick}
+use Rattle.model.specs.Machine.{answer, readBy, swapBy, plainTick, statement}
+use Rattle.model.specs.Plain.{transactionOf}
+use Rattle.model.specs.History.{Operation, untilCommit, plainEvent, eventOf, transactionEvent}
+use Rattle.model.proofs.Fit.Memory.{MemoryFit}
+use Rattle.model.proofs.Fit.Exchange.{entryOf}
+use Rattle.model.proofs.Fit.Transaction.{TransactionFit}
+use Rattle.model.proofs.Fit.Machine.{PhaseFit}
+use Rattle.model.proofs.Whole.Act.{memoryAfter}
+use Rattle.model.proofs.Whole.Outcome.{outcome}
+use Rattle.model.proofs.Transactions.Facts.{bankIn, saidYes, slotsOf, PassFacts, TransactionFacts, PhaseFacts, TaskFacts}
+use Rattle.model.proofs.Transactions.Given.{exchangeIn, SaysYes, Swapped, Cells, same, swapped}
+use Rattle.model.proofs.Transactions.Steps.{SlotsApart}
+use Rattle.model.proofs.Transactions.Steps.{begins as begins-pass}
+use Rattle.model.proofs.Transactions.Pass.{operationAfter, Turned, done-facts, done-slots, PutRoom, PassSituation, Outside, pass-turned}
+use Rattle.model.proofs.Transactions.Exchange.{Seen, goes-on, says-yes, says-yes-last, over, seen}
+use Rattle.model.proofs.Transactions.Committing.{TransactionYes, Effect, quiet, commits, Stated, committing-stated}
+
+-- no exchange is at work
+no-exchange : {p : ℕ} {m n : Memory} {f : Phase} → exchangeIn f ≡ none → Cells p m f n → (c : ℕ) → currentOf n c ≡ currentOf m c
+no-exchange e (same g h) = h
+no-exchange e (swapped x Y i S) = let z : _≡_ {A = ℕ} 0 1 = cc (Y .exchange) in absurd (omega arith)
+
+-- an exchange of plain words leaves bank words, also where it says yes
+plain-words : {p r : ℕ} {m n : Memory} {x : Exchange} → ((e : ℕ) → e < length (x .entries) → entryOf (x .entries) e .cell < 32) → Cells p m (exchanging r x) n → (b : ℕ) → bankIn n b ≡ bankIn m b
+plain-words lt (same g h) b = h (bank b)
+plain-words {m = m} {n = n} {x = x} lt (swapped y Y i S) b =
+    let z : x ≡ y = cc (Y .exchange) in
+    let S′ : Swapped m n (x .entries) = subst (λ (w : Exchange). Swapped m n (w .entries)) (sym z) S in
+    S′ .others (bank b) (λ e l q. omega (arith, lt e l))
+
+seen-stores : {p : ℕ} {m : Memory} {x : Exchange} {out : Exchanged} → Seen p m x out → memoryAfter out .stores ≡ m .stores
+seen-stores (goes-on ey ny st) = st
+seen-stores (says-yes ey ec es) = refl
+seen-stores (says-yes-last ec es i) = refl
+seen-stores (over ey ny st) = st
+
+module _ {blocks p : ℕ} {m : Memory} {t : Task} {o : Operation} where
+  quiet-stated : {n : Memory} {t′ : Task} {o′ : Operation} → (TransactionYes p m t → ⊥) → TaskFacts blocks n t′ o′ → ((b : ℕ) → bankIn n b ≡ bankIn m b) → slotsOf t′ ≡ slotsOf t → n .stores ≡ m .stores → Stated blocks p m t o (turn n t′) o′
+  quiet-stated y F h e st = record { facts = F; effect = quiet y h e; stores = λ i ne. rw st }
+
+  -- outside transactions nothing is said of a task
+  module _ (own : slotsOf t ≡ t .copies) (plainly : TransactionYes p m t → ⊥) where
+    done-stated : {n : Memory} (rs : List ℕ) (ps : List Entry) {o′ : Operation} → ((b : ℕ) → bankIn n b ≡ bankIn m b) → n .stores ≡ m .stores → Stated blocks p m t o (turn n (done t rs ps (t .copies))) o′
+    done-stated {n} rs ps h st = quiet-stated plainly (done-facts blocks n (rest (t .commands)) t rs ps (t .copies) _) h (done-slots (rest (t .commands)) t rs ps (t .copies) ∙ sym own) st
+
+    read-stated : (r w : ℕ) (y : Read) {o′ : Operation} → Stated blocks p m t o (readBy m t r w y) o′
+    unfolding readBy
+    read-stated r w (reads s) = quiet-stated plainly tt (λ b. refl) (sym own) refl
+    read-stated r w (gives v) = done-stated (replace (t .registers) r v) (t .pairs) (λ b. refl) refl
+
+    swap-stated : (r : ℕ) (out : Exchanged) {o′ : Operation} → ((b : ℕ) → bankIn (memoryAfter out) b ≡ bankIn m b) → memoryAfter out .stores ≡ m .stores → Stated blocks p m t o (swapBy t r out) o′
+    unfolding swapBy
+    swap-stated r (goes n x) h st = quiet-stated plainly tt h (sym own) st
+    swap-stated r (ends n yes?) h st = done-stated (replace (t .registers) r (answer yes?)) [] h st
+
+swap-memory : (t : Task) (r : ℕ) (out : Exchanged) → swapBy t r out .memory ≡ memoryAfter out
+unfolding swapBy
+swap-memory t r (goes n x) = refl
+swap-memory t r (ends n yes?) = refl
+
+module _ {blocks p : ℕ} {m : Memory} {t : Task} {o : Operation} (own : slotsOf t ≡ t .copies) (plainly : TransactionYes p m t → ⊥) where
+  -- a command that does not stand outside a transaction
+  idle-stated : {o′ : Operation} → TaskFacts blocks m t o′ → Stated blocks p m t o (turn m t) o′
+  idle-stated F = quiet-stated plainly F (λ b. refl) refl refl
+
+  command-stated : (l : List Command) → t .phase ≡ plain → Cells p m plain (plainTick p m t l .memory) → Stated blocks p m t o (plainTick p m t l) (operationAfter p (plainEvent t l) o)
+  unfolding plainTick plainEvent readTick exchangeTick swapBy
+  command-stated [] e c = idle-stated (rw e tt)
+  command-stated (LOAD r v ∷ l) e c = done-stated own plainly (loaded (t .registers) r v) (t .pairs) (λ b. refl) refl
+  command-stated (ADD r q ∷ l) e c = done-stated own plainly (added (t .registers) r q) (t .pairs) (λ b. refl) refl
+  command-stated (READ r w ∷ l) e c = read-stated own plainly r w (readTick m w loading)
+  command-stated (PAIR w a b ∷ l) e c = done-stated own plainly (t .registers) (t .pairs ++ (entry w (at 0 (t .registers) a) (at 0 (t .registers) b) ∷ [])) (λ b. refl) refl
+  command-stated (SWAP r ∷ l) e c = swap-stated own plainly r (exchangeTick p m (exchangeOf (t .pairs)) start) (λ b. no-exchange refl c (bank b)) refl
+  command-stated (BEGIN ∷ l) e c = quiet-stated plainly (record { arguments = refl; pass = λ _. begins-pass blocks m (t .copies) (t .registers) l }) (λ b. refl) (sym own) refl
+  command-stated (access a ∷ l) e c = idle-stated (rw e tt)
+  command-stated (COMMIT ∷ l) e c = idle-stated (rw e tt)
+  command-stated (WORD v ∷ l) e c = idle-stated (rw e tt)
+  command-stated (BLOCK b ∷ l) e c = idle-stated (rw e tt)
+  command-stated (TASK ∷ l) e c = idle-stated (rw e tt)
+  command-stated (RELEASE r ∷ l) e c = idle-stated (rw e tt)
+  command-stated (END ∷ l) e c = idle-stated (rw e tt)
+
+abbrev pub JobFit : ℕ → ℕ → Task → Type 0
+JobFit words blocks t = PhaseFit words blocks (t .copies) (t .commands) (t .pairs) (t .phase)
+
+-- a first copy tick is well formed afterwards, so a copy slot was left before it
+put-room : (words blocks p : ℕ) (m : Memory) (t : Task) (x : Transaction) → JobFit words blocks (transactionTick p m t x between .task) → PutRoom x (t .commands)
+unfolding transactionTick commandTick accessTick copyTick copyBy
+put-room words blocks p m t x F b c r v others l e =
+    let u : transactionTick p m t x between .task ≡ stays t x (copying (PUT b c r) 1) = rw (l, e) in
+    let G : TransactionFit words blocks (t .copies) (t .commands) [] x (copying (PUT b c r) 1) = subst (λ (y : Task). JobFit words blocks y) u F in
+    G .inner .first .left
+
+-- THE SITUATION of a statement of task p
+pub record TaskSituation (words blocks p : ℕ) (m : Memory) (t : Task) (o : Operation) : Type 0 where
+  pub fewWords : words ≤ 32
+  pub fewBlocks : blocks ≤ 16
+  pub memory : MemoryFit m
+  pub fit : JobFit words blocks t
+  pub facts : TaskFacts blocks m t o
+  pub apart : slotsOf t ≡ t .copies → SlotsApart blocks m (t .copies)
+
+module _ {words blocks p : ℕ} {m : Memory} {t : Task} {o : Operation} (S : TaskSituation words blocks p m t o) (now : ℕ) where
+  pass-stated : (x : Transaction) (s : Inner) → t .phase ≡ transacting x s → Outside x (t .commands) s → saidYes s ≡ false
+      → Stated blocks p m t o (transactionTick p m t x s) (operationAfter p (transactionEvent now p m t x s) o)
+  pass-stated x s e out ny =
+      let own : slotsOf t ≡ t .copies = rw (e, ny) in
+      let F : TransactionFit words blocks (t .copies) (t .commands) (t .pairs) x s = subst (λ (f : Phase). PhaseFit words blocks (t .copies) (t .commands) (t .pairs) f) e (S .fit) in
+      let K : TransactionFacts blocks m (t .copies) (t .registers) (t .commands) x s o = subst (λ (f : Phase). PhaseFacts blocks m (t .copies) (t .registers) (t .commands) o f) e (S .facts) in
+      let T = pass-turned p now s out (record { most = S .fewBlocks; memory = S .memory; apart = S .apart own; phase = e; fit = F; arguments = K .arguments; pass = K .pass ny }) in
+      record { facts = T .facts; effect = quiet (λ Y. outside Y) (λ b. T .cells (bank b)) (T .slots ∙ sym own); stores = λ i ne. T .stores i (rw own at ne) }
+    where
+      outside : TransactionYes p m t → ⊥
+      outside Y = let z : s ≡ committing (Y .exchange) = cc (e, Y .phase) in subst (λ (i : Inner). Outside x (t .commands) i) z out
+
+  pub phase-stated : (f : Phase) → t .phase ≡ f → JobFit words blocks (statement p m t f .task) → Cells p m f (statement p m t f .memory) → Stated blocks p m t o (statement p m t f) (operationAfter p (eventOf now p m t f) o)
+  unfolding statement eventOf
+  phase-stated idle e G c = idle-stated (rw e) (λ Y. let z : _≡_ {A = ℕ} 0 1 = cc (e, Y .phase) in omega arith) (rw e tt)
+  phase-stated plain e G c = command-stated (rw e) (λ Y. let z : _≡_ {A = ℕ} 0 1 = cc (e, Y .phase) in omega arith) (t .commands) e c
+  phase-stated (reading r w s) e G c = read-stated (rw e) (λ Y. let z : _≡_ {A = ℕ} 0 1 = cc (e, Y .phase) in omega arith) r w (readTick m w s)
+  phase-stated (exchanging r x) e G c =
+      let F = subst (λ (f : Phase). PhaseFit words blocks (t .copies) (t .commands) (t .pairs) f) e (S .fit) in
+      swap-stated (rw e) (λ Y. let z : _≡_ {A = ℕ} 0 1 = cc (e, Y .phase) in omega arith) r (exchangeTick p m x (x .step))
+      (plain-words (λ i l. omega (arith, F .exchange .entries .below i l, S .fewWords)) (rw (swap-memory t r (exchangeTick p m x (x .step))) at c))
+      (seen-stores (seen p m x (outcome p m x)))
+  phase-stated (transacting x between) e G c = pass-stated x between e (put-room words blocks p m t x G) refl
+  phase-stated (transacting x (first a r)) e G c = pass-stated x (first a r) e tt refl
+  phase-stated (transacting x (copying a n)) e G c = pass-stated x (copying a n) e tt refl
+  phase-stated (transacting x (again a v r)) e G c = pass-stated x (again a v r) e tt refl
+  phase-stated (transacting x (committing y)) e G c =
+      committing-stated e
+      (subst (λ (f : Phase). PhaseFit words blocks (t .copies) (t .commands) (t .pairs) f) e (S .fit))
+      (subst (λ (f : Phase). PhaseFacts blocks m (t .copies) (t .registers) (t .commands) o f) e (S .facts))
+      now c
