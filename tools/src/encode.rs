@@ -81,7 +81,7 @@ fn encode_line(line: &str) -> Result<Vec<u8>, String> {
 fn encode_operands(word: &str, kinds: &[Operand], operands: &[&str]) -> Result<Vec<u8>, String> {
     if operands.len() != kinds.len() {
         let (wanted, given) = (kinds.len(), operands.len());
-        return Err(format!("{word} takes {wanted} operands, not {given}{}", listed(kinds)));
+        return Err(format!("{word} takes {wanted} operand(s){}, not {given}", listed(kinds)));
     }
     let mut bytes = Vec::new();
     for (&kind, operand) in kinds.iter().zip(operands) {
@@ -113,11 +113,9 @@ fn number_of(kind: Operand, operand: &str) -> Result<u32, String> {
     }
     match digits.parse() {
         Ok(number) if number <= kind.largest() => Ok(number),
-        _ => Err(format!(
-            "{operand} is too large, a {} has {} byte(s) and goes to {}",
-            kind.name(),
-            kind.width(),
-            kind.written(kind.largest())
-        )),
+        _ => {
+            let largest = kind.written(kind.largest());
+            Err(format!("{operand} is too large for a {}, the largest is {largest}", kind.name()))
+        }
     }
 }

@@ -85,21 +85,21 @@ fn operands_beyond_their_range_can_be_written() {
 fn a_text_is_refused_with_its_line() {
     assert_eq!(fault_of("WORD 1\n\nWORDS 2"), "line 3: 'WORDS' is no command");
     assert_eq!(fault_of("word 1"), "line 1: 'word' is no command");
-    assert_eq!(fault_of("LOAD r1"), "line 1: LOAD takes 2 operands, not 1 (register, value)");
-    assert_eq!(fault_of("# a\nEND 5"), "line 2: END takes 0 operands, not 1");
+    assert_eq!(fault_of("LOAD r1"), "line 1: LOAD takes 2 operand(s) (register, value), not 1");
+    assert_eq!(fault_of("# a\nEND 5"), "line 2: END takes 0 operand(s), not 1");
     assert_eq!(fault_of("LOAD 1 12"), "line 1: LOAD: '1' is no register, as in r0");
     assert_eq!(fault_of("PAIR r0 w1 r2"), "line 1: PAIR: 'r0' is no word, as in w0");
     assert_eq!(fault_of("WORD 0x12"), "line 1: WORD: '0x12' is no decimal number (value)");
     assert_eq!(fault_of("WORD -1"), "line 1: WORD: '-1' is no decimal number (value)");
     assert_eq!(fault_of("WORD +1"), "line 1: WORD: '+1' is no decimal number (value)");
-    let too_large = "is too large, a value has 4 byte(s) and goes to 4294967295";
+    let too_large = "is too large for a value, the largest is 4294967295";
     assert_eq!(fault_of("WORD 4294967296"), format!("line 1: WORD: 4294967296 {too_large}"));
     let far_too_large = "9".repeat(40);
     let reason = format!("line 1: WORD: {far_too_large} {too_large}");
     assert_eq!(fault_of(&format!("WORD {far_too_large}")), reason);
-    let reason = "is too large, a register has 1 byte(s) and goes to r255";
+    let reason = "is too large for a register, the largest is r255";
     assert_eq!(fault_of("SWAP r256"), format!("line 1: SWAP: r256 {reason}"));
-    let reason = "is too large, a tick has 2 byte(s) and goes to 65535";
+    let reason = "is too large for a tick, the largest is 65535";
     assert_eq!(fault_of("RELEASE 65536 t0"), format!("line 1: RELEASE: 65536 {reason}"));
     let fault = encode_utf8(b"WORD 1\nWORD \xFF").unwrap_err();
     assert_eq!(fault.to_string(), "line 2: the line is no UTF-8 text");

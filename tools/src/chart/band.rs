@@ -8,10 +8,11 @@ use super::record::{Done, Recording, Tick};
 use super::series::Series;
 use super::statement::{kind, label};
 use super::subject::Subject;
-use super::svg::{text_width, Svg, TEXT_SIZE};
+use super::svg::{shortened, text_width, Svg, TEXT_SIZE};
 
 pub const LEFT: f32 = 128.0;
-pub const RIGHT: f32 = 34.0;
+/// The room for a value that changes in the last tick of a band.
+pub const RIGHT: f32 = 64.0;
 pub const CELL_WIDTH: f32 = 14.0;
 const CELL_HEIGHT: f32 = 48.0;
 const SCALE_HEIGHT: f32 = 16.0;
@@ -108,15 +109,16 @@ impl Band<'_> {
             let width = CELL_WIDTH * run.len() as f32;
             let x = self.x(run.start);
             svg.rectangle("idle", x, self.rows_start(), width, height);
-            let middle = self.rows_start() + height / 2.0;
-            let text =
-                if run.len() == 1 { "idle".to_string() } else { format!("{} idle", run.len()) };
-            if width > text_width(&text, TEXT_SIZE) {
-                svg.fitted_text("idle-text", x + width / 2.0, middle, width, &text);
-            } else {
-                svg.upward_text("idle-text", x + width / 2.0 + 3.0, middle, height, &text);
-            }
+            self.draw_idle_text(svg, x + width / 2.0, run.len());
         }
+    }
+
+    /// At the upper edge, where no other row's line crosses it.
+    fn draw_idle_text(&self, svg: &mut Svg, middle: f32, ticks: usize) {
+        let room = CELL_WIDTH * ticks as f32;
+        let whole = format!("{ticks} idle");
+        let text = if text_width(&whole, TEXT_SIZE) <= room { whole.as_str() } else { "idle" };
+        svg.fitted_text("idle-text", middle, self.rows_start() + 9.0, room, text);
     }
 
     fn draw_row(&self, svg: &mut Svg, task: usize) {
@@ -124,8 +126,9 @@ impl Band<'_> {
         let bottom = top + self.cells_height(task) + BELOW;
         let middle = top + self.cells_height(task) / 2.0;
         svg.line("row-line", (0.0, bottom), (self.x(self.ticks.end), bottom));
-        let name = self.names.of(Subject::Task(task));
-        svg.fitted_text("task", 4.0, middle + 3.0, LEFT - 12.0, &name);
+        // The name is in bold, so it takes more room than its width says.
+        let name = shortened(&self.names.of(Subject::Task(task)), LEFT - 24.0);
+        svg.text("task", 4.0, middle + 3.0, &name);
         let waits = |tick: usize| self.recording.ticks[tick].waiting.contains(&task);
         for run in runs(self.ticks.clone(), waits) {
             marks::waiting(svg, self.x(run.start), self.x(run.end), middle);
@@ -170,7 +173,7 @@ impl Band<'_> {
         let right = self.x(self.ticks.end);
         let value = series.before(self.ticks.start);
         let room = LEFT - 16.0 - text_width(value, TEXT_SIZE);
-        svg.fitted_text("margin", 4.0, y + 3.0, room, &self.names.of(series.subject));
+        svg.text("margin", 4.0, y + 3.0, &shortened(&self.names.of(series.subject), room));
         svg.fitted_text("value-before", LEFT - 6.0, y + 3.0, LEFT, value);
         svg.line("level", (LEFT, y), (right, y));
         let shown = series.changes.iter().filter(|change| self.ticks.contains(&change.tick));

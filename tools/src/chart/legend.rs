@@ -20,7 +20,7 @@ const SIGNS: [(Sign, &str); 8] = [
     (|svg, x, y| marks::commit(svg, x, y + 6.0, true), "Commit turns status 0 into 2: yes"),
     (|svg, x, y| marks::commit(svg, x, y + 6.0, false), "Commit finds status 1: no"),
     (|svg, x, y| marks::restart(svg, x + 6.0, y - 4.0), "the transaction restarts"),
-    (|svg, x, y| marks::job_end(svg, x, y - 4.0, 8.0), "the job ends"),
+    (|svg, x, y| marks::job_end(svg, x + 1.3, y - 4.0, 8.0), "the job ends"),
     (marks::change, "a current value changes"),
 ];
 

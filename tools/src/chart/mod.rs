@@ -77,21 +77,16 @@ pub fn draw(sheet: &[u8], options: &Options) -> Result<String, Fault> {
         top += NOTE_HEIGHT;
     }
     let height = legend::draw(&mut svg, top, width) + 4.0;
-    Ok(svg.finish(width, height, style::STYLE))
+    Ok(svg.finish(width, height, &style::style()))
 }
 
 fn range_note(recording: &Recording) -> String {
     let total = recording.run_ticks;
-    let shown = recording.ticks.len() as u32;
-    match shown.checked_sub(1) {
-        None => format!("The run has {total} ticks, none of them here."),
-        Some(further) => {
-            let (first, last) = (recording.first, recording.first + further);
-            format!(
-                "Ticks {first} to {last} of a run of {total} ticks. The highest task is on top."
-            )
-        }
-    }
+    let range = match recording.ticks.len() as u32 {
+        0 => "No ticks".to_string(),
+        shown => format!("Ticks {} to {}", recording.first, recording.first + shown - 1),
+    };
+    format!("{range}; the whole run has {total}. The highest task is on top.")
 }
 
 /// The words and blocks that keep their value, in lines no wider than the picture.

@@ -2,7 +2,7 @@
 
 use simulator::observer::Statement;
 
-/// The kinds from light to dark: they can be told apart in grey, too.
+/// The kinds from light to dark, so that a grey print keeps them apart; the last has an outline instead.
 #[derive(Clone, Copy, Debug, PartialEq, Eq)]
 pub enum Kind {
     Plain,
@@ -39,6 +39,18 @@ impl Kind {
             Kind::SetStatus => "set-status",
             Kind::Commit => "commit",
             Kind::WriteNothing => "write-nothing",
+        }
+    }
+
+    pub fn colour(self) -> &'static str {
+        match self {
+            Kind::Plain | Kind::WriteNothing => "#ffffff",
+            Kind::Read => "#cfe4f7",
+            Kind::Prepare => "#e6c84a",
+            Kind::Values => "#86b35f",
+            Kind::WriteWord => "#d4681f",
+            Kind::SetStatus => "#a51c30",
+            Kind::Commit => "#1b2440",
         }
     }
 

@@ -1,9 +1,11 @@
-//! The chart's colours and lines. The kinds' colours fall in lightness, so a grey print keeps them apart.
+//! The chart's style sheet: text, lines and colours.
 
-pub const STYLE: &str = "
-text { font-family: Helvetica, Arial, 'Liberation Sans', 'DejaVu Sans', sans-serif; fill: #000; }
+use super::statement::Kind;
+
+const STYLE: &str = "
+text { font-family: Helvetica, Arial, 'Liberation Sans', 'DejaVu Sans', sans-serif;
+       font-size: 8.5px; fill: #000; }
 .title { font-size: 13px; font-weight: bold; }
-.margin, .number, .legend, .note { font-size: 8.5px; }
 .legend, .note { font-size: 9.5px; }
 .number { text-anchor: middle; }
 .task { font-weight: bold; }
@@ -15,19 +17,21 @@ text { font-family: Helvetica, Arial, 'Liberation Sans', 'DejaVu Sans', sans-ser
 .row-line { stroke: #bbb; stroke-width: 0.7; }
 .idle { fill: #ececec; }
 .plain, .read, .prepare, .values, .write-word, .set-status, .commit { stroke: #333; stroke-width: 0.6; }
-.plain { fill: #fff; }
-.read { fill: #cfe4f7; }
-.prepare { fill: #e6c84a; }
-.values { fill: #8cb369; }
-.write-word { fill: #e07b39; }
-.set-status { fill: #ad1f35; }
-.commit { fill: #1b2440; }
-.write-nothing { fill: #fff; stroke: #c2410c; stroke-width: 1.6; stroke-dasharray: 3 2; }
-.arrow, .cross { stroke: #000; stroke-width: 1.3; }
-.arrow-head, .change, .yes { fill: #000; }
+.write-nothing { stroke: #c2410c; stroke-width: 1.6; stroke-dasharray: 3 2; }
+.arrow { stroke: #000; stroke-width: 1; fill: #000; }
+.dropped { stroke: #888; fill: #888; }
+.cross { stroke: #000; stroke-width: 1.6; }
+.change, .yes { fill: #000; }
 .no { fill: #fff; stroke: #000; stroke-width: 1.4; }
 .back { stroke: #000; stroke-width: 1.2; }
 .back-head, .job-end { fill: #000; }
 .waiting { stroke: #555; stroke-width: 1.4; stroke-dasharray: 2 3; }
 .level { stroke: #999; stroke-width: 0.8; }
 ";
+
+/// The whole style sheet.
+pub fn style() -> String {
+    let fill = |kind: Kind| format!(".{} {{ fill: {}; }}\n", kind.class(), kind.colour());
+    let fills: String = Kind::ALL.into_iter().map(fill).collect();
+    format!("{STYLE}{fills}")
+}

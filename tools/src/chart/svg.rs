@@ -48,19 +48,17 @@ impl Svg {
 
     /// Text no wider than the room, in a smaller size where it would not fit.
     pub fn fitted_text(&mut self, class: &str, x: f32, y: f32, room: f32, text: &str) {
-        let size = fitted_size(text, room);
+        let size = size_attribute(text, room);
         let text = escaped(text);
-        self.element(format_args!(
-            r#"<text class="{class}" font-size="{size}" x="{x}" y="{y}">{text}</text>"#
-        ));
+        self.element(format_args!(r#"<text class="{class}"{size} x="{x}" y="{y}">{text}</text>"#));
     }
 
     /// Text that runs upwards from (x, y), fitted to the room.
     pub fn upward_text(&mut self, class: &str, x: f32, y: f32, room: f32, text: &str) {
-        let size = fitted_size(text, room);
+        let size = size_attribute(text, room);
         let text = escaped(text);
         self.element(format_args!(
-            r#"<text class="{class}" font-size="{size}" transform="translate({x} {y}) rotate(-90)">{text}</text>"#
+            r#"<text class="{class}"{size} transform="translate({x} {y}) rotate(-90)">{text}</text>"#
         ));
     }
 
@@ -77,17 +75,33 @@ impl Svg {
     }
 }
 
-/// The size of text in cells and beside changes, where there is room.
+/// The size of text where there is room; the style has it too.
 pub const TEXT_SIZE: f32 = 8.5;
 
-fn fitted_size(text: &str, room: f32) -> f32 {
-    let whole = text_width(text, TEXT_SIZE);
-    if whole <= room {
-        TEXT_SIZE
+fn size_attribute(text: &str, room: f32) -> String {
+    let size = fitted_size(text, room);
+    if size == TEXT_SIZE {
+        String::new()
     } else {
-        // Rounded down to tenths.
-        (TEXT_SIZE * room / whole * 10.0).floor() / 10.0
+        format!(r#" style="font-size: {size}px""#)
     }
+}
+
+/// The size in which the text is no wider than the room, rounded down to tenths.
+fn fitted_size(text: &str, room: f32) -> f32 {
+    let fitting = TEXT_SIZE * room / text_width(text, TEXT_SIZE);
+    TEXT_SIZE.min((fitting * 10.0).floor() / 10.0)
+}
+
+/// The text, or as much of its front as fits the room.
+pub fn shortened(text: &str, room: f32) -> String {
+    let mut short = text.to_string();
+    while text_width(&short, TEXT_SIZE) > room && short.pop().is_some() {}
+    if short.len() < text.len() {
+        short.pop();
+        short.push('…');
+    }
+    short
 }
 
 /// How wide a text is in a common sans-serif font, rather more than less.
