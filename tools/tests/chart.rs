@@ -152,17 +152,27 @@ fn first_and_last_tick_cut_the_picture() {
     assert_eq!(cells_drawn(&whole), 279 - 44);
     let beyond = Options { first: 1000, last: 2000, ..Options::default() };
     assert!(draw(&sheet, &beyond).unwrap().contains("No ticks; the whole run has 279."));
+    let far_beyond = Options { first: u32::MAX, last: u32::MAX, ..Options::default() };
+    assert!(draw(&sheet, &far_beyond).unwrap().contains("No ticks; the whole run has 279."));
     assert_eq!(draw(&[0xFF], &Options::default()).unwrap_err().number, 1);
 }
 
+/// The sizes of the words in the cells that had to be made smaller.
+fn smaller_sizes(picture: &str) -> Vec<f32> {
+    let cells = picture.lines().filter(|line| line.contains("rotate(-90)"));
+    let sizes = cells.filter_map(|line| line.split("font-size: ").nth(1)?.split("px").next());
+    sizes.map(|size| size.parse().unwrap()).collect()
+}
+
 #[test]
-fn every_good_sheet_of_the_corpus_can_be_drawn() {
+fn every_good_sheet_of_the_corpus_is_drawn_readably() {
     for index in 0..400 {
         let sheet = case(SEED, index).sheet;
         if parse(&sheet).is_ok() {
             let picture = draw(&sheet, &Options::default()).unwrap();
             assert_eq!(picture.matches("<text").count(), picture.matches("</text>").count());
             assert!(picture.starts_with("<svg ") && picture.ends_with("</svg>\n"));
+            assert!(smaller_sizes(&picture).iter().all(|size| *size >= 7.5));
         }
     }
 }

@@ -75,8 +75,13 @@ fn chart_draws_or_explains() {
     let refused = run(CHART, &[], &[3, 0x11, 8, 0]);
     assert_eq!((status(&refused), refused.stdout.len()), (1, 0));
     assert_eq!(message(&refused), "X 6 1: r8 is no register, they are r0 to r7\n");
-    for arguments in [&["--first"][..], &["--first", "one"], &["--name", "guard"], &["--wide", "1"]]
-    {
+    for arguments in [
+        &["--first"][..],
+        &["--first", "one"],
+        &["--name", "guard"],
+        &["--name", "r1=x"],
+        &["--wide", "1"],
+    ] {
         assert_eq!(status(&run(CHART, arguments, &sheet)), 2);
     }
 }

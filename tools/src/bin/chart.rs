@@ -48,7 +48,7 @@ fn options(mut arguments: impl Iterator<Item = String>) -> Result<Options, Strin
         match option.as_str() {
             "--first" => options.first = number(&value)?,
             "--last" => last = Some(number(&value)?),
-            "--band" => options.ticks_in_band = number(&value)?.max(1) as usize,
+            "--band" => options.ticks_in_band = number(&value)? as usize,
             "--title" => options.title = value,
             "--name" => options.names.add(&value)?,
             _ => return Err(USAGE.to_string()),

@@ -92,10 +92,10 @@ impl Band<'_> {
         svg.text("margin", 4.0, self.top + 10.0, "tick");
         for tick in self.ticks.clone() {
             let number = self.recording.first as usize + tick;
-            if number % 5 == 0 {
+            if number.is_multiple_of(5) {
                 svg.text("number", self.middle(tick), self.top + 10.0, &number.to_string());
             }
-            if number % 10 == 0 {
+            if number.is_multiple_of(10) {
                 let x = self.x(tick);
                 svg.line("grid", (x, self.top + 13.0), (x, self.bottom()));
             }

@@ -12,7 +12,6 @@ pub mod subject;
 mod svg;
 
 use simulator::sheet::{parse, Fault};
-use simulator::TOP_LIMIT;
 
 use band::{Band, CELL_WIDTH, LEFT, RIGHT};
 use names::Names;
@@ -53,20 +52,20 @@ const NOTE_HEIGHT: f32 = 14.0;
 /// Draws the run of a sheet, or hands on the fault that turns the sheet down.
 pub fn draw(sheet: &[u8], options: &Options) -> Result<String, Fault> {
     let sheet = parse(sheet)?;
-    let last = options.last.min(TOP_LIMIT as u32 - 1);
-    let recording = Recording::new(&sheet, options.first, last);
+    let recording = Recording::new(&sheet, options.first, options.last);
     let (changing, unchanged): (Vec<Series>, Vec<Series>) =
         all_series(&recording).into_iter().partition(|series| !series.changes.is_empty());
 
     let shown = recording.ticks.len();
-    let cells = options.ticks_in_band.min(shown).max(FEWEST_CELLS);
+    let in_band = options.ticks_in_band.max(1);
+    let cells = in_band.min(shown).max(FEWEST_CELLS);
     let width = LEFT + CELL_WIDTH * cells as f32 + RIGHT;
     let mut svg = Svg::new();
     svg.text("title", 4.0, 18.0, &options.title);
     svg.text("note", 4.0, 34.0, &range_note(&recording));
     let mut top = 46.0;
-    for start in (0..shown).step_by(options.ticks_in_band) {
-        let ticks = start..shown.min(start + options.ticks_in_band);
+    for start in (0..shown).step_by(in_band) {
+        let ticks = start..shown.min(start + in_band);
         let (recording, names) = (&recording, &options.names);
         let band = Band { recording, series: &changing, names, ticks, top, width };
         band.draw(&mut svg);

@@ -10,7 +10,7 @@ impl Names {
     /// Takes a text like `t4=guard`.
     pub fn add(&mut self, text: &str) -> Result<(), String> {
         match text.split_once('=') {
-            Some((number, name)) if !number.is_empty() && !name.is_empty() => {
+            Some((number, name)) if is_number(number) => {
                 self.0.push((number.to_string(), name.to_string()));
                 Ok(())
             }
@@ -26,4 +26,10 @@ impl Names {
             None => number,
         }
     }
+}
+
+/// A task, word or block as the text form writes it.
+fn is_number(text: &str) -> bool {
+    let digits = text.strip_prefix(['t', 'w', 'b']).unwrap_or_default();
+    !digits.is_empty() && digits.bytes().all(|byte| byte.is_ascii_digit())
 }

@@ -56,17 +56,18 @@ pub struct Recording {
 impl Recording {
     /// Runs the sheet and records the ticks from `first` to `last`, as far as the run comes.
     pub fn new(sheet: &Sheet, first: u32, last: u32) -> Recording {
+        let limit = TOP_LIMIT as u32;
         let mut machine = Machine::new(sheet);
-        machine.run(first, &mut NoObserver);
+        machine.run(first.min(limit), &mut NoObserver);
         let before = contents(&machine);
         let mut ticks = Vec::new();
-        for tick in machine.tick..=last {
+        for tick in machine.tick..=last.min(limit - 1) {
             match record_tick(&mut machine, tick) {
                 Some(recorded) => ticks.push(recorded),
                 None => break,
             }
         }
-        machine.run(TOP_LIMIT as u32, &mut NoObserver);
+        machine.run(limit, &mut NoObserver);
         Recording { tasks: sheet.bodies.len(), first, before, ticks, run_ticks: machine.tick }
     }
 }
@@ -74,11 +75,10 @@ impl Recording {
 /// Does one tick, or nothing if the run has stopped.
 fn record_tick(machine: &mut Machine, tick: u32) -> Option<Tick> {
     let tasks = machine.sheet.bodies.len();
-    let limit = (tick + 1).min(TOP_LIMIT as u32);
     let standings: Vec<Standing> = (0..tasks).map(|task| Standing::of(machine, task)).collect();
     let unfinished_before = machine.unfinished;
     let mut observed = Observed::default();
-    machine.run(limit, &mut observed);
+    machine.run(tick + 1, &mut observed);
     if machine.tick == tick {
         return None;
     }

@@ -10,7 +10,7 @@ pub enum Kind {
     Prepare,
     Values,
     WriteWord,
-    SetStatus,
+    EndAttempt,
     Commit,
     /// An Install or Clean that found another word than its own, and so wrote nothing.
     WriteNothing,
@@ -23,7 +23,7 @@ impl Kind {
         Kind::Prepare,
         Kind::Values,
         Kind::WriteWord,
-        Kind::SetStatus,
+        Kind::EndAttempt,
         Kind::Commit,
         Kind::WriteNothing,
     ];
@@ -36,7 +36,7 @@ impl Kind {
             Kind::Prepare => "prepare",
             Kind::Values => "values",
             Kind::WriteWord => "write-word",
-            Kind::SetStatus => "set-status",
+            Kind::EndAttempt => "end-attempt",
             Kind::Commit => "commit",
             Kind::WriteNothing => "write-nothing",
         }
@@ -49,7 +49,7 @@ impl Kind {
             Kind::Prepare => "#e6c84a",
             Kind::Values => "#86b35f",
             Kind::WriteWord => "#d4681f",
-            Kind::SetStatus => "#a51c30",
+            Kind::EndAttempt => "#a51c30",
             Kind::Commit => "#1b2440",
         }
     }
@@ -61,7 +61,7 @@ impl Kind {
             Kind::Prepare => "prepare an exchange: gather, Start, Test, Save",
             Kind::Values => "block values: fetch (GET), copy and write (PUT)",
             Kind::WriteWord => "write a word: Install, Clean",
-            Kind::SetStatus => "end an attempt: Fail, Mark; spent",
+            Kind::EndAttempt => "end an attempt: Fail, Mark; spent",
             Kind::Commit => "Commit; COMMIT with nothing touched",
             Kind::WriteNothing => "Install or Clean that finds another word",
         }
@@ -69,57 +69,52 @@ impl Kind {
 
     /// Is the cell so dark that its word must be light?
     pub fn is_dark(self) -> bool {
-        matches!(self, Kind::SetStatus | Kind::Commit)
+        matches!(self, Kind::EndAttempt | Kind::Commit)
     }
 }
 
 /// Document 01's word for a statement. Commands are in capitals there, steps are not.
 pub fn label(statement: Statement) -> &'static str {
-    match statement {
-        Statement::Load => "LOAD",
-        Statement::Add => "ADD",
-        Statement::Pair => "PAIR",
-        Statement::Begin => "BEGIN",
-        Statement::ReadLoad
-        | Statement::FirstLoad
-        | Statement::AgainLoad
-        | Statement::ExchangeLoad => "Load",
-        Statement::ReadLook
-        | Statement::FirstLook
-        | Statement::AgainLook
-        | Statement::ExchangeLook => "Look",
-        Statement::ReadFetch
-        | Statement::FirstFetch
-        | Statement::AgainFetch
-        | Statement::ExchangeFetch => "Fetch",
-        Statement::GetFromBlock | Statement::GetFromCopy => "fetch",
-        Statement::PutCopies => "copy",
-        Statement::PutWrites => "write",
-        Statement::CommitOfNothing => "COMMIT",
-        Statement::CommitGathers => "gather",
-        Statement::CommitSpent => "spent",
-        Statement::ExchangeStart => "Start",
-        Statement::ExchangeTest => "Test",
-        Statement::ExchangeSave => "Save",
-        Statement::FailAfterSave | Statement::FailAfterInstall => "Fail",
-        Statement::Mark | Statement::CleanMark => "Mark",
-        Statement::InstallDone | Statement::InstallNotDone => "Install",
-        Statement::CommitYes | Statement::CommitNo => "Commit",
-        Statement::CleanAsNew | Statement::CleanBackToInit | Statement::CleanNothing => "Clean",
-    }
+    shown(statement).0
 }
 
 pub fn kind(statement: Statement) -> Kind {
+    shown(statement).1
+}
+
+fn shown(statement: Statement) -> (&'static str, Kind) {
     match statement {
-        Statement::InstallNotDone | Statement::CleanNothing => Kind::WriteNothing,
-        _ => match label(statement) {
-            "LOAD" | "ADD" | "PAIR" | "BEGIN" => Kind::Plain,
-            "Load" | "Look" | "Fetch" => Kind::Read,
-            "gather" | "Start" | "Test" | "Save" => Kind::Prepare,
-            "fetch" | "copy" | "write" => Kind::Values,
-            "Install" | "Clean" => Kind::WriteWord,
-            "Fail" | "Mark" | "spent" => Kind::SetStatus,
-            _ => Kind::Commit,
-        },
+        Statement::Load => ("LOAD", Kind::Plain),
+        Statement::Add => ("ADD", Kind::Plain),
+        Statement::Pair => ("PAIR", Kind::Plain),
+        Statement::Begin => ("BEGIN", Kind::Plain),
+        Statement::ReadLoad
+        | Statement::FirstLoad
+        | Statement::AgainLoad
+        | Statement::ExchangeLoad => ("Load", Kind::Read),
+        Statement::ReadLook
+        | Statement::FirstLook
+        | Statement::AgainLook
+        | Statement::ExchangeLook => ("Look", Kind::Read),
+        Statement::ReadFetch
+        | Statement::FirstFetch
+        | Statement::AgainFetch
+        | Statement::ExchangeFetch => ("Fetch", Kind::Read),
+        Statement::GetFromBlock | Statement::GetFromCopy => ("fetch", Kind::Values),
+        Statement::PutCopies => ("copy", Kind::Values),
+        Statement::PutWrites => ("write", Kind::Values),
+        Statement::CommitGathers => ("gather", Kind::Prepare),
+        Statement::ExchangeStart => ("Start", Kind::Prepare),
+        Statement::ExchangeTest => ("Test", Kind::Prepare),
+        Statement::ExchangeSave => ("Save", Kind::Prepare),
+        Statement::FailAfterSave | Statement::FailAfterInstall => ("Fail", Kind::EndAttempt),
+        Statement::Mark | Statement::CleanMark => ("Mark", Kind::EndAttempt),
+        Statement::CommitSpent => ("spent", Kind::EndAttempt),
+        Statement::InstallDone => ("Install", Kind::WriteWord),
+        Statement::CleanAsNew | Statement::CleanBackToInit => ("Clean", Kind::WriteWord),
+        Statement::InstallNotDone => ("Install", Kind::WriteNothing),
+        Statement::CleanNothing => ("Clean", Kind::WriteNothing),
+        Statement::CommitYes | Statement::CommitNo => ("Commit", Kind::Commit),
+        Statement::CommitOfNothing => ("COMMIT", Kind::Commit),
     }
 }
