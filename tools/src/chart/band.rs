@@ -1,0 +1,209 @@
+//! One band of the chart: a tick scale, a row for each task and the changes below.
+
+use std::ops::Range;
+
+use super::marks;
+use super::names::Names;
+use super::record::{Done, Recording, Tick};
+use super::series::Series;
+use super::statement::{kind, label};
+use super::subject::Subject;
+use super::svg::{shortened, text_width, Svg, TEXT_SIZE};
+
+pub const LEFT: f32 = 128.0;
+/// The room for a value that changes in the last tick of a band.
+pub const RIGHT: f32 = 64.0;
+pub const CELL_WIDTH: f32 = 14.0;
+const CELL_HEIGHT: f32 = 48.0;
+const SCALE_HEIGHT: f32 = 16.0;
+/// The height of a row's middle where its task does not run in the band.
+const EMPTY_HEIGHT: f32 = 8.0;
+/// The room above the cells for releases and commits, and below them for restarts.
+const ABOVE: f32 = 15.0;
+const BELOW: f32 = 8.0;
+const SERIES_HEIGHT: f32 = 14.0;
+
+/// Some ticks of the recording, to be drawn from `top` on.
+pub struct Band<'a> {
+    pub recording: &'a Recording,
+    pub series: &'a [Series],
+    pub names: &'a Names,
+    pub ticks: Range<usize>,
+    pub top: f32,
+    /// The width of the picture.
+    pub width: f32,
+}
+
+impl Band<'_> {
+    pub fn draw(&self, svg: &mut Svg) {
+        self.draw_scale(svg);
+        self.draw_idle(svg);
+        for task in 0..self.recording.tasks {
+            self.draw_row(svg, task);
+        }
+        for (index, series) in self.series.iter().enumerate() {
+            let y = self.rows_end() + SERIES_HEIGHT * (index as f32 + 0.6);
+            self.draw_series(svg, series, y);
+        }
+    }
+
+    pub fn bottom(&self) -> f32 {
+        self.rows_end() + SERIES_HEIGHT * self.series.len() as f32
+    }
+
+    fn rows_start(&self) -> f32 {
+        self.top + SCALE_HEIGHT
+    }
+
+    fn rows_end(&self) -> f32 {
+        self.cells_top(0) + self.cells_height(0) + BELOW
+    }
+
+    /// The left edge of a recorded tick's cell.
+    fn x(&self, tick: usize) -> f32 {
+        LEFT + CELL_WIDTH * (tick - self.ticks.start) as f32
+    }
+
+    fn middle(&self, tick: usize) -> f32 {
+        self.x(tick) + CELL_WIDTH / 2.0
+    }
+
+    /// The upper edge of a task's cells: the highest task is on top.
+    fn cells_top(&self, task: usize) -> f32 {
+        let higher = task + 1..self.recording.tasks;
+        let rows: f32 = higher.map(|other| ABOVE + self.cells_height(other) + BELOW).sum();
+        self.rows_start() + rows + ABOVE
+    }
+
+    fn cells_height(&self, task: usize) -> f32 {
+        let runs = |done: &Done| done.task == task;
+        if self.recorded().any(|(_, tick)| tick.done.as_ref().is_some_and(runs)) {
+            CELL_HEIGHT
+        } else {
+            EMPTY_HEIGHT
+        }
+    }
+
+    fn recorded(&self) -> impl Iterator<Item = (usize, &Tick)> {
+        self.ticks.clone().map(|tick| (tick, &self.recording.ticks[tick]))
+    }
+
+    fn draw_scale(&self, svg: &mut Svg) {
+        svg.text("margin", 4.0, self.top + 10.0, "tick");
+        for tick in self.ticks.clone() {
+            let number = self.recording.first as usize + tick;
+            if number.is_multiple_of(5) {
+                svg.text("number", self.middle(tick), self.top + 10.0, &number.to_string());
+            }
+            if number.is_multiple_of(10) {
+                let x = self.x(tick);
+                svg.line("grid", (x, self.top + 13.0), (x, self.bottom()));
+            }
+        }
+    }
+
+    fn draw_idle(&self, svg: &mut Svg) {
+        let height = self.rows_end() - self.rows_start();
+        let is_idle = |tick: usize| self.recording.ticks[tick].done.is_none();
+        for run in runs(self.ticks.clone(), is_idle) {
+            let width = CELL_WIDTH * run.len() as f32;
+            let x = self.x(run.start);
+            svg.rectangle("idle", x, self.rows_start(), width, height);
+            self.draw_idle_text(svg, x + width / 2.0, run.len());
+        }
+    }
+
+    /// At the upper edge, where no other row's line crosses it.
+    fn draw_idle_text(&self, svg: &mut Svg, middle: f32, ticks: usize) {
+        let room = CELL_WIDTH * ticks as f32;
+        let whole = format!("{ticks} idle");
+        let text = if text_width(&whole, TEXT_SIZE) <= room { whole.as_str() } else { "idle" };
+        svg.fitted_text("idle-text", middle, self.rows_start() + 9.0, room, text);
+    }
+
+    fn draw_row(&self, svg: &mut Svg, task: usize) {
+        let top = self.cells_top(task);
+        let bottom = top + self.cells_height(task) + BELOW;
+        let middle = top + self.cells_height(task) / 2.0;
+        svg.line("row-line", (0.0, bottom), (self.x(self.ticks.end), bottom));
+        // The name is in bold, so it takes more room than its width says.
+        let name = shortened(&self.names.of(Subject::Task(task)), LEFT - 24.0);
+        svg.text("task", 4.0, middle + 3.0, &name);
+        let waits = |tick: usize| self.recording.ticks[tick].waiting.contains(&task);
+        for run in runs(self.ticks.clone(), waits) {
+            marks::waiting(svg, self.x(run.start), self.x(run.end), middle);
+        }
+        for (tick, recorded) in self.recorded() {
+            if let Some(done) = recorded.done.as_ref().filter(|done| done.task == task) {
+                self.draw_cell(svg, tick, done);
+            }
+            if recorded.started.contains(&task) {
+                marks::release(svg, self.x(tick), top - 1.0);
+            }
+            if recorded.dropped.contains(&task) {
+                marks::drop(svg, self.x(tick), top - 1.0);
+            }
+        }
+    }
+
+    fn draw_cell(&self, svg: &mut Svg, tick: usize, done: &Done) {
+        let (x, top) = (self.x(tick), self.cells_top(done.task));
+        let kind = kind(done.statement);
+        // A little smaller than the cell, so that neighbours do not cover its outline.
+        svg.rectangle(kind.class(), x + 0.5, top, CELL_WIDTH - 1.0, CELL_HEIGHT);
+        let text = match done.subject {
+            Some(subject) => format!("{} {subject}", label(done.statement)),
+            None => label(done.statement).to_string(),
+        };
+        let class = if kind.is_dark() { "light-word" } else { "dark-word" };
+        let room = CELL_HEIGHT - 4.0;
+        svg.upward_text(class, x + 10.0, top + CELL_HEIGHT - 2.5, room, &text);
+        if let Some(answer) = done.commit {
+            marks::commit(svg, self.middle(tick), top - 1.0, answer);
+        }
+        if done.restarts {
+            marks::restart(svg, x + CELL_WIDTH, top + CELL_HEIGHT);
+        }
+        if done.ends_job {
+            marks::job_end(svg, x + CELL_WIDTH, top, CELL_HEIGHT);
+        }
+    }
+
+    fn draw_series(&self, svg: &mut Svg, series: &Series, y: f32) {
+        let right = self.x(self.ticks.end);
+        let value = series.before(self.ticks.start);
+        let room = LEFT - 16.0 - text_width(value, TEXT_SIZE);
+        svg.text("margin", 4.0, y + 3.0, &shortened(&self.names.of(series.subject), room));
+        svg.fitted_text("value-before", LEFT - 6.0, y + 3.0, LEFT, value);
+        svg.line("level", (LEFT, y), (right, y));
+        let shown = series.changes.iter().filter(|change| self.ticks.contains(&change.tick));
+        let shown: Vec<_> = shown.collect();
+        for (index, change) in shown.iter().enumerate() {
+            let x = self.middle(change.tick);
+            let text_start = x + 6.0;
+            let text_end = match shown.get(index + 1) {
+                Some(next) => self.middle(next.tick) - 6.0,
+                None => self.width - 2.0,
+            };
+            let room = text_end - text_start;
+            let fits = text_width(&change.full, TEXT_SIZE) <= room;
+            let text = if fits { &change.full } else { &change.short };
+            let width = text_width(text, TEXT_SIZE).min(room);
+            marks::change(svg, x, y);
+            svg.rectangle("paper", text_start - 1.0, y - 5.0, width + 1.0, 10.0);
+            svg.fitted_text("value", text_start, y + 3.0, room, text);
+        }
+    }
+}
+
+/// The longest runs of ticks for which the test holds.
+fn runs(ticks: Range<usize>, test: impl Fn(usize) -> bool) -> Vec<Range<usize>> {
+    let mut found: Vec<Range<usize>> = Vec::new();
+    for tick in ticks.filter(|tick| test(*tick)) {
+        match found.last_mut() {
+            Some(run) if run.end == tick => run.end = tick + 1,
+            _ => found.push(tick..tick + 1),
+        }
+    }
+    found
+}

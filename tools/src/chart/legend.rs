@@ -1,0 +1,48 @@
+//! The legend: the kinds of statements with their colours, and the signs.
+
+use super::marks;
+use super::statement::Kind;
+use super::svg::Svg;
+
+const COLUMN_WIDTH: f32 = 303.0;
+const LINE_HEIGHT: f32 = 18.0;
+const LEFT: f32 = 4.0;
+/// From a sign to its explanation.
+const INDENT: f32 = 34.0;
+
+type Sign = fn(&mut Svg, f32, f32);
+
+/// Each sign is drawn around a point; the explanations are document 01's words where it has them.
+const SIGNS: [(Sign, &str); 8] = [
+    (|svg, x, y| marks::release(svg, x, y + 6.0), "a release starts a job before the tick"),
+    (|svg, x, y| marks::drop(svg, x, y + 6.0), "a release is dropped: the job is unfinished"),
+    (|svg, x, y| marks::waiting(svg, x - 12.0, x + 12.0, y), "a job waits for a higher task"),
+    (|svg, x, y| marks::commit(svg, x, y + 6.0, true), "Commit turns status 0 into 2: yes"),
+    (|svg, x, y| marks::commit(svg, x, y + 6.0, false), "Commit finds status 1: no"),
+    (|svg, x, y| marks::restart(svg, x + 6.0, y - 4.0), "the transaction restarts"),
+    (|svg, x, y| marks::job_end(svg, x + 1.3, y - 4.0, 8.0), "the job ends"),
+    (marks::change, "a current value changes"),
+];
+
+/// Draws the legend from `top` on in as many columns as fit, and returns its lower edge.
+pub fn draw(svg: &mut Svg, top: f32, width: f32) -> f32 {
+    let columns = (width / COLUMN_WIDTH) as usize;
+    let mut y = top;
+    for kinds in Kind::ALL.chunks(columns) {
+        for (column, kind) in kinds.iter().enumerate() {
+            let x = LEFT + COLUMN_WIDTH * column as f32;
+            svg.rectangle(kind.class(), x, y, 24.0, 12.0);
+            svg.text("legend", x + INDENT, y + 9.0, kind.explanation());
+        }
+        y += LINE_HEIGHT;
+    }
+    for signs in SIGNS.chunks(columns) {
+        for (column, (sign, explanation)) in signs.iter().enumerate() {
+            let x = LEFT + COLUMN_WIDTH * column as f32;
+            sign(svg, x + 12.0, y + 6.0);
+            svg.text("legend", x + INDENT, y + 9.0, explanation);
+        }
+        y += LINE_HEIGHT;
+    }
+    y
+}

@@ -1,0 +1,141 @@
+//! What happened in each tick of a run, recorded for the chart.
+
+use simulator::machine::Machine;
+use simulator::observer::{Event, NoObserver, Observer, Statement};
+use simulator::sheet::{Block, Sheet};
+use simulator::transaction::{bank_word, store_of, version_of};
+use simulator::TOP_LIMIT;
+
+use super::subject::{Standing, Subject};
+
+/// The words and blocks of the W and B lines.
+#[derive(Clone, Debug, PartialEq, Eq)]
+pub struct Contents {
+    pub words: Vec<u32>,
+    pub blocks: Vec<Block>,
+}
+
+/// The statement of a tick.
+#[derive(Clone, Debug)]
+pub struct Done {
+    pub task: usize,
+    pub statement: Statement,
+    pub subject: Option<Subject>,
+    /// What Commit answered, if this was one.
+    pub commit: Option<bool>,
+    /// The transaction goes back to the command after BEGIN.
+    pub restarts: bool,
+    pub ends_job: bool,
+}
+
+#[derive(Clone, Debug)]
+pub struct Tick {
+    /// Nothing in an idle tick.
+    pub done: Option<Done>,
+    /// The tasks whose release started a job, and those whose release was dropped.
+    pub started: Vec<usize>,
+    pub dropped: Vec<usize>,
+    /// The tasks with an unfinished job that had to wait.
+    pub waiting: Vec<usize>,
+    /// The contents after the tick.
+    pub after: Contents,
+}
+
+/// A part of a run.
+#[derive(Clone, Debug)]
+pub struct Recording {
+    pub tasks: usize,
+    /// The number of the first recorded tick, and the contents before it.
+    pub first: u32,
+    pub before: Contents,
+    pub ticks: Vec<Tick>,
+    /// The ticks of the whole run with limit 65,535.
+    pub run_ticks: u32,
+}
+
+impl Recording {
+    /// Runs the sheet and records the ticks from `first` to `last`, as far as the run comes.
+    pub fn new(sheet: &Sheet, first: u32, last: u32) -> Recording {
+        let limit = TOP_LIMIT as u32;
+        let mut machine = Machine::new(sheet);
+        machine.run(first.min(limit), &mut NoObserver);
+        let before = contents(&machine);
+        let mut ticks = Vec::new();
+        for tick in machine.tick..=last.min(limit - 1) {
+            match record_tick(&mut machine, tick) {
+                Some(recorded) => ticks.push(recorded),
+                None => break,
+            }
+        }
+        machine.run(limit, &mut NoObserver);
+        Recording { tasks: sheet.bodies.len(), first, before, ticks, run_ticks: machine.tick }
+    }
+}
+
+/// Does one tick, or nothing if the run has stopped.
+fn record_tick(machine: &mut Machine, tick: u32) -> Option<Tick> {
+    let tasks = machine.sheet.bodies.len();
+    let standings: Vec<Standing> = (0..tasks).map(|task| Standing::of(machine, task)).collect();
+    let unfinished_before = machine.unfinished;
+    let mut observed = Observed::default();
+    machine.run(tick + 1, &mut observed);
+    if machine.tick == tick {
+        return None;
+    }
+    let releases = machine.sheet.releases.iter().filter(|release| u32::from(release.tick) == tick);
+    let released: Vec<usize> = releases.map(|release| release.task.into()).collect();
+    let dropped = observed.dropped;
+    let started: Vec<usize> = released.into_iter().filter(|task| !dropped.contains(task)).collect();
+    let done = observed.statement.map(|(task, statement)| Done {
+        task,
+        statement,
+        subject: standings[task].subject(statement),
+        commit: observed.commit,
+        restarts: observed.restarts,
+        ends_job: machine.unfinished & 1 << task == 0,
+    });
+    let ran = |task: usize| done.as_ref().is_some_and(|done| done.task == task);
+    let has_job = |task: &usize| unfinished_before & 1 << task != 0 || started.contains(task);
+    let waiting = (0..tasks).filter(|task| has_job(task) && !ran(*task)).collect();
+    Some(Tick { done, started, dropped, waiting, after: contents(machine) })
+}
+
+fn contents(machine: &Machine) -> Contents {
+    let current = |cell: usize| machine.current_value(machine.words[cell]);
+    let block = |number| {
+        let bank = current(bank_word(number));
+        Block { version: version_of(bank), values: machine.stores[store_of(bank)] }
+    };
+    Contents {
+        words: (0..machine.sheet.words.len()).map(current).collect(),
+        blocks: (0..machine.sheet.blocks.len()).map(block).collect(),
+    }
+}
+
+/// What the run tells about one tick.
+#[derive(Default)]
+struct Observed {
+    statement: Option<(usize, Statement)>,
+    commit: Option<bool>,
+    restarts: bool,
+    dropped: Vec<usize>,
+}
+
+impl Observer for Observed {
+    fn statement(&mut self, _tick: u32, task: usize, statement: Statement) {
+        self.statement = Some((task, statement));
+    }
+
+    fn event(&mut self, _tick: u32, _task: usize, event: Event<'_>) {
+        match event {
+            Event::ExchangeCommits { answer } => self.commit = Some(answer),
+            Event::CommitsNothing => self.commit = Some(true),
+            Event::Restarts => self.restarts = true,
+            _ => {}
+        }
+    }
+
+    fn dropped(&mut self, _tick: u32, task: usize) {
+        self.dropped.push(task);
+    }
+}

@@ -1,0 +1,190 @@
+//! The chart: what it records is what the run did, and what it draws is readable.
+
+use simulator::generator::{case, SEED};
+use simulator::machine::Machine;
+use simulator::observer::{NoObserver, Statement};
+use simulator::report::render;
+use simulator::sheet::{parse, Sheet};
+use simulator::TOP_LIMIT;
+use tools::chart::record::{Done, Recording};
+use tools::chart::series::all_series;
+use tools::chart::statement::Kind;
+use tools::chart::subject::Subject;
+use tools::chart::{draw, Options};
+use tools::examples::folder;
+
+fn example(name: &str) -> Vec<u8> {
+    std::fs::read(folder().join(format!("{name}.sheet"))).unwrap()
+}
+
+fn recording(sheet: &[u8]) -> Recording {
+    Recording::new(&parse(sheet).unwrap(), 0, TOP_LIMIT as u32 - 1)
+}
+
+fn all_done(recording: &Recording) -> impl Iterator<Item = &Done> {
+    recording.ticks.iter().filter_map(|tick| tick.done.as_ref())
+}
+
+/// The good sheets of the corpus, but for the longest runs.
+fn good_sheets() -> impl Iterator<Item = Sheet> {
+    (0..400)
+        .filter(|index| index % 100 != 99)
+        .filter_map(|index| parse(&case(SEED, index).sheet).ok())
+}
+
+#[test]
+fn a_recording_has_the_figures_of_the_report() {
+    let mut drops = 0;
+    for sheet in good_sheets() {
+        let mut machine = Machine::new(&sheet);
+        machine.run(TOP_LIMIT as u32, &mut NoObserver);
+        let recording = Recording::new(&sheet, 0, TOP_LIMIT as u32 - 1);
+        assert_eq!(recording.run_ticks, machine.tick);
+        assert_eq!(recording.ticks.len(), machine.tick as usize);
+        for (task, counts) in machine.counts.iter().enumerate().take(sheet.bodies.len()) {
+            let own = || all_done(&recording).filter(|done| done.task == task);
+            assert_eq!(own().count(), counts.ticks as usize);
+            let ended = own().filter(|done| done.ends_job).count();
+            assert_eq!(ended, (counts.finished + counts.spent) as usize);
+            let rejected = own().filter(|done| {
+                let in_exchange = matches!(
+                    done.statement,
+                    Statement::CommitNo
+                        | Statement::CleanBackToInit
+                        | Statement::CleanNothing
+                        | Statement::CleanMark
+                );
+                done.restarts && in_exchange
+            });
+            assert_eq!(rejected.count(), counts.rejected as usize);
+        }
+        let dropped: usize = recording.ticks.iter().map(|tick| tick.dropped.len()).sum();
+        assert_eq!(dropped, machine.dropped as usize);
+        drops += dropped;
+        // The last value of each series is that of the report's W and B lines.
+        let report = render(&machine);
+        for series in all_series(&recording) {
+            let line = match series.subject {
+                Subject::Word(word) => format!("W {word} {}\n", series.before(usize::MAX)),
+                Subject::Block(block) => {
+                    let version = series.before(usize::MAX).trim_start_matches("version ");
+                    format!("B {block} {version} ")
+                }
+                Subject::Task(task) => panic!("a series of task {task}"),
+            };
+            assert!(report.contains(&line), "{line} is not in\n{report}");
+        }
+    }
+    assert!(drops > 1000, "{drops} drops");
+}
+
+#[test]
+fn the_highest_task_with_a_job_runs_and_lower_ones_wait() {
+    for sheet in good_sheets() {
+        let recording = Recording::new(&sheet, 0, TOP_LIMIT as u32 - 1);
+        for tick in &recording.ticks {
+            match &tick.done {
+                Some(done) => assert!(tick.waiting.iter().all(|task| *task < done.task)),
+                None => assert!(tick.waiting.is_empty() && tick.started.is_empty()),
+            }
+        }
+    }
+}
+
+#[test]
+fn p5_statement_by_statement() {
+    let recording = recording(&example("p5"));
+    let shown = |done: &Done| {
+        let label = tools::chart::statement::label(done.statement);
+        let subject = done.subject.map(|subject| format!(" {subject}")).unwrap_or_default();
+        format!("{}: {label}{subject}", done.task)
+    };
+    let shown: Vec<String> = all_done(&recording).map(shown).collect();
+    let lower = "0: LOAD, 0: LOAD, 0: PAIR w0, 0: Start, 0: Test, 0: Load w0, 0: Look w0, \
+                 0: Save w0, 0: Install w0";
+    let upper = "1: LOAD, 1: LOAD, 1: PAIR w0, 1: PAIR w1, 1: Start, 1: Test, 1: Load w0, \
+                 1: Look w0, 1: Fetch w0, 1: Save w0, 1: Mark t0, 1: Install w0, 1: Test, \
+                 1: Load w1, 1: Look w1, 1: Save w1, 1: Fail w1, 1: Test, 1: Commit, 1: Clean w0";
+    let end = "0: Test, 0: Commit, 0: Clean w0";
+    assert_eq!(shown.join(", "), [lower, upper, end].join(", "));
+    assert_eq!(all_done(&recording).filter(|done| done.commit == Some(false)).count(), 2);
+    assert!(all_series(&recording).iter().all(|series| series.changes.is_empty()));
+}
+
+#[test]
+fn the_contended_example_changes_its_blocks_at_the_commits() {
+    let recording = recording(&example("contended-transaction"));
+    let commits: Vec<usize> = (0..recording.ticks.len())
+        .filter(|tick| {
+            recording.ticks[*tick].done.as_ref().is_some_and(|done| done.commit == Some(true))
+        })
+        .collect();
+    let series = all_series(&recording);
+    let changes: Vec<(usize, &str)> =
+        series[0].changes.iter().map(|change| (change.tick, change.full.as_str())).collect();
+    assert_eq!(
+        changes,
+        [
+            (commits[0], "version 101, at 0: 507, at 7: 1"),
+            (commits[2], "version 102, at 0: 514, at 7: 2"),
+            (commits[3], "version 103, at 0: 464"),
+        ]
+    );
+    assert_eq!(series[1].before(commits[1]), "version 200");
+    assert_eq!(series[1].before(commits[1] + 1), "version 201");
+    assert_eq!(all_done(&recording).filter(|done| done.restarts).count(), 3);
+}
+
+fn cells_drawn(picture: &str) -> usize {
+    picture.matches("rotate(-90)").count()
+}
+
+#[test]
+fn first_and_last_tick_cut_the_picture() {
+    let sheet = example("cold-room");
+    let whole = draw(&sheet, &Options::default()).unwrap();
+    assert!(whole.contains("Ticks 0 to 278; the whole run has 279."));
+    let part = Options { first: 50, last: 79, ..Options::default() };
+    let part = draw(&sheet, &part).unwrap();
+    assert!(part.contains("Ticks 50 to 79; the whole run has 279."));
+    assert_eq!(cells_drawn(&part), 30);
+    // 44 ticks are idle.
+    assert_eq!(cells_drawn(&whole), 279 - 44);
+    let beyond = Options { first: 1000, last: 2000, ..Options::default() };
+    assert!(draw(&sheet, &beyond).unwrap().contains("No ticks; the whole run has 279."));
+    let far_beyond = Options { first: u32::MAX, last: u32::MAX, ..Options::default() };
+    assert!(draw(&sheet, &far_beyond).unwrap().contains("No ticks; the whole run has 279."));
+    assert_eq!(draw(&[0xFF], &Options::default()).unwrap_err().number, 1);
+}
+
+/// The sizes of the words in the cells that had to be made smaller.
+fn smaller_sizes(picture: &str) -> Vec<f32> {
+    let cells = picture.lines().filter(|line| line.contains("rotate(-90)"));
+    let sizes = cells.filter_map(|line| line.split("font-size: ").nth(1)?.split("px").next());
+    sizes.map(|size| size.parse().unwrap()).collect()
+}
+
+#[test]
+fn every_good_sheet_of_the_corpus_is_drawn_readably() {
+    for index in 0..400 {
+        let sheet = case(SEED, index).sheet;
+        if parse(&sheet).is_ok() {
+            let picture = draw(&sheet, &Options::default()).unwrap();
+            assert_eq!(picture.matches("<text").count(), picture.matches("</text>").count());
+            assert!(picture.starts_with("<svg ") && picture.ends_with("</svg>\n"));
+            assert!(smaller_sizes(&picture).iter().all(|size| *size >= 7.5));
+        }
+    }
+}
+
+#[test]
+fn kinds_can_be_told_apart_in_grey() {
+    let grey = |kind: Kind| {
+        let channel = |start: usize| u32::from_str_radix(&kind.colour()[start..start + 2], 16);
+        let (red, green, blue) = (channel(1).unwrap(), channel(3).unwrap(), channel(5).unwrap());
+        (299 * red + 587 * green + 114 * blue) / 1000
+    };
+    // The last kind has an outline of its own.
+    let levels: Vec<u32> = Kind::ALL[..7].iter().map(|kind| grey(*kind)).collect();
+    assert!(levels.windows(2).all(|pair| pair[0] >= pair[1] + 25), "{levels:?}");
+}

@@ -1,0 +1,156 @@
+//! The text form: both directions, their refusals, and the round trip over the simulator's corpus.
+
+use simulator::builder::*;
+use simulator::check;
+use simulator::generator::{case, SEED};
+use tools::decode::decode;
+use tools::encode::{encode, encode_utf8};
+use tools::form::TABLE;
+
+fn bytes_of(text: &str) -> Vec<u8> {
+    encode(text).unwrap().bytes
+}
+
+fn fault_of(text: &str) -> String {
+    encode(text).unwrap_err().to_string()
+}
+
+fn byte_fault_of(bytes: &[u8]) -> String {
+    decode(bytes).unwrap_err().to_string()
+}
+
+#[test]
+fn every_command_has_its_bytes() {
+    let text = "
+        WORD 4294967295
+        BLOCK 16777215 1 2 3 4 5 6 7 8
+        TASK                # a comment
+        LOAD r1 12          # another # one
+        ADD r2 r3
+        READ r4 w31
+        PAIR w5 r6 r7
+        SWAP r0
+        BEGIN
+        GET r1 b15 7
+        PUT b14 6 r2
+        COMMIT
+        RELEASE 65535 t7
+        END
+    ";
+    let commands = [
+        word(u32::MAX),
+        block(16_777_215, [1, 2, 3, 4, 5, 6, 7, 8]),
+        task(),
+        load(1, 12),
+        add(2, 3),
+        read(4, 31),
+        pair(5, 6, 7),
+        swap(0),
+        begin(),
+        get(1, 15, 7),
+        put(14, 6, 2),
+        commit(),
+        release(65_535, 7),
+        end(),
+    ];
+    assert_eq!(commands.len(), TABLE.len());
+    assert_eq!(bytes_of(text), sheet(&commands));
+}
+
+#[test]
+fn the_table_has_the_widths_of_the_check() {
+    for row in &TABLE {
+        let mut bytes = vec![0; 1 + row.width()];
+        bytes[0] = row.byte;
+        assert_ne!(check(&bytes).number, 1, "{}", row.word);
+        assert!(check(&bytes).number != 2 || check(&bytes).place > 0, "{}", row.word);
+        if let Some((_, cut)) = bytes.split_last().filter(|(_, cut)| !cut.is_empty()) {
+            assert_eq!((check(cut).number, check(cut).place), (2, 0), "{}", row.word);
+        }
+    }
+}
+
+#[test]
+fn operands_beyond_their_range_can_be_written() {
+    assert_eq!(bytes_of("ADD r8 r255"), [0x11, 8, 255]);
+    assert_eq!(bytes_of("GET r9 b200 77"), [0x21, 9, 200, 77]);
+    assert_eq!(bytes_of("RELEASE 0 t8"), [4, 0, 0, 8]);
+    assert_eq!(bytes_of("BLOCK 4294967295 0 0 0 0 0 0 0 0")[..5], [2, 255, 255, 255, 255]);
+    assert_eq!(bytes_of("END\nEND\nWORD 1"), [5, 5, 1, 0, 0, 0, 1]);
+    assert_eq!(bytes_of("BYTE 255\nBYTE 0"), [255, 0]);
+    assert_eq!(bytes_of("# only a comment\n\n"), []);
+}
+
+#[test]
+fn a_text_is_refused_with_its_line() {
+    assert_eq!(fault_of("WORD 1\n\nWORDS 2"), "line 3: 'WORDS' is no command");
+    assert_eq!(fault_of("word 1"), "line 1: 'word' is no command");
+    assert_eq!(fault_of("LOAD r1"), "line 1: LOAD takes 2 operand(s) (register, value), not 1");
+    assert_eq!(fault_of("# a\nEND 5"), "line 2: END takes 0 operand(s), not 1");
+    assert_eq!(fault_of("LOAD 1 12"), "line 1: LOAD: '1' is no register, as in r0");
+    assert_eq!(fault_of("PAIR r0 w1 r2"), "line 1: PAIR: 'r0' is no word, as in w0");
+    assert_eq!(fault_of("WORD 0x12"), "line 1: WORD: '0x12' is no decimal number (value)");
+    assert_eq!(fault_of("WORD -1"), "line 1: WORD: '-1' is no decimal number (value)");
+    assert_eq!(fault_of("WORD +1"), "line 1: WORD: '+1' is no decimal number (value)");
+    let too_large = "is too large for a value, the largest is 4294967295";
+    assert_eq!(fault_of("WORD 4294967296"), format!("line 1: WORD: 4294967296 {too_large}"));
+    let far_too_large = "9".repeat(40);
+    let reason = format!("line 1: WORD: {far_too_large} {too_large}");
+    assert_eq!(fault_of(&format!("WORD {far_too_large}")), reason);
+    let reason = "is too large for a register, the largest is r255";
+    assert_eq!(fault_of("SWAP r256"), format!("line 1: SWAP: r256 {reason}"));
+    let reason = "is too large for a tick, the largest is 65535";
+    assert_eq!(fault_of("RELEASE 65536 t0"), format!("line 1: RELEASE: 65536 {reason}"));
+    let fault = encode_utf8(b"WORD 1\nWORD \xFF").unwrap_err();
+    assert_eq!(fault.to_string(), "line 2: the line is no UTF-8 text");
+}
+
+#[test]
+fn bytes_are_refused_with_their_place() {
+    assert_eq!(byte_fault_of(&[0xFF]), "place 0: the byte FF names no command");
+    assert_eq!(byte_fault_of(&[3, 0x06]), "place 1: the byte 06 names no command");
+    assert_eq!(byte_fault_of(&[1, 0, 0]), "place 0: WORD is cut: 2 of 4 operand bytes");
+    assert_eq!(byte_fault_of(&[3, 0x14]), "place 1: SWAP is cut: 0 of 1 operand bytes");
+}
+
+#[test]
+fn decoded_text_carries_comments() {
+    let text = decode(&sheet(&[word(12), word(22), task(), pair(1, 2, 3), swap(0)])).unwrap();
+    let expected = "\
+WORD 12                   # word w0
+WORD 22                   # word w1
+TASK                      # task t0
+  PAIR w1 r2 r3           # w1: old in r2, new in r3
+  SWAP r0
+# check: X 2 17, after the last line: the sheet ends before END
+";
+    assert_eq!(text, expected);
+    assert_eq!(
+        decode(&[]).unwrap(),
+        "# check: X 2 0, after the last line: the sheet ends before END\n"
+    );
+}
+
+#[test]
+fn the_corpus_makes_the_round_trip() {
+    let (mut written, mut refused) = (0, 0);
+    for index in 0..1500 {
+        let bytes = case(SEED, index).sheet;
+        let answer = check(&bytes);
+        match decode(&bytes) {
+            Ok(text) => {
+                written += 1;
+                let encoded = encode(&text).unwrap();
+                assert_eq!(encoded.bytes, bytes);
+                assert_eq!(decode(&encoded.bytes).unwrap(), text);
+                assert!(answer.number != 1 && (answer.number != 2 || answer.place == bytes.len()));
+            }
+            Err(fault) => {
+                refused += 1;
+                // The check finds this fault too, or one before it.
+                assert!(answer.number != 0 && answer.place <= fault.place);
+            }
+        }
+    }
+    assert!(written > 1000 && refused > 100, "{written} written, {refused} refused");
+}
