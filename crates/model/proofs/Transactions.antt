@@ -17,3 +17,4 @@ pub mod Machine
 pub mod Replay
 pub mod Start
 pub mod Latest
+pub mod Run
