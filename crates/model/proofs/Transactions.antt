@@ -18,3 +18,4 @@ pub mod Replay
 pub mod Start
 pub mod Latest
 pub mod Run
+pub mod Justified
