@@ -23,3 +23,4 @@ pub mod Reorder
 pub mod Tasks
 pub mod Touch
 pub mod Machine
+pub mod Given
