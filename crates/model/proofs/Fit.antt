@@ -18,3 +18,8 @@ pub mod Reading
 pub mod Declared
 pub mod Walk
 pub mod Accepted
+pub mod Ranges
+pub mod RangesExchange
+pub mod RangesTransaction
+pub mod RangesStatement
+pub mod RangesStart

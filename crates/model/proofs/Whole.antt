@@ -20,3 +20,7 @@ pub mod GroundStatement
 pub mod GroundKept
 pub mod Grounded
 pub mod Reorder
+pub mod Tasks
+pub mod Touch
+pub mod Machine
+pub mod Given

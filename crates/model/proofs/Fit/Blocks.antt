@@ -103,7 +103,7 @@ module _ (test : Touched → Bool) where
 
 -- THE BLOCKS AGAINST THE TEXT
 -- nothing touched
-at-none : (n : ℕ) → at untouched (replicate 16 untouched) n ≡ untouched
+pub at-none : (n : ℕ) → at untouched (replicate 16 untouched) n ≡ untouched
 at-none n = go (decLt n 16)
   where
     go : Dec (n < 16) → at untouched (replicate 16 untouched) n ≡ untouched

@@ -1,7 +1,7 @@
 -- Tests of two parts, membership of a number in a list, and facts about every element of a list.
 use Prim.Native.Nat.{ℕ, zero, suc, _<_, _≤_}
 use mathlib.Core.Path.{_≡_, refl, sym, _∙_, ap, subst}
-use mathlib.Core.Bool.{Bool, true, false, _&&_, _||_, false≢true}
+use mathlib.Core.Bool.{Bool, true, false, _&&_, _||_, true≢false, false≢true}
 use mathlib.Core.List.{List, [], _∷_, _++_}
 use native.Mathlib.Omega.{arith}
 use native.Mathlib.Decide.{decLt}
@@ -35,6 +35,10 @@ or-right false b e = e
 pub or-none : (a b : Bool) → (a || b) ≡ false → a ≡ false
 or-none true b e = e
 or-none false b e = refl
+
+pub or-none-right : (a b : Bool) → (a || b) ≡ false → b ≡ false
+or-none-right true b e = absurd (true≢false e)
+or-none-right false b e = e
 
 -- MEMBERSHIP
 pub among-append : (x : ℕ) (l r : List ℕ) → among x l ≡ true → among x (l ++ r) ≡ true
@@ -129,6 +133,24 @@ module _ {A : Type 0} (d : A) where
 
   pub replicate-each : (P : A → Type 0) (n : ℕ) (a : A) → P a → (j : ℕ) → j < length (replicate n a) → P (at d (replicate n a) j)
   replicate-each P n a p j h = subst P (sym (at-replicate d a n j (rw (length-replicate n a) at h))) p
+
+  -- the same at every number, also past the end
+  pub append-every : (P : A → Type 0) (l r : List A) → ((j : ℕ) → P (at d l j)) → ((j : ℕ) → P (at d r j)) → (j : ℕ) → P (at d (l ++ r) j)
+  unfolding at
+  append-every P [] r f g j = g j
+  append-every P (x ∷ l) r f g zero = f zero
+  append-every P (x ∷ l) r f g (suc j) = append-every P l r (λ i. f (suc i)) g j
+
+  pub first-every : (P : A → Type 0) (a : A) (l : List A) → P a → ((j : ℕ) → P (at d l j)) → (j : ℕ) → P (at d (a ∷ l) j)
+  unfolding at
+  first-every P a l f g zero = f
+  first-every P a l f g (suc j) = g j
+
+  pub replicate-every : (P : A → Type 0) (n : ℕ) (a : A) → P a → P d → (j : ℕ) → P (at d (replicate n a) j)
+  unfolding at
+  replicate-every P zero a p q j = q
+  replicate-every P (suc n) a p q zero = p
+  replicate-every P (suc n) a p q (suc j) = replicate-every P n a p q j
 
   -- past a list that is filled up with the default
   pub at-filled : (l : List A) (n i : ℕ) → length l ≤ i → at d (l ++ replicate n d) i ≡ d

@@ -192,7 +192,7 @@ module _ {s : Sheet} (c : SheetFit s) where
   waited f p h = waited-fit (f .task p h)
 
   -- a task with an unfinished job is one that the sheet declares
-  declared : {now : ℕ} {ts : List Task} {p : ℕ} → TasksFit s now ts → Highest ts p → p < length (s .bodies)
+  pub declared : {now : ℕ} {ts : List Task} {p : ℕ} → TasksFit s now ts → Highest ts p → p < length (s .bodies)
   declared {ts = ts} {p} f h =
       below? p (length (s .bodies)) (λ l. l)
       (λ l. absurd (false≢true (ap (λ (t : Task). unfinished (t .phase)) (sym (f .undeclared p l)) ∙ h .unfinished)))

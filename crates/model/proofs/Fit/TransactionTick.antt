@@ -31,12 +31,12 @@ named-touched (GET r n o) b = include-same n (b .touched)
 named-touched (PUT n o r) b = include-same n (b .touched)
 
 module _ {words blocks : ℕ} {l : List Command} {x : Transaction} where
-  at-work : (a : Access) → PassFit words blocks (access a ∷ l) x → AtWork blocks a (access a ∷ l)
+  pub at-work : (a : Access) → PassFit words blocks (access a ∷ l) x → AtWork blocks a (access a ∷ l)
   at-work (GET r n o) f = let c = first-command (f .inside) (access (GET r n o)) l (f .faultless) in record { others = l; commands = refl; register = c .register; block = c .block; offset = c .offset }
   at-work (PUT n o r) f = let c = first-command (f .inside) (access (PUT n o r)) l (f .faultless) in record { others = l; commands = refl; register = c .register; block = c .block; offset = c .offset }
 
   -- a copy slot is left for a block that was not PUT yet
-  put-first : {n o r v : ℕ} → PassFit words blocks (access (PUT n o r) ∷ l) x → touchedOf x n ≡ remembered v → PutFirst (PUT n o r) x
+  pub put-first : {n o r v : ℕ} → PassFit words blocks (access (PUT n o r) ∷ l) x → touchedOf x n ≡ remembered v → PutFirst (PUT n o r) x
   put-first {n} {o} {r} {v} f e =
       let s = named-fit (f .inside) (access (PUT n o r) ∷ l) (f .faultless) in
       let fewer = count-fewer copied? (x .blocks) (named (PUT n o r) (f .known .body) .puts) n (f .touched .put) (include-same n (f .known .body .puts)) (rw e) in

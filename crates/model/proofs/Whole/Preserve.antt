@@ -25,7 +25,7 @@ stores-kept stores I = record { contents = I .contents; knows = I .knows; standi
 
 -- A TASK IN NO EXCHANGE
 module _ {below : ℕ → ℕ → Type 0} {m : Memory} {acts : List Act} {p : ℕ} {v₀ : Act} (S : Situation below m acts p v₀) (q : Quiet v₀) where
-  quiet-upholds : {n : Memory} (v : Act) → n .cells ≡ m .cells → AllInstalled (n .cells) (n .status) p v → Upholds below m n p v₀ v
+  pub quiet-upholds : {n : Memory} (v : Act) → n .cells ≡ m .cells → AllInstalled (n .cells) (n .status) p v → Upholds below m n p v₀ v
   quiet-upholds {n} v ec h = record { content = λ c u L k. stays (rw ec k); cover = λ u L. none v₀ u q; own = h }
     where
       none : (y : Act) (u : Word) → Quiet y → GivesBack y n v u
