@@ -15,6 +15,7 @@ use Rattle.model.specs.Machine.{taskAt}
 use Rattle.model.specs.Plain.{Pass, noBlock, passed, passOf, transactionOf}
 use Rattle.model.specs.History.{Operation, untilCommit}
 use Rattle.model.proofs.Fit.Transaction.{touched?}
+use Rattle.model.proofs.Order.Moves.{innerCommitted}
 
 -- VERSIONS
 -- the current value of block b's bank word
@@ -32,28 +33,6 @@ pub data Change (before after : ℕ) : Type 0 where
   raised : versionOf after ≡ suc (versionOf before) → Change before after
 
 -- OWNERS
--- Commit of the exchange has said yes
-abbrev pub stepSaidYes : Step → Bool
-stepSaidYes start = false
-stepSaidYes test = false
-stepSaidYes load = false
-stepSaidYes look = false
-stepSaidYes fetch = false
-stepSaidYes (save v) = false
-stepSaidYes fail = false
-stepSaidYes mark = false
-stepSaidYes install = false
-stepSaidYes commit = false
-stepSaidYes (clean j yes?) = yes?
-stepSaidYes (cleanMark j yes?) = yes?
-
-abbrev pub saidYes : Inner → Bool
-saidYes between = false
-saidYes (first a r) = false
-saidYes (copying a n) = false
-saidYes (again a v r) = false
-saidYes (committing e) = stepSaidYes (e .step)
-
 abbrev pub slotsBy : Bool → List ℕ → List Touched → List ℕ
 slotsBy true copies ts = takenBack copies ts
 slotsBy false copies ts = copies
@@ -64,7 +43,7 @@ slotsIn copies idle = copies
 slotsIn copies plain = copies
 slotsIn copies (reading r w s) = copies
 slotsIn copies (exchanging r x) = copies
-slotsIn copies (transacting x s) = slotsBy (saidYes s) copies (x .blocks)
+slotsIn copies (transacting x s) = slotsBy (innerCommitted s) copies (x .blocks)
 
 abbrev pub slotsOf : Task → List ℕ
 slotsOf t = slotsIn (t .copies) (t .phase)
@@ -164,7 +143,7 @@ pub record PassFacts (blocks : ℕ) (m : Memory) (copies registers : List ℕ) (
 -- THE INVARIANT, with the latest operation of each task; after the yes nothing is said of a pass
 pub record TransactionFacts (blocks : ℕ) (m : Memory) (copies registers : List ℕ) (l : List Command) (x : Transaction) (s : Inner) (o : Operation) : Type 0 where
   pub arguments : o .arguments ≡ transactionOf (x .kept) (untilCommit (x .commands))
-  pub pass : saidYes s ≡ false → PassFacts blocks m copies registers l x s (o .answers)
+  pub pass : innerCommitted s ≡ false → PassFacts blocks m copies registers l x s (o .answers)
 
 abbrev pub PhaseFacts : ℕ → Memory → List ℕ → List ℕ → List Command → Operation → Phase → Type 0
 PhaseFacts blocks m copies registers l o idle = Unit {0}

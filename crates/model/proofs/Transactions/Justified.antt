@@ -30,30 +30,12 @@ use Rattle.model.proofs.Order.Justified.{Justified}
 use Rattle.model.proofs.Order.Theorem.{settledBy, contentsAfter}
 use Rattle.model.proofs.Transactions.Facts.{TransactionFacts, PhaseFacts}
 use Rattle.model.proofs.Transactions.Given.{exchangeIn, innerExchange, SaysYes}
+use Rattle.model.proofs.Transactions.Exchange.{yes-says, YesStep, yes-step}
 use Rattle.model.proofs.Transactions.Committing.{TransactionYes}
 use Rattle.model.proofs.Transactions.Machine.{turnOf, Running}
 use Rattle.model.proofs.Transactions.Replay.{contents-stay, commit-replays, nothing-replays}
 use Rattle.model.proofs.Transactions.Latest.{latestIn}
 use Rattle.model.proofs.Transactions.Run.{GivenRun, running-at}
-
--- the Commit that says yes
-pub record YesStep (p : ℕ) (m : Memory) (s : Step) : Type 0 where
-  pub step : s ≡ commit
-  pub status : statusOf m p ≡ 0
-
-pub yes-step : (p : ℕ) (m : Memory) (s : Step) → saysYes p m s ≡ true → YesStep p m s
-yes-step p m commit e = record { step = refl; status = eqb-true _ _ e }
-yes-step p m start e = absurd (true≢false (sym e))
-yes-step p m test e = absurd (true≢false (sym e))
-yes-step p m load e = absurd (true≢false (sym e))
-yes-step p m look e = absurd (true≢false (sym e))
-yes-step p m fetch e = absurd (true≢false (sym e))
-yes-step p m fail e = absurd (true≢false (sym e))
-yes-step p m mark e = absurd (true≢false (sym e))
-yes-step p m install e = absurd (true≢false (sym e))
-yes-step p m (save v) e = absurd (true≢false (sym e))
-yes-step p m (clean j yes?) e = absurd (true≢false (sym e))
-yes-step p m (cleanMark j yes?) e = absurd (true≢false (sym e))
 
 -- no Commit says yes where none is at work, or where it does not
 pub none-says : {p : ℕ} {m : Memory} {f : Phase} → exchangeIn f ≡ none → (x : Exchange) → SaysYes p m f x → ⊥
@@ -62,8 +44,7 @@ none-says e x y = let z : _≡_ {A = ℕ} 0 1 = cc (y .exchange) in omega arith
 pub not-says : {p : ℕ} {m : Memory} {f : Phase} {y : Exchange} → exchangeIn f ≡ some y → saysYes p m (y .step) ≡ false → (x : Exchange) → SaysYes p m f x → ⊥
 not-says {p} {m} {f} {y} e n x w =
     let z : y ≡ x = cc (w .exchange) in
-    let k : saysYes p m (y .step) ≡ true = rw (z, w .step, w .status) in
-    true≢false (sym k ∙ n)
+    yes-says p m (ap (λ (k : Exchange). k .step) z ∙ w .step) (w .status) n
 
 module _ {s : Sheet} (c : SheetFit s) (G : GivenRun (startMachine s)) (t p : ℕ) (e : runningOf (arrivedAt (startMachine s) t .tasks) ≡ running p) where
   abbrev m : Machine

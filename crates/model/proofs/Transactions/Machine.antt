@@ -21,7 +21,8 @@ use Rattle.model.proofs.Lists.{replace-same, replace-other, same?}
 use Rattle.model.proofs.Fit.Memory.{MemoryFit}
 use Rattle.model.proofs.Fit.Transaction.{TransactionFit}
 use Rattle.model.proofs.Fit.Machine.{PhaseFit}
-use Rattle.model.proofs.Transactions.Facts.{bankIn, Change, unchanged, raised, saidYes, slotsOf, Owner, block, slot, Owners, PassFacts, TransactionFacts, PhaseFacts, TaskFacts, Transactions}
+use Rattle.model.proofs.Order.Moves.{innerCommitted}
+use Rattle.model.proofs.Transactions.Facts.{bankIn, Change, unchanged, raised, slotsOf, Owner, block, slot, Owners, PassFacts, TransactionFacts, PhaseFacts, TaskFacts, Transactions}
 use Rattle.model.proofs.Transactions.Given.{loadedBy, readingIn, SameContent, Cells, Given}
 use Rattle.model.proofs.Transactions.Frame.{Apart, Blocks, blocks-fit, pass-apart}
 use Rattle.model.proofs.Transactions.Steps.{SlotsApart}

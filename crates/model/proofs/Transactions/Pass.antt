@@ -21,7 +21,8 @@ use Rattle.model.specs.History.{Operation, Event, nothing, begins, amend
 use Rattle.model.proofs.Lists.{replace-other}
 use Rattle.model.proofs.Fit.Memory.{MemoryFit}
 use Rattle.model.proofs.Fit.Transaction.{touched?, AgainFit, TransactionFit}
-use Rattle.model.proofs.Transactions.Facts.{bankIn, Past, saidYes, slotsOf, PutAtWork, InReading, CopiedTo, Fetched, Ready, AtInner, PassFacts, TransactionFacts, PhaseFacts, TaskFacts}
+use Rattle.model.proofs.Order.Moves.{innerCommitted}
+use Rattle.model.proofs.Transactions.Facts.{bankIn, Past, slotsOf, PutAtWork, InReading, CopiedTo, Fetched, Ready, AtInner, PassFacts, TransactionFacts, PhaseFacts, TaskFacts}
 use Rattle.model.proofs.Transactions.Versions.{now-past}
 use Rattle.model.proofs.Transactions.Frame.{Blocks, blocks-fit}
 use Rattle.model.proofs.Transactions.Steps.{SlotsApart, inner-step, computed, got-done}
@@ -79,7 +80,7 @@ pub record PassSituation (words blocks : ℕ) (m : Memory) (t : Task) (x : Trans
 
 module _ {words blocks : ℕ} {m : Memory} {t : Task} {x : Transaction} {s : Inner} {o : Operation} (S : PassSituation words blocks m t x s o) where
   -- another inner step of the same command
-  stays-turned : (s′ : Inner) → saidYes s′ ≡ false → AtInner m (t .copies) x s′ → Turned blocks m t (turn m (stays t x s′)) o
+  stays-turned : (s′ : Inner) → innerCommitted s′ ≡ false → AtInner m (t .copies) x s′ → Turned blocks m t (turn m (stays t x s′)) o
   stays-turned s′ e h = same-memory (record { arguments = S .arguments; pass = λ _. inner-step s′ h (S .pass) }) (rw e)
 
   restart-turned : Turned blocks m t (turn m (restarted t x)) (answering [] o)
@@ -99,7 +100,7 @@ module _ {words blocks : ℕ} {m : Memory} {t : Task} {x : Transaction} {s : Inn
       v : ℕ
       v = stored (m .stores) (storeOf (rememberedOf (touchedOf x b))) n
 
-      goes-on : (s′ : Inner) → saidYes s′ ≡ false
+      goes-on : (s′ : Inner) → innerCommitted s′ ≡ false
           → (CopiedTo (setStored m (at 0 (t .copies) (x .used)) n (stored (m .stores) (storeOf (rememberedOf (touchedOf x b))) n)) (t .copies) x b (suc n) → AtInner (setStored m (at 0 (t .copies) (x .used)) n (stored (m .stores) (storeOf (rememberedOf (touchedOf x b))) n)) (t .copies) x s′)
           → Turned blocks m t (turn (setStored m (at 0 (t .copies) (x .used)) n (stored (m .stores) (storeOf (rememberedOf (touchedOf x b))) n)) (stays t x s′)) o
       goes-on s′ e f =
@@ -167,7 +168,7 @@ module _ {words blocks : ℕ} {m : Memory} {t : Task} {x : Transaction} {s : Inn
   commit-turned p now false false = stays-turned (committing (exchangeOf (gather (t .copies) 0 (x .blocks)))) refl tt
 
   -- a command that no transaction has
-  nothing-turned : saidYes s ≡ false → Turned blocks m t (turn m t) o
+  nothing-turned : innerCommitted s ≡ false → Turned blocks m t (turn m t) o
   nothing-turned y = same-memory (rw (S .phase) (record { arguments = S .arguments; pass = λ _. S .pass })) (rw (S .phase, y))
 
   computed-turned : (c : Command) (rs : List ℕ) (l : List Command) → t .commands ≡ c ∷ l → ((b : ℕ) → PutAtWork b (c ∷ l) → ⊥) → untilCommit (c ∷ l) ≡ c ∷ untilCommit l
@@ -175,7 +176,7 @@ module _ {words blocks : ℕ} {m : Memory} {t : Task} {x : Transaction} {s : Inn
   computed-turned c rs l e np u f =
       same-memory (record { arguments = S .arguments; pass = λ _. rw e (computed c l rs np u f (subst (λ (y : List Command). PassFacts blocks m (t .copies) (t .registers) y x s (o .answers)) e (S .pass))) }) refl
 
-  command-turned : (p now : ℕ) (l : List Command) → saidYes s ≡ false → t .commands ≡ l → PutRoom x (t .commands) → Turned blocks m t (commandTick m t x l) (operationAfter p (commandEvent now x l) o)
+  command-turned : (p now : ℕ) (l : List Command) → innerCommitted s ≡ false → t .commands ≡ l → PutRoom x (t .commands) → Turned blocks m t (commandTick m t x l) (operationAfter p (commandEvent now x l) o)
   unfolding commandTick commandEvent passBy untilCommit
   command-turned p now [] y e room = nothing-turned y
   command-turned p now (LOAD r v ∷ l) y e room = computed-turned (LOAD r v) (loaded (t .registers) r v) l e (λ b w. let z : _≡_ {A = ℕ} 0 1 = cc (w .commands) in omega arith) refl (λ bs q h. rw h)

@@ -23,7 +23,8 @@ use Rattle.model.proofs.Fit.Transaction.{TransactionFit}
 use Rattle.model.proofs.Fit.Machine.{PhaseFit}
 use Rattle.model.proofs.Whole.Act.{memoryAfter}
 use Rattle.model.proofs.Whole.Outcome.{outcome}
-use Rattle.model.proofs.Transactions.Facts.{bankIn, saidYes, slotsOf, PassFacts, TransactionFacts, PhaseFacts, TaskFacts}
+use Rattle.model.proofs.Order.Moves.{innerCommitted}
+use Rattle.model.proofs.Transactions.Facts.{bankIn, slotsOf, PassFacts, TransactionFacts, PhaseFacts, TaskFacts}
 use Rattle.model.proofs.Transactions.Given.{exchangeIn, SaysYes, Swapped, Cells, same, swapped}
 use Rattle.model.proofs.Transactions.Steps.{SlotsApart}
 use Rattle.model.proofs.Transactions.Steps.{begins as begins-pass}
@@ -117,7 +118,7 @@ pub record TaskSituation (words blocks p : ℕ) (m : Memory) (t : Task) (o : Ope
   pub apart : slotsOf t ≡ t .copies → SlotsApart blocks m (t .copies)
 
 module _ {words blocks p : ℕ} {m : Memory} {t : Task} {o : Operation} (S : TaskSituation words blocks p m t o) (now : ℕ) where
-  pass-stated : (x : Transaction) (s : Inner) → t .phase ≡ transacting x s → Outside x (t .commands) s → saidYes s ≡ false
+  pass-stated : (x : Transaction) (s : Inner) → t .phase ≡ transacting x s → Outside x (t .commands) s → innerCommitted s ≡ false
       → Stated blocks p m t o (transactionTick p m t x s) (operationAfter p (transactionEvent now p m t x s) o)
   pass-stated x s e out ny =
       let own : slotsOf t ≡ t .copies = rw (e, ny) in
