@@ -1,30 +1,29 @@
 -- The commit lemma: where the exchange says yes, the plain transaction takes the contents before to the contents after, with the answers of the pass.
-use Prim.Native.Nat.{ℕ, zero, suc, _+_, _*_, _/_, _%_, _<_, _≤_}
-use mathlib.Core.Bool.{Bool, true, false, true≢false}
+use Prim.Native.Nat.{ℕ, suc, _+_, _<_, _≤_}
+use mathlib.Core.Bool.{true, false, true≢false}
 use mathlib.Core.Path.{_≡_, refl, sym, _∙_, ap, subst}
-use mathlib.Core.Logic.{_≢_}
-use mathlib.Core.List.{List, [], _∷_}
+use mathlib.Core.List.{List, []}
 use mathlib.Core.Option.{Option, none, some}
 use native.Mathlib.Omega.{arith}
 use lib.ListN.{length}
 use Rattle.model.specs.Lists.{at}
-use Rattle.model.specs.Command.{PUT, Block, Command, access}
+use Rattle.model.specs.Command.{Block, Command}
 use Rattle.model.specs.Sheet.{Sheet}
-use Rattle.model.specs.Word.{Memory, current, currentOf}
-use Rattle.model.specs.Exchange.{Entry, entry}
+use Rattle.model.specs.Word.{Memory, currentOf}
+use Rattle.model.specs.Exchange.{Entry}
 use Rattle.model.specs.Job.{Touched, untouched, remembered, copied, Transaction, Inner}
-use Rattle.model.specs.Transaction.{bank, bankValue, versionOf, storeOf, rememberedOf, touchedOf, gather}
+use Rattle.model.specs.Transaction.{bank, versionOf, storeOf, rememberedOf, touchedOf, gather}
 use Rattle.model.specs.Plain.{Contents, Pass, noBlock, passed, passOf, commitBlocks, commits, transactionOf, result, plainly}
 use Rattle.model.specs.History.{untilCommit}
-use Rattle.model.specs.Claim.{each, blockIn, contentsOf}
+use Rattle.model.specs.Claim.{blockIn, contentsOf}
 use Rattle.model.proofs.Fit.Exchange.{entryOf, SamePairs}
 use Rattle.model.proofs.Fit.Transaction.{touched?}
-use Rattle.model.proofs.Transactions.Facts.{bankIn, Change, unchanged, raised, PutAtWork, SameCopy, Beside, Agrees, Way, PassFacts}
+use Rattle.model.proofs.Transactions.Facts.{bankIn, Change, unchanged, raised, PutAtWork, SameCopy, Beside, Agrees, PassFacts}
 use Rattle.model.proofs.Transactions.Given.{Swapped}
 use Rattle.model.proofs.Transactions.Versions.{version-bank, store-bank}
 use Rattle.model.proofs.Transactions.Contents.{ext-at, length-each, at-each, each-same, commitBlock, length-commit, at-commit}
 use Rattle.model.proofs.Transactions.Frame.{Blocks}
-use Rattle.model.proofs.Transactions.Gather.{newValue, PairOf, Bank, gathered, only-touched, nothing-touched}
+use Rattle.model.proofs.Transactions.Gather.{newValue, Bank, gathered, only-touched}
 
 -- what the exchange of a transaction does to the cells: touched bank words had the remembered value and have the new one
 pub record Committed (m n : Memory) (copies : List ℕ) (ts : List Touched) : Type 0 where

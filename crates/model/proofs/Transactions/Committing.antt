@@ -1,30 +1,28 @@
 -- The statements of a transaction in its exchange: the Commit that says yes commits the pass, no other statement changes a bank word.
-use Prim.Native.Nat.{ℕ, zero, suc, _+_, _<_, _≤_}
+use Prim.Native.Nat.{ℕ, _<_}
 use mathlib.Core.Bool.{Bool, true, false, true≢false}
-use mathlib.Core.Path.{_≡_, refl, sym, _∙_, ap, subst}
+use mathlib.Core.Path.{_≡_, refl, sym, _∙_, subst}
 use mathlib.Core.Logic.{_≢_}
-use mathlib.Core.List.{List, [], _∷_, _++_}
-use mathlib.Core.Option.{Option, none, some}
+use mathlib.Core.List.{[]}
+use mathlib.Core.Option.{some}
 use native.Mathlib.Omega.{arith}
 use lib.Dec.{eqb}
 use lib.ListN.{length}
-use Rattle.model.specs.Lists.{at, replace}
-use Rattle.model.specs.Command.{Command, access, COMMIT}
-use Rattle.model.specs.Word.{Memory, statusOf, setStatus, current, currentOf}
-use Rattle.model.specs.Exchange.{Step, start, test, load, look, fetch, fail, mark, install, commit, save, clean, cleanMark, Exchange, Exchanged, goes, ends, exchangeTick}
-use Rattle.model.specs.Job.{Touched, untouched, remembered, copied, Transaction, Inner, committing, Phase, transacting, Task, Turn, turn, rest, done, doneBy}
-use Rattle.model.specs.Transaction.{bank, storeOf, touchedOf, stays, restarted, rejected, gather, takenBack, committed, transactionTick}
-use Rattle.model.specs.Plain.{Arguments, transactionOf}
-use Rattle.model.specs.History.{Operation, Event, nothing, begins, amends, answering, ending, untilCommit, stepEvent, committingEvent, transactionEvent}
+use Rattle.model.specs.Lists.{at}
+use Rattle.model.specs.Word.{Memory, statusOf, currentOf}
+use Rattle.model.specs.Exchange.{Step, start, test, load, look, fetch, fail, mark, install, commit, save, clean, cleanMark, Exchange, Exchanged, ends}
+use Rattle.model.specs.Job.{Transaction, committing, transacting, Task, Turn, turn, rest}
+use Rattle.model.specs.Transaction.{bank, stays, takenBack, committed, transactionTick}
+use Rattle.model.specs.Plain.{transactionOf}
+use Rattle.model.specs.History.{Operation, untilCommit, stepEvent, committingEvent, transactionEvent}
 use Rattle.model.specs.History.{committed as committedOperation, commitBy as commitEventBy}
 use Rattle.model.proofs.Fit.Transaction.{TransactionFit}
 use Rattle.model.proofs.Whole.Outcome.{outcome}
-use Rattle.model.proofs.Order.Moves.{innerCommitted}
 use Rattle.model.proofs.Order.Exchange.{saidYes, saysYes}
-use Rattle.model.proofs.Transactions.Facts.{bankIn, Change, unchanged, slotsOf, PassFacts, TransactionFacts, TaskFacts}
-use Rattle.model.proofs.Transactions.Given.{SaysYes, Swapped, Cells, same, swapped}
+use Rattle.model.proofs.Transactions.Facts.{bankIn, unchanged, slotsOf, PassFacts, TransactionFacts, TaskFacts}
+use Rattle.model.proofs.Transactions.Given.{Swapped, Cells, same, swapped}
 use Rattle.model.proofs.Transactions.Frame.{Apart, Blocks, blocks-fit, pass-apart}
-use Rattle.model.proofs.Transactions.Steps.{SlotsApart, inner-step}
+use Rattle.model.proofs.Transactions.Steps.{inner-step}
 use Rattle.model.proofs.Transactions.Steps.{begins as begins-pass}
 use Rattle.model.proofs.Transactions.Commit.{Committed}
 use Rattle.model.proofs.Transactions.Commit.{committed as committed-cells}

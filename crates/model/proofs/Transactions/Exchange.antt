@@ -1,13 +1,12 @@
 -- A tick of an exchange, as the transaction around it sees it: whether it says yes, and that no store changes.
-use Prim.Native.Nat.{ℕ, suc}
+use Prim.Native.Nat.{ℕ}
 use mathlib.Core.Bool.{Bool, true, false, true≢false}
 use mathlib.Core.Path.{_≡_, refl, sym, _∙_, ap}
-use mathlib.Core.Logic.{_≢_}
 use borrow.Author.Tests.{eqb-true, ne-eqb}
-use Rattle.model.specs.Lists.{at, replace}
+use Rattle.model.specs.Lists.{at}
 use Rattle.model.specs.Word.{Memory, statusOf, setStatus}
-use Rattle.model.specs.Exchange.{Step, start, test, load, look, fetch, fail, mark, install, commit, save, clean, cleanMark, Exchange, Exchanged, goes, ends, to, exchangeTick}
-use Rattle.model.proofs.Whole.Outcome.{Decides, commits, refuses, Cleans, renews, passes, gives-back, leaves, marks-after, Outcome, starts, tests-done, tests-on, loads, looks-own, looks-other, fetches, saves-differing, saves-to-mark, saves, fails, marks, installs, misses, decides, decides-last, cleans, cleans-last, cleans-to-mark, outcome}
+use Rattle.model.specs.Exchange.{Step, start, test, load, look, fetch, fail, mark, install, commit, save, clean, cleanMark, Exchange, Exchanged, goes, ends, to}
+use Rattle.model.proofs.Whole.Outcome.{commits, refuses, Cleans, renews, passes, gives-back, leaves, marks-after, Outcome, starts, tests-done, tests-on, loads, looks-own, looks-other, fetches, saves-differing, saves-to-mark, saves, fails, marks, installs, misses, decides, decides-last, cleans, cleans-last, cleans-to-mark}
 use Rattle.model.proofs.Order.Exchange.{saidYes, saysYes}
 
 -- the Commit that says yes

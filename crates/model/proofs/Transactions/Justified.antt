@@ -1,37 +1,33 @@
 -- What a tick of a run settles of transactions is justified, and a tick in which no Commit says yes leaves the contents.
-use Prim.Native.Nat.{ℕ, zero, suc, _<_, _≤_}
-use mathlib.Core.Bool.{Bool, true, false, true≢false}
+use Prim.Native.Nat.{ℕ, suc}
+use mathlib.Core.Bool.{Bool, true, false}
 use mathlib.Core.Path.{_≡_, refl, sym, _∙_, ap, subst}
 use mathlib.Core.List.{List, [], _∷_}
-use mathlib.Core.Option.{Option, none, some}
+use mathlib.Core.Option.{none, some}
 use native.Mathlib.Omega.{arith}
-use lib.Dec.{eqb}
 use lib.ListN.{length}
-use borrow.Author.Tests.{eqb-true, eq-eqb}
 use Rattle.model.specs.Lists.{at}
 use Rattle.model.specs.Command.{Command, WORD, BLOCK, TASK, RELEASE, END, LOAD, ADD, READ, PAIR, SWAP, BEGIN, access, COMMIT}
 use Rattle.model.specs.Sheet.{Sheet}
-use Rattle.model.specs.Word.{Memory, statusOf}
-use Rattle.model.specs.Exchange.{Step, start, test, load, look, fetch, save, fail, mark, install, commit, clean, cleanMark, Exchange}
-use Rattle.model.specs.Job.{Transaction, Inner, between, first, copying, again, committing, Phase, idle, plain, reading, exchanging, transacting, Task}
+use Rattle.model.specs.Word.{Memory}
+use Rattle.model.specs.Exchange.{Exchange}
+use Rattle.model.specs.Job.{Transaction, Inner, between, first, copying, again, committing, Phase, plain, transacting}
 use Rattle.model.specs.Transaction.{nothing?}
-use Rattle.model.specs.Machine.{Machine, taskAt, nobody, running, runningOf, move, startMachine}
+use Rattle.model.specs.Machine.{Machine, taskAt, running, runningOf, move, startMachine}
 use Rattle.model.specs.Plain.{Contents, transactionOf, result, plainly}
-use Rattle.model.specs.History.{Operation, History, operationAt, untilCommit}
+use Rattle.model.specs.History.{Operation, operationAt, untilCommit}
 use Rattle.model.specs.Claim.{contentsOf}
-use Rattle.model.proofs.Lists.{test?}
 use Rattle.model.proofs.Fit.Sheet.{SheetFit}
 use Rattle.model.proofs.Order.Noted.{latestOf}
-use Rattle.model.proofs.Order.Steps.{stateAfter, arrivedAt, historyAfter, state-next}
+use Rattle.model.proofs.Order.Steps.{arrivedAt, historyAfter, state-next}
 use Rattle.model.proofs.Order.Exchange.{saysYes}
-use Rattle.model.proofs.Order.Moves.{Settling, transactionSettles, commandSettles, innerSettles, settling}
+use Rattle.model.proofs.Order.Moves.{transactionSettles, commandSettles, innerSettles, settling}
 use Rattle.model.proofs.Order.Ticks.{arrived-at}
 use Rattle.model.proofs.Order.Justified.{Justified}
 use Rattle.model.proofs.Order.Theorem.{settledBy, contentsAfter}
 use Rattle.model.proofs.Transactions.Facts.{TransactionFacts, PhaseFacts}
 use Rattle.model.proofs.Transactions.Given.{exchangeIn, innerExchange, SaysYes}
-use Rattle.model.proofs.Transactions.Exchange.{yes-says, YesStep, yes-step}
-use Rattle.model.proofs.Transactions.Committing.{TransactionYes}
+use Rattle.model.proofs.Transactions.Exchange.{yes-says, yes-step}
 use Rattle.model.proofs.Transactions.Machine.{turnOf, Running}
 use Rattle.model.proofs.Transactions.Replay.{contents-stay, commit-replays, nothing-replays}
 use Rattle.model.proofs.Transactions.Latest.{latestIn}

@@ -1,37 +1,28 @@
 -- A statement of the running task keeps the transaction layer's invariant; no block changes but by a transaction's yes, which is the plain transaction.
-use Prim.Native.Nat.{ℕ, zero, suc, _+_, _<_, _≤_}
-use mathlib.Core.Bool.{Bool, true, false, true≢false}
-use mathlib.Core.Path.{_≡_, refl, sym, _∙_, ap, subst}
+use Prim.Native.Nat.{ℕ, _<_, _≤_}
+use mathlib.Core.Path.{_≡_, refl, subst}
 use mathlib.Core.Logic.{_≢_}
-use mathlib.Core.List.{List, [], _∷_}
-use mathlib.Core.Option.{Option, none, some}
+use mathlib.Core.List.{List, []}
 use native.Mathlib.Omega.{arith}
 use lib.ListN.{length}
 use Rattle.model.specs.Lists.{at, replace}
-use Rattle.model.specs.Command.{Command, COMMIT}
-use Rattle.model.specs.Sheet.{Sheet}
-use Rattle.model.specs.Word.{Word, Memory, current, currentOf}
-use Rattle.model.specs.Job.{Touched, untouched, copied, Transaction, Inner, between, Phase, idle, plain, reading, exchanging, transacting, Task, Turn, ticked}
-use Rattle.model.specs.Transaction.{bank, storeOf, touchedOf, nothing?, takenBack}
+use Rattle.model.specs.Word.{Memory}
+use Rattle.model.specs.Job.{copied, Transaction, Inner, Phase, idle, plain, reading, exchanging, transacting, Task, Turn, ticked}
+use Rattle.model.specs.Transaction.{storeOf, touchedOf}
 use Rattle.model.specs.Machine.{taskAt, noTask, statement}
-use Rattle.model.specs.Plain.{transactionOf, result, plainly}
-use Rattle.model.specs.History.{Operation, untilCommit, eventOf}
-use Rattle.model.specs.Claim.{blockIn, contentsOf}
+use Rattle.model.specs.History.{Operation, eventOf}
 use Rattle.model.proofs.Lists.{replace-same, replace-other, same?}
 use Rattle.model.proofs.Fit.Memory.{MemoryFit}
 use Rattle.model.proofs.Fit.Transaction.{TransactionFit}
 use Rattle.model.proofs.Fit.Machine.{PhaseFit}
-use Rattle.model.proofs.Order.Moves.{innerCommitted}
-use Rattle.model.proofs.Transactions.Facts.{bankIn, Change, unchanged, raised, slotsOf, Owner, block, slot, Owners, PassFacts, TransactionFacts, PhaseFacts, TaskFacts, Transactions}
-use Rattle.model.proofs.Transactions.Given.{loadedBy, readingIn, SameContent, Cells, Given}
-use Rattle.model.proofs.Transactions.Frame.{Apart, Blocks, blocks-fit, pass-apart}
-use Rattle.model.proofs.Transactions.Steps.{SlotsApart}
-use Rattle.model.proofs.Transactions.Gather.{nothing-touched}
-use Rattle.model.proofs.Transactions.Commit.{Committed, committed-nothing, committed-change, commits-whole}
+use Rattle.model.proofs.Transactions.Facts.{bankIn, Change, unchanged, slotsOf, block, slot, Owners, TransactionFacts, PhaseFacts, TaskFacts, Transactions}
+use Rattle.model.proofs.Transactions.Given.{Given}
+use Rattle.model.proofs.Transactions.Frame.{Apart, pass-apart}
+use Rattle.model.proofs.Transactions.Commit.{committed-change}
 use Rattle.model.proofs.Transactions.Owners.{owners-stay, slots-apart, owners-exchanged}
 use Rattle.model.proofs.Transactions.Pass.{operationAfter}
 use Rattle.model.proofs.Transactions.Committing.{TransactionYes, CommitsNow, Effect, quiet, commits, Stated}
-use Rattle.model.proofs.Transactions.Statement.{JobFit, TaskSituation, phase-stated}
+use Rattle.model.proofs.Transactions.Statement.{JobFit, phase-stated}
 
 abbrev pub turnOf : ℕ → Memory → List Task → Turn
 turnOf p m ts = statement p m (taskAt ts p) (taskAt ts p .phase)

@@ -1,30 +1,29 @@
 -- Every statement of a transaction outside its exchange keeps what is said of its pass, leaves every current value and writes only copy slots.
-use Prim.Native.Nat.{ℕ, zero, suc, _+_, _<_, _≤_}
+use Prim.Native.Nat.{ℕ, suc, _<_, _≤_}
 use mathlib.Core.Bool.{Bool, true, false, true≢false}
-use mathlib.Core.Path.{_≡_, refl, sym, _∙_, ap, subst}
+use mathlib.Core.Path.{_≡_, refl, sym, subst}
 use mathlib.Core.Logic.{_≢_}
-use mathlib.Core.List.{List, [], _∷_, _++_}
-use mathlib.Core.Option.{Option, none, some}
+use mathlib.Core.List.{List, [], _∷_}
+use mathlib.Core.Option.{none}
 use native.Mathlib.Omega.{arith}
 use lib.Dec.{eqb}
-use lib.ListN.{length}
-use borrow.Author.Tests.{eqb-true, eqb-false}
-use Rattle.model.specs.Lists.{at, replace}
+use borrow.Author.Tests.{eqb-true}
+use Rattle.model.specs.Lists.{at}
 use Rattle.model.specs.Command.{Access, GET, PUT, Block, Command, WORD, BLOCK, TASK, RELEASE, END, LOAD, ADD, READ, PAIR, SWAP, BEGIN, access, COMMIT}
 use Rattle.model.specs.Word.{Word, Memory, cellOf, stored, saved, setStored, own, current, currentBy, currentOf, Reading, loading, looking, fetching, Read, reads, gives, lookBy, readTick}
 use Rattle.model.specs.Exchange.{Entry, exchangeOf}
-use Rattle.model.specs.Job.{Touched, untouched, remembered, copied, Transaction, Inner, between, first, copying, again, committing, Phase, idle, plain, transacting, Task, Turn, turn, rest, done, doneBy, ended}
-use Rattle.model.specs.Transaction.{bank, versionOf, storeOf, blockOf, rememberedOf, touchedOf, fresh, touch, stays, goesOn, restarted, loaded, added, firstRead, copyBy, copyTick, accessTick, checkBy, againRead, nothing?, spent?, gather, commitBy, commandTick, transactionTick}
-use Rattle.model.specs.Plain.{Arguments, transactionOf, computes, passBy}
+use Rattle.model.specs.Job.{Touched, untouched, remembered, copied, Transaction, Inner, between, first, copying, again, committing, transacting, Task, Turn, turn, rest, doneBy}
+use Rattle.model.specs.Transaction.{bank, versionOf, storeOf, blockOf, rememberedOf, touchedOf, stays, goesOn, restarted, loaded, added, firstRead, copyBy, copyTick, accessTick, checkBy, againRead, nothing?, spent?, gather, commitBy, commandTick, transactionTick}
+use Rattle.model.specs.Plain.{transactionOf, computes, passBy}
 use Rattle.model.specs.Plain.{Pass as Plain}
 use Rattle.model.specs.History.{Operation, Event, nothing, begins, amends, answering, untilCommit, commitEvent, commandEvent, checkEvent, againEvent, transactionEvent}
 use Rattle.model.proofs.Lists.{replace-other}
 use Rattle.model.proofs.Fit.Memory.{MemoryFit}
 use Rattle.model.proofs.Fit.Transaction.{touched?, AgainFit, TransactionFit}
 use Rattle.model.proofs.Order.Moves.{innerCommitted}
-use Rattle.model.proofs.Transactions.Facts.{bankIn, Past, slotsOf, PutAtWork, InReading, CopiedTo, Fetched, Ready, AtInner, PassFacts, TransactionFacts, PhaseFacts, TaskFacts}
+use Rattle.model.proofs.Transactions.Facts.{bankIn, Past, slotsOf, PutAtWork, InReading, CopiedTo, Ready, AtInner, PassFacts, TaskFacts}
 use Rattle.model.proofs.Transactions.Versions.{now-past}
-use Rattle.model.proofs.Transactions.Frame.{Blocks, blocks-fit}
+use Rattle.model.proofs.Transactions.Frame.{blocks-fit}
 use Rattle.model.proofs.Transactions.Steps.{SlotsApart, inner-step, computed, got-done}
 use Rattle.model.proofs.Transactions.Steps.{begins as begins-pass}
 use Rattle.model.proofs.Transactions.Puts.{remembers, copies-all, copies-one, writes}

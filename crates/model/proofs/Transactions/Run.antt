@@ -1,16 +1,14 @@
 -- The invariant of the transaction layer at every tick of a run, from Fit and from what the exchange layer says of each tick.
-use Prim.Native.Nat.{ℕ, zero, suc, _<_, _≤_}
-use mathlib.Core.Bool.{Bool, true, false, true≢false}
-use mathlib.Core.Path.{_≡_, refl, sym, _∙_, ap, subst}
-use mathlib.Core.List.{List}
+use Prim.Native.Nat.{ℕ, zero, suc, _<_}
+use mathlib.Core.Bool.{true≢false}
+use mathlib.Core.Path.{_≡_, refl, sym, _∙_, ap}
 use native.Mathlib.Decide.{decLt}
 use native.Mathlib.Omega.{arith}
 use lib.ListN.{length}
-use Rattle.model.specs.Lists.{at}
 use Rattle.model.specs.Sheet.{Sheet}
 use Rattle.model.specs.Word.{Memory}
-use Rattle.model.specs.Job.{idle, Task, ticked}
-use Rattle.model.specs.Machine.{Machine, taskAt, unfinished, nobody, running, runningOf, move, statement, startMachine, tick}
+use Rattle.model.specs.Job.{Task}
+use Rattle.model.specs.Machine.{Machine, taskAt, unfinished, nobody, running, runningOf, move, startMachine}
 use Rattle.model.specs.Machine.{Running as RunningNow}
 use Rattle.model.specs.History.{Operation, History, observed}
 use Rattle.model.proofs.Fit.Sheet.{SheetFit}
@@ -21,9 +19,9 @@ use Rattle.model.proofs.Fit.Start.{start-fit}
 use Rattle.model.proofs.Order.Noted.{latestOf, noted-nothing, latest-nothing}
 use Rattle.model.proofs.Order.Arrive.{TaskArrived, waits, starts, Arrived, Runs, runs}
 use Rattle.model.proofs.Order.Steps.{stateAfter, arrivedAt, historyAfter, state-next, history-next}
-use Rattle.model.proofs.Order.Ticks.{MachineLinked, Started, arrived-at, arrived-linked}
+use Rattle.model.proofs.Order.Ticks.{MachineLinked, arrived-at, arrived-linked}
 use Rattle.model.proofs.Order.Start.{started}
-use Rattle.model.proofs.Transactions.Facts.{bankIn, slotsOf, TaskFacts, Transactions}
+use Rattle.model.proofs.Transactions.Facts.{slotsOf, TaskFacts, Transactions}
 use Rattle.model.proofs.Transactions.Given.{Given}
 use Rattle.model.proofs.Transactions.Owners.{owners-stay}
 use Rattle.model.proofs.Transactions.Machine.{turnOf, Running, statement-keeps}

@@ -1,22 +1,19 @@
 -- Every statement of a task, in a transaction or not: what is said of its task afterwards, and what it does to blocks, slots and stores.
-use Prim.Native.Nat.{ℕ, zero, suc, _+_, _<_, _≤_}
-use mathlib.Core.Bool.{Bool, true, false, true≢false}
-use mathlib.Core.Path.{_≡_, refl, sym, _∙_, ap, subst}
-use mathlib.Core.Logic.{_≢_}
+use Prim.Native.Nat.{ℕ, _<_, _≤_}
+use mathlib.Core.Bool.{false}
+use mathlib.Core.Path.{_≡_, refl, sym, _∙_, subst}
 use mathlib.Core.List.{List, [], _∷_, _++_}
-use mathlib.Core.Option.{Option, none, some}
+use mathlib.Core.Option.{none}
 use native.Mathlib.Omega.{arith}
-use lib.Dec.{eqb}
 use lib.ListN.{length}
 use Rattle.model.specs.Lists.{at, replace}
-use Rattle.model.specs.Command.{Access, GET, PUT, Command, WORD, BLOCK, TASK, RELEASE, END, LOAD, ADD, READ, PAIR, SWAP, BEGIN, access, COMMIT}
-use Rattle.model.specs.Word.{Memory, current, currentOf, Reading, loading, Read, reads, gives, readTick}
+use Rattle.model.specs.Command.{PUT, Command, WORD, BLOCK, TASK, RELEASE, END, LOAD, ADD, READ, PAIR, SWAP, BEGIN, access, COMMIT}
+use Rattle.model.specs.Word.{Memory, currentOf, loading, Read, reads, gives, readTick}
 use Rattle.model.specs.Exchange.{Entry, entry, exchangeOf, start, Exchange, Exchanged, goes, ends, exchangeTick}
-use Rattle.model.specs.Job.{Touched, untouched, remembered, copied, Transaction, Inner, between, first, copying, again, committing, Phase, idle, plain, reading, exchanging, transacting, Task, Turn, turn, rest, done, doneBy, inPhase}
-use Rattle.model.specs.Transaction.{bank, blockOf, touchedOf, fresh, within, loaded, added, stays, copyBy, copyTick, accessTick, commandTick, transactionTick}
+use Rattle.model.specs.Job.{Transaction, Inner, between, first, copying, again, committing, Phase, idle, plain, reading, exchanging, transacting, Task, turn, rest, done}
+use Rattle.model.specs.Transaction.{bank, loaded, added, stays, copyBy, copyTick, accessTick, commandTick, transactionTick}
 use Rattle.model.specs.Machine.{answer, readBy, swapBy, plainTick, statement}
-use Rattle.model.specs.Plain.{transactionOf}
-use Rattle.model.specs.History.{Operation, untilCommit, plainEvent, eventOf, transactionEvent}
+use Rattle.model.specs.History.{Operation, plainEvent, eventOf, transactionEvent}
 use Rattle.model.proofs.Fit.Memory.{MemoryFit}
 use Rattle.model.proofs.Fit.Exchange.{entryOf}
 use Rattle.model.proofs.Fit.Transaction.{TransactionFit}
@@ -24,13 +21,13 @@ use Rattle.model.proofs.Fit.Machine.{PhaseFit}
 use Rattle.model.proofs.Whole.Act.{memoryAfter}
 use Rattle.model.proofs.Whole.Outcome.{outcome}
 use Rattle.model.proofs.Order.Moves.{innerCommitted}
-use Rattle.model.proofs.Transactions.Facts.{bankIn, slotsOf, PassFacts, TransactionFacts, PhaseFacts, TaskFacts}
-use Rattle.model.proofs.Transactions.Given.{exchangeIn, SaysYes, Swapped, Cells, same, swapped}
+use Rattle.model.proofs.Transactions.Facts.{bankIn, slotsOf, TransactionFacts, PhaseFacts, TaskFacts}
+use Rattle.model.proofs.Transactions.Given.{exchangeIn, Swapped, Cells, same, swapped}
 use Rattle.model.proofs.Transactions.Steps.{SlotsApart}
 use Rattle.model.proofs.Transactions.Steps.{begins as begins-pass}
-use Rattle.model.proofs.Transactions.Pass.{operationAfter, Turned, done-facts, done-slots, PutRoom, PassSituation, Outside, pass-turned}
+use Rattle.model.proofs.Transactions.Pass.{operationAfter, done-facts, done-slots, PutRoom, Outside, pass-turned}
 use Rattle.model.proofs.Transactions.Exchange.{Seen, goes-on, says-yes, says-yes-last, over, seen}
-use Rattle.model.proofs.Transactions.Committing.{TransactionYes, Effect, quiet, commits, Stated, committing-stated}
+use Rattle.model.proofs.Transactions.Committing.{TransactionYes, quiet, Stated, committing-stated}
 
 -- no exchange is at work
 no-exchange : {p : ℕ} {m n : Memory} {f : Phase} → exchangeIn f ≡ none → Cells p m f n → (c : ℕ) → currentOf n c ≡ currentOf m c
