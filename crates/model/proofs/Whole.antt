@@ -24,3 +24,4 @@ pub mod Tasks
 pub mod Touch
 pub mod Machine
 pub mod Given
+pub mod Run
