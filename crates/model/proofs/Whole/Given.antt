@@ -1,5 +1,5 @@
 -- What the transaction layer takes from this one (Transactions.Given), proved of every statement of the running task of a well formed machine.
-use Prim.Native.Nat.{ℕ, _+_, _<_, _≤_}
+use Prim.Native.Nat.{ℕ, _<_, _≤_}
 use mathlib.Core.Bool.{Bool, true, false, true≢false}
 use mathlib.Core.Path.{_≡_, refl, sym, _∙_, ap, subst}
 use mathlib.Core.Logic.{_≢_, _⊎_, inl, inr}
@@ -9,11 +9,11 @@ use native.Mathlib.Omega.{arith}
 use lib.Dec.{eqb}
 use lib.ListN.{length}
 use borrow.Author.Tests.{eqb-true, eqb-false, eq-eqb}
-use Rattle.model.specs.Lists.{at, replace}
+use Rattle.model.specs.Lists.{at}
 use Rattle.model.specs.Command.{Command}
-use Rattle.model.specs.Word.{Word, Memory, statusOf, setStatus, currentOf, Reading, loading, looking, fetching}
+use Rattle.model.specs.Word.{Word, Memory, statusOf, setStatus, Reading, loading, looking, fetching}
 use Rattle.model.specs.Exchange.{Entry, Step, start, test, load, look, fetch, fail, mark, install, commit, save, clean, cleanMark, Exchange, Exchanged, goes, ends, cleanBy, commitBy, exchangeTick}
-use Rattle.model.specs.Job.{Transaction, Inner, between, first, copying, again, committing, Phase, idle, plain, transacting, Task}
+use Rattle.model.specs.Job.{Transaction, between, first, copying, again, committing, Phase, idle, plain, transacting, Task}
 use Rattle.model.specs.Job.{reading as readingPhase, exchanging as exchangingPhase}
 use Rattle.model.specs.Transaction.{bank, blockOf, committed, transactionTick}
 use Rattle.model.specs.Machine.{taskAt, swapBy, statement}
@@ -22,8 +22,8 @@ use Rattle.model.proofs.Fit.Memory.{MemoryFit}
 use Rattle.model.proofs.Fit.Exchange.{EntriesFit}
 use Rattle.model.proofs.Fit.Machine.{PhaseFit}
 use Rattle.model.proofs.Fit.Running.{Highest}
-use Rattle.model.proofs.Transactions.Given.{exchangeIn, SaysYes, Swapped, Cells, same, swapped, loadedBy, SameContent, readingIn, Given}
-use Rattle.model.proofs.Whole.Act.{Act, free, reading, exchanging, actAt, actBy, actOf, started?, memoryAfter}
+use Rattle.model.proofs.Transactions.Given.{exchangeIn, Cells, same, swapped, loadedBy, SameContent, readingIn, Given}
+use Rattle.model.proofs.Whole.Act.{free, reading, exchanging, actBy, actOf, started?, memoryAfter}
 use Rattle.model.proofs.Whole.Invariant.{Invariant, Situation}
 use Rattle.model.proofs.Whole.Current.{commit-all, commit-old, commit-new, commit-others}
 use Rattle.model.proofs.Whole.Tasks.{phaseAct, taskAct, actsOf, acts-at, Below, situation, room}
