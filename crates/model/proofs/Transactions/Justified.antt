@@ -31,7 +31,7 @@ use Rattle.model.proofs.Transactions.Exchange.{yes-says, yes-step}
 use Rattle.model.proofs.Transactions.Machine.{turnOf, Running}
 use Rattle.model.proofs.Transactions.Replay.{contents-stay, commit-replays, nothing-replays}
 use Rattle.model.proofs.Transactions.Latest.{latestIn}
-use Rattle.model.proofs.Transactions.Run.{GivenRun, running-at}
+use Rattle.model.proofs.Transactions.Run.{running-at}
 
 -- no Commit says yes where none is at work, or where it does not
 pub none-says : {p : ℕ} {m : Memory} {f : Phase} → exchangeIn f ≡ none → (x : Exchange) → SaysYes p m f x → ⊥
@@ -42,7 +42,7 @@ not-says {p} {m} {f} {y} e n x w =
     let z : y ≡ x = cc (w .exchange) in
     yes-says p m (ap (λ (k : Exchange). k .step) z ∙ w .step) (w .status) n
 
-module _ {s : Sheet} (c : SheetFit s) (G : GivenRun (startMachine s)) (t p : ℕ) (e : runningOf (arrivedAt (startMachine s) t .tasks) ≡ running p) where
+module _ {s : Sheet} (c : SheetFit s) (t p : ℕ) (e : runningOf (arrivedAt (startMachine s) t .tasks) ≡ running p) where
   abbrev m : Machine
   m = arrivedAt (startMachine s) t
 
@@ -54,7 +54,7 @@ module _ {s : Sheet} (c : SheetFit s) (G : GivenRun (startMachine s)) (t p : ℕ
   after = ap (λ (n : Machine). contentsOf s (n .memory)) (state-next (startMachine s) t) ∙ rw e
 
   R : Running (length (s .words)) (length (s .blocks)) (length (s .bodies)) p (m .memory) (m .tasks) (latestIn (historyAfter (startMachine s) t))
-  R = running-at c G t p e
+  R = running-at c t p e
 
   -- a tick in which no Commit says yes
   pub still : ((x : Exchange) → SaysYes p (m .memory) (taskAt (m .tasks) p .phase) x → ⊥) → contentsAfter s (startMachine s) t ≡ contentsAfter s (startMachine s) (suc t)

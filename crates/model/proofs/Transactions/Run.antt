@@ -19,8 +19,9 @@ use Rattle.model.proofs.Fit.Start.{start-fit}
 use Rattle.model.proofs.Order.Noted.{latestOf, noted-nothing, latest-nothing}
 use Rattle.model.proofs.Order.Arrive.{TaskArrived, waits, starts, Arrived, Runs, runs}
 use Rattle.model.proofs.Order.Steps.{stateAfter, arrivedAt, historyAfter, state-next, history-next}
-use Rattle.model.proofs.Order.Ticks.{MachineLinked, arrived-at, arrived-linked}
+use Rattle.model.proofs.Order.Ticks.{MachineLinked, Started, arrived-at, arrived-linked}
 use Rattle.model.proofs.Order.Start.{started}
+use Rattle.model.proofs.Whole.Run.{given-at}
 use Rattle.model.proofs.Transactions.Facts.{slotsOf, TaskFacts, Transactions}
 use Rattle.model.proofs.Transactions.Given.{Given}
 use Rattle.model.proofs.Transactions.Owners.{owners-stay}
@@ -72,10 +73,7 @@ module _ {s : Sheet} (c : SheetFit s) {m : Machine} (F : Fit s m) {p : ℕ} (r :
         invariant = I;
       }
 
--- THE RUN, with what the exchange layer says of every tick
-pub record GivenRun (m : Machine) : Type 0 where
-  pub given : (t p : ℕ) → runningOf (arrivedAt m t .tasks) ≡ running p → Given p (arrivedAt m t .memory) (arrivedAt m t .tasks) (turnOf p (arrivedAt m t .memory) (arrivedAt m t .tasks) .memory)
-
+-- THE RUN
 module _ {s : Sheet} (c : SheetFit s) where
   fit-after : (t : ℕ) → Fit s (stateAfter (startMachine s) t)
   unfolding stateAfter
@@ -86,8 +84,11 @@ module _ {s : Sheet} (c : SheetFit s) where
   unfolding arrivedAt
   fit-at t = arrived-fit (arrive-fit c (fit-after t))
 
+  start-idle : Started (startMachine s)
+  start-idle = started (record { words = c .words; blocks = c .blocks; bodies = c .bodies })
+
   pub linked-at : (t : ℕ) → MachineLinked (arrivedAt (startMachine s) t) (historyAfter (startMachine s) t)
-  linked-at t = arrived-linked (started (record { words = c .words; blocks = c .blocks; bodies = c .bodies })) t
+  linked-at t = arrived-linked start-idle t
 
   -- with nobody to run nothing changes
   module _ {m : Machine} {h : History} (g : MachineLinked m h) (F : Fit s m) (I : Transactions (length (s .blocks)) (length (s .bodies)) (m .memory) (m .tasks) (latestIn h)) where
@@ -101,18 +102,20 @@ module _ {s : Sheet} (c : SheetFit s) where
         }
     move-keeps (running p) e G = let r = runs (m .tasks) p e in statement-keeps (runs-so c F r (G p refl) I) (m .now) (later g r)
 
-  module _ (G : GivenRun (startMachine s)) where
-    transactions-after : (t : ℕ) → Transactions (length (s .blocks)) (length (s .bodies)) (stateAfter (startMachine s) t .memory) (stateAfter (startMachine s) t .tasks) (latestIn (historyAfter (startMachine s) t))
-    unfolding stateAfter historyAfter
-    transactions-after zero = start-transactions c (latestIn (historyAfter (startMachine s) 0))
-    transactions-after (suc t) =
-        rw (state-next (startMachine s) t, history-next (startMachine s) t)
-        (move-keeps (linked-at t) (fit-at t) (arrived-transactions (arrived-at (startMachine s) t) (transactions-after t)) (runningOf (arrivedAt (startMachine s) t .tasks)) refl (λ p e. G .given t p e))
+  given-run : (t p : ℕ) → runningOf (arrivedAt (startMachine s) t .tasks) ≡ running p → Given p (arrivedAt (startMachine s) t .memory) (arrivedAt (startMachine s) t .tasks) (turnOf p (arrivedAt (startMachine s) t .memory) (arrivedAt (startMachine s) t .tasks) .memory)
+  given-run t p e = given-at c start-idle fit-at t p e
 
-    -- at every tick, its releases having arrived
-    pub transactions-at : (t : ℕ) → Transactions (length (s .blocks)) (length (s .bodies)) (arrivedAt (startMachine s) t .memory) (arrivedAt (startMachine s) t .tasks) (latestIn (historyAfter (startMachine s) t))
-    transactions-at t = arrived-transactions (arrived-at (startMachine s) t) (transactions-after t)
+  transactions-after : (t : ℕ) → Transactions (length (s .blocks)) (length (s .bodies)) (stateAfter (startMachine s) t .memory) (stateAfter (startMachine s) t .tasks) (latestIn (historyAfter (startMachine s) t))
+  unfolding stateAfter historyAfter
+  transactions-after zero = start-transactions c (latestIn (historyAfter (startMachine s) 0))
+  transactions-after (suc t) =
+      rw (state-next (startMachine s) t, history-next (startMachine s) t)
+      (move-keeps (linked-at t) (fit-at t) (arrived-transactions (arrived-at (startMachine s) t) (transactions-after t)) (runningOf (arrivedAt (startMachine s) t .tasks)) refl (λ p e. given-run t p e))
 
-    pub running-at : (t p : ℕ) → runningOf (arrivedAt (startMachine s) t .tasks) ≡ running p
-        → Running (length (s .words)) (length (s .blocks)) (length (s .bodies)) p (arrivedAt (startMachine s) t .memory) (arrivedAt (startMachine s) t .tasks) (latestIn (historyAfter (startMachine s) t))
-    running-at t p e = runs-so c (fit-at t) (runs (arrivedAt (startMachine s) t .tasks) p e) (G .given t p e) (transactions-at t)
+  -- at every tick, its releases having arrived
+  pub transactions-at : (t : ℕ) → Transactions (length (s .blocks)) (length (s .bodies)) (arrivedAt (startMachine s) t .memory) (arrivedAt (startMachine s) t .tasks) (latestIn (historyAfter (startMachine s) t))
+  transactions-at t = arrived-transactions (arrived-at (startMachine s) t) (transactions-after t)
+
+  pub running-at : (t p : ℕ) → runningOf (arrivedAt (startMachine s) t .tasks) ≡ running p
+      → Running (length (s .words)) (length (s .blocks)) (length (s .bodies)) p (arrivedAt (startMachine s) t .memory) (arrivedAt (startMachine s) t .tasks) (latestIn (historyAfter (startMachine s) t))
+  running-at t p e = runs-so c (fit-at t) (runs (arrivedAt (startMachine s) t .tasks) p e) (given-run t p e) (transactions-at t)
