@@ -1,7 +1,7 @@
 -- The invariants of the transaction layer: versions (V), the owners of the block stores (D), and each pass as the plain machine does it.
 use Prim.Native.Nat.{ℕ, suc, _<_, _≤_}
 use mathlib.Core.Bool.{Bool, true, false}
-use mathlib.Core.Path.{_≡_}
+use mathlib.Core.Path.{_≡_, subst}
 use mathlib.Core.List.{List, [], _∷_}
 use mathlib.Core.Option.{Option, none, some}
 use lib.ListN.{length}
@@ -153,6 +153,10 @@ PhaseFacts blocks m copies registers l o (transacting x s) = TransactionFacts bl
 
 abbrev pub TaskFacts : ℕ → Memory → Task → Operation → Type 0
 TaskFacts blocks m t o = PhaseFacts blocks m (t .copies) (t .registers) (t .commands) o (t .phase)
+
+-- what is said of a task in a transaction
+pub transaction-facts : (blocks : ℕ) (m : Memory) (t : Task) (o : Operation) {x : Transaction} {s : Inner} → t .phase ≡ transacting x s → TaskFacts blocks m t o → TransactionFacts blocks m (t .copies) (t .registers) (t .commands) x s o
+transaction-facts blocks m t o e F = subst (λ (f : Phase). PhaseFacts blocks m (t .copies) (t .registers) (t .commands) o f) e F
 
 -- of a sheet with that many blocks and tasks
 pub record Transactions (blocks tasks : ℕ) (m : Memory) (ts : List Task) (operations : ℕ → Operation) : Type 0 where

@@ -1,7 +1,7 @@
 -- What a tick of a run settles of transactions is justified, and a tick in which no Commit says yes leaves the contents.
 use Prim.Native.Nat.{ℕ, suc}
 use mathlib.Core.Bool.{Bool, true, false}
-use mathlib.Core.Path.{_≡_, refl, sym, _∙_, ap, subst}
+use mathlib.Core.Path.{_≡_, refl, sym, _∙_, ap}
 use mathlib.Core.List.{List, [], _∷_}
 use mathlib.Core.Option.{none, some}
 use native.Mathlib.Omega.{arith}
@@ -15,7 +15,7 @@ use Rattle.model.specs.Job.{Transaction, Inner, between, first, copying,
 use Rattle.model.specs.Transaction.{nothing?}
 use Rattle.model.specs.Machine.{Machine, taskAt, running, runningOf, move, startMachine}
 use Rattle.model.specs.Plain.{Contents, transactionOf, result, plainly}
-use Rattle.model.specs.History.{Operation, operationAt, untilCommit}
+use Rattle.model.specs.History.{Operation, History, operationAt, untilCommit}
 use Rattle.model.specs.Claim.{contentsOf}
 use Rattle.model.proofs.Fit.Sheet.{SheetFit}
 use Rattle.model.proofs.Order.Noted.{latestOf}
@@ -25,7 +25,7 @@ use Rattle.model.proofs.Order.Moves.{transactionSettles, commandSettles
 use Rattle.model.proofs.Order.Ticks.{arrived-at}
 use Rattle.model.proofs.Order.Justified.{Justified}
 use Rattle.model.proofs.Order.Theorem.{settledBy, contentsAfter}
-use Rattle.model.proofs.Transactions.Facts.{TransactionFacts, PhaseFacts}
+use Rattle.model.proofs.Transactions.Facts.{transaction-facts}
 use Rattle.model.proofs.Transactions.Given.{exchangeIn, innerExchange, SaysYes}
 use Rattle.model.proofs.Transactions.Exchange.{yes-says, yes-step}
 use Rattle.model.proofs.Transactions.Machine.{turnOf, Running}
@@ -46,50 +46,54 @@ module _ {s : Sheet} (c : SheetFit s) (t p : ℕ) (e : runningOf (arrivedAt (sta
   abbrev m : Machine
   m = arrivedAt (startMachine s) t
 
-  before : contentsAfter s (startMachine s) t ≡ contentsOf s (m .memory)
+  abbrev h : History
+  h = historyAfter (startMachine s) t
+
+  abbrev contents : ℕ → Contents
+  contents = contentsAfter s (startMachine s)
+
+  before : contents t ≡ contentsOf s (m .memory)
   before = ap (contentsOf s) (sym (arrived-at (startMachine s) t .memory))
 
-  after : contentsAfter s (startMachine s) (suc t) ≡ contentsOf s (turnOf p (m .memory) (m .tasks) .memory)
+  after : contents (suc t) ≡ contentsOf s (turnOf p (m .memory) (m .tasks) .memory)
   unfolding move
   after = ap (λ (n : Machine). contentsOf s (n .memory)) (state-next (startMachine s) t) ∙ rw e
 
-  R : Running (length (s .words)) (length (s .blocks)) (length (s .bodies)) p (m .memory) (m .tasks) (latestIn (historyAfter (startMachine s) t))
+  R : Running (length (s .words)) (length (s .blocks)) (length (s .bodies)) p (m .memory) (m .tasks) (latestIn h)
   R = running-at c t p e
 
   -- a tick in which no Commit says yes
-  pub still : ((x : Exchange) → SaysYes p (m .memory) (taskAt (m .tasks) p .phase) x → ⊥) → contentsAfter s (startMachine s) t ≡ contentsAfter s (startMachine s) (suc t)
+  pub still : ((x : Exchange) → SaysYes p (m .memory) (taskAt (m .tasks) p .phase) x → ⊥) → contents t ≡ contents (suc t)
   still f = before ∙ sym (contents-stay s R f) ∙ sym after
 
   -- TRANSACTIONS
   module _ {x : Transaction} {i : Inner} (f : taskAt (m .tasks) p .phase ≡ transacting x i) where
-    arguments : latestIn (historyAfter (startMachine s) t) p .arguments ≡ transactionOf (x .kept) (untilCommit (x .commands))
-    arguments =
-        let K : TransactionFacts (length (s .blocks)) (m .memory) (taskAt (m .tasks) p .copies) (taskAt (m .tasks) p .registers) (taskAt (m .tasks) p .commands) x i (latestIn (historyAfter (startMachine s) t) p) = subst (λ (f : Phase). PhaseFacts (length (s .blocks)) (m .memory) (taskAt (m .tasks) p .copies) (taskAt (m .tasks) p .registers) (taskAt (m .tasks) p .commands) (latestIn (historyAfter (startMachine s) t) p) f) f (R .invariant .task p (R .declared)) in
-        K .arguments
+    arguments : latestIn h p .arguments ≡ transactionOf (x .kept) (untilCommit (x .commands))
+    arguments = transaction-facts (length (s .blocks)) (m .memory) (taskAt (m .tasks) p) (latestIn h p) f (R .invariant .task p (R .declared)) .arguments
 
     -- the plain transaction, said of the latest operation
-    whole-justified : {n : Contents} → contentsAfter s (startMachine s) (suc t) ≡ n
-        → plainly (latestIn (historyAfter (startMachine s) t) p .arguments) (contentsOf s (m .memory)) ≡ result n (latestIn (historyAfter (startMachine s) t) p .answers)
-        → (o : Operation) → operationAt (historyAfter (startMachine s) t) (latestOf (historyAfter (startMachine s) t) p) ≡ some o
-        → plainly (transactionOf (x .kept) (untilCommit (x .commands))) (contentsAfter s (startMachine s) t) ≡ result (contentsAfter s (startMachine s) (suc t)) (o .answers)
+    whole-justified : {n : Contents} → contents (suc t) ≡ n
+        → plainly (latestIn h p .arguments) (contentsOf s (m .memory)) ≡ result n (latestIn h p .answers)
+        → (o : Operation) → operationAt h (latestOf h p) ≡ some o
+        → plainly (transactionOf (x .kept) (untilCommit (x .commands))) (contents t) ≡ result (contents (suc t)) (o .answers)
     whole-justified e′ w o is = rw (before, e′) (rw (arguments, is) at w)
 
-    commit-justified : {y : Exchange} → i ≡ committing y → (b : Bool) → saysYes p (m .memory) (y .step) ≡ b → Justified (contentsAfter s (startMachine s)) t p (historyAfter (startMachine s) t) (transactionSettles b x)
+    commit-justified : {y : Exchange} → i ≡ committing y → (b : Bool) → saysYes p (m .memory) (y .step) ≡ b → Justified contents t p h (transactionSettles b x)
     commit-justified {y} k true b =
         let Y = yes-step p (m .memory) (y .step) b in
         whole-justified after (commit-replays s R (record { transaction = x; exchange = y; phase = f ∙ ap (transacting x) k; step = Y .step; status = Y .status }))
     commit-justified {y} k false b = still (not-says {y = y} (rw (f, k)) b)
 
-    command-justified : innerExchange i ≡ none → i ≡ between → (l : List Command) → taskAt (m .tasks) p .commands ≡ l → Justified (contentsAfter s (startMachine s)) t p (historyAfter (startMachine s) t) (commandSettles x l)
+    command-justified : innerExchange i ≡ none → i ≡ between → (l : List Command) → taskAt (m .tasks) p .commands ≡ l → Justified contents t p h (commandSettles x l)
     command-justified n k [] q = still (none-says (rw f n))
     command-justified n k (COMMIT ∷ l) q = go (nothing? (x .blocks)) refl
       where
-        quiet : contentsAfter s (startMachine s) t ≡ contentsAfter s (startMachine s) (suc t)
+        quiet : contents t ≡ contents (suc t)
         quiet = still (none-says (rw f n))
 
-        go : (b : Bool) → nothing? (x .blocks) ≡ b → Justified (contentsAfter s (startMachine s)) t p (historyAfter (startMachine s) t) (transactionSettles b x)
-        go true h = whole-justified (sym quiet ∙ before) (nothing-replays s R x l (f ∙ ap (transacting x) k) q h)
-        go false h = quiet
+        go : (b : Bool) → nothing? (x .blocks) ≡ b → Justified contents t p h (transactionSettles b x)
+        go true n = whole-justified (sym quiet ∙ before) (nothing-replays s R x l (f ∙ ap (transacting x) k) q n)
+        go false n = quiet
     command-justified n k (LOAD r v ∷ l) q = still (none-says (rw f n))
     command-justified n k (ADD r v ∷ l) q = still (none-says (rw f n))
     command-justified n k (access a ∷ l) q = still (none-says (rw f n))
@@ -104,7 +108,7 @@ module _ {s : Sheet} (c : SheetFit s) (t p : ℕ) (e : runningOf (arrivedAt (sta
     command-justified n k (END ∷ l) q = still (none-says (rw f n))
 
   inner-justified : (x : Transaction) (i : Inner) → taskAt (m .tasks) p .phase ≡ transacting x i
-      → Justified (contentsAfter s (startMachine s)) t p (historyAfter (startMachine s) t) (innerSettles p (m .memory) (taskAt (m .tasks) p .commands) x i)
+      → Justified contents t p h (innerSettles p (m .memory) (taskAt (m .tasks) p .commands) x i)
   inner-justified x between f = command-justified f refl refl (taskAt (m .tasks) p .commands) refl
   inner-justified x (first a r) f = still (none-says (rw f))
   inner-justified x (copying a n) f = still (none-says (rw f))
@@ -112,10 +116,10 @@ module _ {s : Sheet} (c : SheetFit s) (t p : ℕ) (e : runningOf (arrivedAt (sta
   inner-justified x (committing y) f = commit-justified f refl (saysYes p (m .memory) (y .step)) refl
 
   -- every tick of a task in a transaction, and of a task in a plain command
-  pub transaction-justified : (x : Transaction) (i : Inner) → taskAt (m .tasks) p .phase ≡ transacting x i → Justified (contentsAfter s (startMachine s)) t p (historyAfter (startMachine s) t) (settledBy m p)
+  pub transaction-justified : (x : Transaction) (i : Inner) → taskAt (m .tasks) p .phase ≡ transacting x i → Justified contents t p h (settledBy m p)
   unfolding settling
   transaction-justified x i f = rw f (inner-justified x i f)
 
-  pub plain-justified : taskAt (m .tasks) p .phase ≡ plain → Justified (contentsAfter s (startMachine s)) t p (historyAfter (startMachine s) t) (settledBy m p)
+  pub plain-justified : taskAt (m .tasks) p .phase ≡ plain → Justified contents t p h (settledBy m p)
   unfolding settling
   plain-justified f = rw f (still (none-says (rw f)))

@@ -1,6 +1,6 @@
 -- A statement of the running task keeps the transaction layer's invariant; no block changes but by a transaction's yes, which is the plain transaction.
 use Prim.Native.Nat.{ℕ, _<_, _≤_}
-use mathlib.Core.Path.{_≡_, refl, subst}
+use mathlib.Core.Path.{_≡_, refl}
 use mathlib.Core.Logic.{_≢_}
 use mathlib.Core.List.{List, []}
 use native.Mathlib.Omega.{arith}
@@ -13,16 +13,14 @@ use Rattle.model.specs.Machine.{taskAt, noTask, statement}
 use Rattle.model.specs.History.{Operation, eventOf}
 use Rattle.model.proofs.Lists.{replace-same, replace-other, same?}
 use Rattle.model.proofs.Fit.Memory.{MemoryFit}
-use Rattle.model.proofs.Fit.Transaction.{TransactionFit}
-use Rattle.model.proofs.Fit.Machine.{PhaseFit}
-use Rattle.model.proofs.Transactions.Facts.{bankIn, Change, unchanged, slotsOf, block, slot, Owners, TransactionFacts, PhaseFacts, TaskFacts, Transactions}
+use Rattle.model.proofs.Transactions.Facts.{bankIn, transaction-facts, Change, unchanged, slotsOf, block, slot, Owners, TaskFacts, Transactions}
 use Rattle.model.proofs.Transactions.Given.{Given}
 use Rattle.model.proofs.Transactions.Frame.{Apart, pass-apart}
 use Rattle.model.proofs.Transactions.Commit.{committed-change}
 use Rattle.model.proofs.Transactions.Owners.{owners-stay, slots-apart, owners-exchanged}
 use Rattle.model.proofs.Transactions.Pass.{operationAfter}
 use Rattle.model.proofs.Transactions.Committing.{TransactionYes, CommitsNow, Effect, quiet, commits, Stated}
-use Rattle.model.proofs.Transactions.Statement.{JobFit, phase-stated}
+use Rattle.model.proofs.Transactions.Statement.{JobFit, transaction-fit, phase-stated}
 
 abbrev pub turnOf : ℕ → Memory → List Task → Turn
 turnOf p m ts = statement p m (taskAt ts p) (taskAt ts p .phase)
@@ -98,8 +96,8 @@ module _ {words blocks tasks p : ℕ} {m : Memory} {ts : List Task} {operations 
     other-facts (reading r w s) e = rw e tt
     other-facts (exchanging r x) e = rw e tt
     other-facts (transacting x s) e =
-        let K : TransactionFacts blocks m (taskAt ts q .copies) (taskAt ts q .registers) (taskAt ts q .commands) x s (operations q) = subst (λ (f : Phase). PhaseFacts blocks m (taskAt ts q .copies) (taskAt ts q .registers) (taskAt ts q .commands) (operations q) f) e (R .invariant .task q declared) in
-        let F : TransactionFit words blocks (taskAt ts q .copies) (taskAt ts q .commands) (taskAt ts q .pairs) x s = subst (λ (f : Phase). PhaseFit words blocks (taskAt ts q .copies) (taskAt ts q .commands) (taskAt ts q .pairs) f) e (R .fit q declared) in
+        let K = transaction-facts blocks m (taskAt ts q) (operations q) e (R .invariant .task q declared) in
+        let F = transaction-fit words blocks (taskAt ts q) e (R .fit q declared) in
         rw e
         (record {
           arguments = K .arguments;

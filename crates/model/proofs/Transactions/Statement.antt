@@ -21,7 +21,7 @@ use Rattle.model.proofs.Fit.Machine.{PhaseFit}
 use Rattle.model.proofs.Whole.Act.{memoryAfter}
 use Rattle.model.proofs.Whole.Outcome.{outcome}
 use Rattle.model.proofs.Order.Moves.{innerCommitted}
-use Rattle.model.proofs.Transactions.Facts.{bankIn, slotsOf, TransactionFacts, PhaseFacts, TaskFacts}
+use Rattle.model.proofs.Transactions.Facts.{bankIn, slotsOf, transaction-facts, TaskFacts}
 use Rattle.model.proofs.Transactions.Given.{exchangeIn, Swapped, Cells, same, swapped}
 use Rattle.model.proofs.Transactions.Steps.{SlotsApart}
 use Rattle.model.proofs.Transactions.Steps.{begins as begins-pass}
@@ -97,6 +97,9 @@ module _ {blocks p : ℕ} {m : Memory} {t : Task} {o : Operation} (own : slotsOf
 abbrev pub JobFit : ℕ → ℕ → Task → Type 0
 JobFit words blocks t = PhaseFit words blocks (t .copies) (t .commands) (t .pairs) (t .phase)
 
+pub transaction-fit : (words blocks : ℕ) (t : Task) {x : Transaction} {s : Inner} → t .phase ≡ transacting x s → JobFit words blocks t → TransactionFit words blocks (t .copies) (t .commands) (t .pairs) x s
+transaction-fit words blocks t e F = subst (λ (f : Phase). PhaseFit words blocks (t .copies) (t .commands) (t .pairs) f) e F
+
 -- a first copy tick is well formed afterwards, so a copy slot was left before it
 put-room : (words blocks p : ℕ) (m : Memory) (t : Task) (x : Transaction) → JobFit words blocks (transactionTick p m t x between .task) → PutRoom x (t .commands)
 unfolding transactionTick commandTick accessTick copyTick copyBy
@@ -119,8 +122,8 @@ module _ {words blocks p : ℕ} {m : Memory} {t : Task} {o : Operation} (S : Tas
       → Stated blocks p m t o (transactionTick p m t x s) (operationAfter p (transactionEvent now p m t x s) o)
   pass-stated x s e out ny =
       let own : slotsOf t ≡ t .copies = rw (e, ny) in
-      let F : TransactionFit words blocks (t .copies) (t .commands) (t .pairs) x s = subst (λ (f : Phase). PhaseFit words blocks (t .copies) (t .commands) (t .pairs) f) e (S .fit) in
-      let K : TransactionFacts blocks m (t .copies) (t .registers) (t .commands) x s o = subst (λ (f : Phase). PhaseFacts blocks m (t .copies) (t .registers) (t .commands) o f) e (S .facts) in
+      let F = transaction-fit words blocks t e (S .fit) in
+      let K = transaction-facts blocks m t o e (S .facts) in
       let T = pass-turned p now s out (record { most = S .fewBlocks; memory = S .memory; apart = S .apart own; phase = e; fit = F; arguments = K .arguments; pass = K .pass ny }) in
       record { facts = T .facts; effect = quiet (λ Y. outside Y) (λ b. T .cells (bank b)) (T .slots ∙ sym own); stores = λ i ne. T .stores i (rw own at ne) }
     where
@@ -142,7 +145,4 @@ module _ {words blocks p : ℕ} {m : Memory} {t : Task} {o : Operation} (S : Tas
   phase-stated (transacting x (copying a n)) e G c = pass-stated x (copying a n) e tt refl
   phase-stated (transacting x (again a v r)) e G c = pass-stated x (again a v r) e tt refl
   phase-stated (transacting x (committing y)) e G c =
-      committing-stated e
-      (subst (λ (f : Phase). PhaseFit words blocks (t .copies) (t .commands) (t .pairs) f) e (S .fit))
-      (subst (λ (f : Phase). PhaseFacts blocks m (t .copies) (t .registers) (t .commands) o f) e (S .facts))
-      now c
+      committing-stated e (transaction-fit words blocks t e (S .fit)) (transaction-facts blocks m t o e (S .facts)) now c
