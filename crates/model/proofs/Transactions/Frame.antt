@@ -24,7 +24,7 @@ pub record Apart (blocks upto : ℕ) (m n : Memory) (copies : List ℕ) : Type 0
   pub blockStores : (b : ℕ) → b < blocks → at [] (n .stores) (storeOf (bankIn m b)) ≡ at [] (m .stores) (storeOf (bankIn m b))
   pub slotStores : (k : ℕ) → k < upto → at [] (n .stores) (at 0 copies k) ≡ at [] (m .stores) (at 0 copies k)
 
--- the blocks of a transaction, as far as it takes them to be well formed
+-- of what Fit says of a transaction's blocks, the part that is used here
 pub record Blocks (blocks used : ℕ) (ts : List Touched) : Type 0 where
   pub size : length ts ≡ 16
   pub below : (b : ℕ) → touched? (at untouched ts b) ≡ true → b < blocks

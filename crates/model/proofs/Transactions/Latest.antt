@@ -25,7 +25,7 @@ abbrev pub operationOr : Option Operation → Operation
 operationOr none = newOperation 0 (swapOf [])
 operationOr (some o) = o
 
--- the latest operation of task p; another one where it has none
+-- the latest operation of task p, or any where it has none
 abbrev pub latestIn : History → ℕ → Operation
 latestIn h p = operationOr (operationAt h (latestOf h p))
 

@@ -1,5 +1,6 @@
--- A statement of the running task keeps the transaction layer's invariant; no block changes but by a transaction's yes, which is the plain transaction.
+-- A statement of the running task keeps the invariant of the transaction layer, and a bank word rises only where a transaction commits that has PUT its block.
 use Prim.Native.Nat.{ℕ, _<_, _≤_}
+use mathlib.Core.Bool.{true}
 use mathlib.Core.Path.{_≡_, refl}
 use mathlib.Core.Logic.{_≢_}
 use mathlib.Core.List.{List, []}
@@ -11,12 +12,13 @@ use Rattle.model.specs.Job.{copied, Transaction, Inner, Phase, idle, pla
 use Rattle.model.specs.Transaction.{storeOf, touchedOf}
 use Rattle.model.specs.Machine.{taskAt, noTask, statement}
 use Rattle.model.specs.History.{Operation, eventOf}
-use Rattle.model.proofs.Lists.{replace-same, replace-other, same?}
+use Rattle.model.proofs.Lists.{replace-same, replace-other, same?, test?}
 use Rattle.model.proofs.Fit.Memory.{MemoryFit}
+use Rattle.model.proofs.Fit.Transaction.{copied?}
 use Rattle.model.proofs.Transactions.Facts.{bankIn, transaction-facts, Change, unchanged, slotsOf, block, slot, Owners, TaskFacts, Transactions}
 use Rattle.model.proofs.Transactions.Given.{Given}
 use Rattle.model.proofs.Transactions.Frame.{Apart, pass-apart}
-use Rattle.model.proofs.Transactions.Commit.{committed-change}
+use Rattle.model.proofs.Transactions.Commit.{committed-stays, committed-change}
 use Rattle.model.proofs.Transactions.Owners.{owners-stay, slots-apart, owners-exchanged}
 use Rattle.model.proofs.Transactions.Pass.{operationAfter}
 use Rattle.model.proofs.Transactions.Committing.{TransactionYes, CommitsNow, Effect, quiet, commits, Stated}
@@ -77,6 +79,14 @@ module _ {words blocks tasks p : ℕ} {m : Memory} {ts : List Task} {operations 
       go : Effect blocks p m (taskAt ts p) (operations p) (turnOf p m ts .memory) (turnOf p m ts .task) → Change (bankIn m b) (bankIn (turnOf p m ts .memory) b)
       go (quiet y h e) = unchanged (h b)
       go (commits y C e f) = committed-change (C .cells) (small (R .declared) (R .invariant .owners) C e) b
+
+  -- it rises only where a transaction commits that has PUT the block
+  pub bank-stays : (b : ℕ) → ((y : TransactionYes p m (taskAt ts p)) → copied? (touchedOf (y .transaction) b) ≡ true → ⊥) → bankIn (turnOf p m ts .memory) b ≡ bankIn m b
+  bank-stays b n = go (stated .effect)
+    where
+      go : Effect blocks p m (taskAt ts p) (operations p) (turnOf p m ts .memory) (turnOf p m ts .task) → bankIn (turnOf p m ts .memory) b ≡ bankIn m b
+      go (quiet y h e) = h b
+      go (commits y C e f) = test? (copied? (touchedOf (y .transaction) b)) (λ k. absurd (n y k)) (committed-stays (C .cells) (small (R .declared) (R .invariant .owners) C e) b)
 
   -- stores are written only in copy slots of the task that runs
   pub block-stores : (b : ℕ) → b < blocks → at [] (turnOf p m ts .memory .stores) (storeOf (bankIn m b)) ≡ at [] (m .stores) (storeOf (bankIn m b))
