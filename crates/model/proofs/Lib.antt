@@ -5,3 +5,4 @@ pub mod Fit
 pub mod Whole
 pub mod Transactions
 pub mod Order
+pub mod Run

@@ -1,6 +1,6 @@
 -- History and machine: a task inside an operation is inside its latest one, which is open and has that task and those arguments;
 -- of two such tasks the higher one's operation began later.
-use Prim.Native.Nat.{ℕ, suc, _<_}
+use Prim.Native.Nat.{ℕ, suc, _<_, _≤_}
 use mathlib.Core.Bool.{Bool, true, false, true≢false}
 use mathlib.Core.Path.{_≡_, refl, sym, _∙_}
 use mathlib.Core.Logic.{_≢_, _⊎_, inl, inr}
@@ -46,6 +46,7 @@ givenTo ts p = given (taskAt ts p .phase)
 pub record Linked (u : ℕ) (ts : List Task) (h : History) : Type 0 where
   pub size : length (h .began) ≡ u
   pub latest : length (h .latest) ≡ 8
+  pub past : (p : ℕ) → latestOf h p ≤ u
   pub opened : (p : ℕ) → OpenBy h p (givenTo ts p) (hasCommitted (taskAt ts p .phase))
   pub nested : (p q : ℕ) → p < q → Inside (givenTo ts p) → Inside (givenTo ts q) → latestOf h p < latestOf h q
 
@@ -79,7 +80,9 @@ pub record Next (u p : ℕ) (h h′ : History) (g g′ : Option Arguments) (yes?
   pub latest : length (h′ .latest) ≡ 8
   pub mine : OpenBy h′ p g′ yes?
   pub other : (q : ℕ) → q ≢ p → latestOf h′ q ≡ latestOf h q
-  pub since : Inside g′ → (Inside g × (latestOf h′ p ≡ latestOf h p)) ⊎ (latestOf h′ p ≡ u)
+  pub own : (latestOf h′ p ≡ latestOf h p) ⊎ (latestOf h′ p ≡ u)
+  pub stays : Inside g → latestOf h′ p ≡ latestOf h p
+  pub since : Inside g′ → Inside g ⊎ (latestOf h′ p ≡ u)
   pub else : (b : ℕ) → b ≢ u → (Inside g → b ≢ latestOf h p) → operationAt h′ b ≡ operationAt h b
 
 module _ (u p : ℕ) (h : History) (size : length (h .began) ≡ u) (latest : length (h .latest) ≡ 8) (below : p < 8) where
@@ -91,7 +94,9 @@ module _ (u p : ℕ) (h : History) (size : length (h .began) ≡ u) (latest : le
     latest = latest-size u p h size nothing ∙ latest;
     mine = mine g o;
     other = λ q ne. latest-nothing u p h size q;
-    since = λ i. inl (i, latest-nothing u p h size p);
+    own = inl (latest-nothing u p h size p);
+    stays = λ i. latest-nothing u p h size p;
+    since = λ i. inl i;
     else = λ b ne na. noted-nothing u p h size b;
   }
     where
@@ -120,6 +125,8 @@ module _ (u p : ℕ) (h : History) (size : length (h .began) ≡ u) (latest : le
         latest = latest-size u p h size (begins a) ∙ latest;
         mine = record { operation = newOperation p a; is = rw since (c .here); task = refl; arguments = refl; unended = refl; committed = refl; unspent = refl; said = λ ps e y. absurd (true≢false (sym y)) };
         other = latest-begins-else u p h size a;
+        own = inr since;
+        stays = λ i. absurd i;
         since = λ i. inr since;
         else = λ b ne na. c .else b ne;
       }
@@ -135,7 +142,9 @@ module _ (u p : ℕ) (h : History) (size : length (h .began) ≡ u) (latest : le
           latest = latest-size u p h size (amends f) ∙ latest;
           mine = mine c;
           other = λ q ne. latest-amends u p h size f q;
-          since = λ i. inl (tt, latest-amends u p h size f p);
+          own = inl (latest-amends u p h size f p);
+          stays = λ i. latest-amends u p h size f p;
+          since = λ i. inl tt;
           else = λ b ne na. c .else b (na tt);
         }
 

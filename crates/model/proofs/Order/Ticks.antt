@@ -1,5 +1,5 @@
 -- Every tick keeps history and machine linked, and move-advances the history by at most one operation.
-use Prim.Native.Nat.{ℕ, zero, suc, _<_}
+use Prim.Native.Nat.{ℕ, zero, suc, _<_, _≤_}
 use mathlib.Core.Bool.{Bool}
 use mathlib.Core.Path.{_≡_, refl, sym, _∙_, ap, subst}
 use mathlib.Core.Logic.{_≢_, _⊎_, inl, inr}
@@ -7,7 +7,7 @@ use mathlib.Core.List.{List}
 use mathlib.Core.Option.{Option, none, some}
 use native.Mathlib.Decide.{decLt}
 use native.Mathlib.Omega.{arith}
-use lib.ListN.{length}
+use lib.ListN.{length, replicate}
 use Rattle.model.specs.Lists.{at, replace}
 use Rattle.model.specs.Job.{idle, Task, ticked}
 use Rattle.model.specs.Machine.{Machine, noTask, taskAt, Running, nobody, running, runningOf, move, statement}
@@ -19,7 +19,7 @@ use Rattle.model.proofs.Order.Arrive.{TaskArrived, waits, starts, Arriv
 use Rattle.model.proofs.Order.Advance.{Advance, same}
 use Rattle.model.proofs.Order.Moves.{given, hasCommitted}
 use Rattle.model.proofs.Order.Statement.{moves}
-use Rattle.model.proofs.Order.Noted.{latestOf, number-below, noted-nothing, size-nothing, latest-size}
+use Rattle.model.proofs.Order.Noted.{latestOf, number-below, noted-nothing, size-nothing, latest-size, latest-nothing}
 use Rattle.model.proofs.Order.Linked.{OpenBy, Inside, givenTo, Linked, Next, next}
 
 -- a task whose release has come stands where it stood: outside
@@ -35,6 +35,7 @@ pub linked-arrived : {u : ℕ} {m m′ : Machine} {h : History} → Arrived m m�
 linked-arrived a l = record {
   size = l .size;
   latest = l .latest;
+  past = l .past;
   opened = λ p. rw (given-arrived (a .task p), committed-arrived (a .task p)) (l .opened p);
   nested = λ p q lt i j. l .nested p q lt (rw (given-arrived (a .task p)) at i) (rw (given-arrived (a .task q)) at j);
 }
@@ -95,16 +96,23 @@ module _ {u p : ℕ} {ts : List Task} {h h′ : History} (r : Runs ts p) (l : Li
       (λ e. absurd (above-outside s (omega arith) (rw (other-given s ne) at j)))
       (λ k. rw (n .other q k, n .other s ne) (l .nested q s lt (rw (other-given q k) at i) (rw (other-given s ne) at j))))
     where
-      top : q ≢ p → Inside (givenTo ts q) → (Inside (givenTo ts p) × (latestOf h′ p ≡ latestOf h p)) ⊎ (latestOf h′ p ≡ u) → latestOf h q < latestOf h′ p
-      top ne i (inl k) = rw (k .1) (go (decLt q p))
+      top : q ≢ p → Inside (givenTo ts q) → Inside (givenTo ts p) ⊎ (latestOf h′ p ≡ u) → latestOf h q < latestOf h′ p
+      top ne i (inl k) = rw (n .stays k) (go (decLt q p))
         where
           go : Dec (q < p) → latestOf h q < latestOf h p
-          go (yes lt) = l .nested q p lt i (k .0)
+          go (yes lt) = l .nested q p lt i k
           go (no gt) = absurd (above-outside q (omega arith) i)
       top ne i (inr e) = rw e (latest-below l q i)
 
+  past′ : (q : ℕ) → latestOf h′ q ≤ suc u
+  past′ q = same? q p (λ e. rw e (go (n .own))) (λ ne. rw (n .other q ne) (omega (arith, l .past q)))
+    where
+      go : (latestOf h′ p ≡ latestOf h p) ⊎ (latestOf h′ p ≡ u) → latestOf h′ p ≤ suc u
+      go (inl e) = omega (arith, l .past p)
+      go (inr e) = omega arith
+
   pub linked-runs : Linked (suc u) ts′ h′
-  linked-runs = record { size = n .size; latest = n .latest; opened = opened′; nested = nested′ }
+  linked-runs = record { size = n .size; latest = n .latest; past = past′; opened = opened′; nested = nested′ }
 
 -- THE MACHINE with its history
 pub record MachineLinked (m : Machine) (h : History) : Type 0 where
@@ -133,6 +141,7 @@ module _ {m : Machine} {h : History} (g : MachineLinked m h) where
     linked = record {
       size = size-nothing (m .now) 0 h (g .linked .size);
       latest = latest-size (m .now) 0 h (g .linked .size) nothing ∙ g .linked .latest;
+      past = λ q. rw (latest-nothing (m .now) 0 h (g .linked .size) q) (omega (arith, g .linked .past q));
       opened = λ q. rw (none-runs (m .tasks) e q) tt;
       nested = λ q s lt i j. absurd (rw (none-runs (m .tasks) e q) at i);
     };
@@ -152,6 +161,13 @@ pub record Started (m : Machine) : Type 0 where
 pub arrived-at : (m : Machine) (t : ℕ) → Arrived (stateAfter m t) (arrivedAt m t)
 unfolding arrivedAt
 arrived-at m t = arrived (stateAfter m t .releases) (stateAfter m t)
+
+-- no operation has begun
+no-latest : (n p : ℕ) → _≡_ {A = ℕ} (at 0 (replicate n 0) p) 0
+unfolding at
+no-latest zero p = refl
+no-latest (suc n) zero = refl
+no-latest (suc n) (suc p) = no-latest n p
 
 move-now : (m : Machine) (r : Running) → move m r .now ≡ suc (m .now)
 unfolding move
@@ -174,6 +190,7 @@ module _ {m : Machine} (s : Started m) where
     linked = record {
       size = sym (s .now);
       latest = refl;
+      past = λ p. let z = no-latest 8 p in omega arith;
       opened = λ p. rw (s .idle p) tt;
       nested = λ p q lt i j. absurd (rw (s .idle p) at i);
     };

@@ -1,30 +1,29 @@
 -- The commit lemma: where the exchange says yes, the plain transaction takes the contents before to the contents after, with the answers of the pass.
-use Prim.Native.Nat.{ℕ, zero, suc, _+_, _*_, _/_, _%_, _<_, _≤_}
-use mathlib.Core.Bool.{Bool, true, false, true≢false}
+use Prim.Native.Nat.{ℕ, suc, _+_, _<_, _≤_}
+use mathlib.Core.Bool.{true, false, true≢false}
 use mathlib.Core.Path.{_≡_, refl, sym, _∙_, ap, subst}
-use mathlib.Core.Logic.{_≢_}
-use mathlib.Core.List.{List, [], _∷_}
+use mathlib.Core.List.{List, []}
 use mathlib.Core.Option.{Option, none, some}
 use native.Mathlib.Omega.{arith}
 use lib.ListN.{length}
 use Rattle.model.specs.Lists.{at}
-use Rattle.model.specs.Command.{PUT, Block, Command, access}
+use Rattle.model.specs.Command.{Block, Command}
 use Rattle.model.specs.Sheet.{Sheet}
-use Rattle.model.specs.Word.{Memory, current, currentOf}
-use Rattle.model.specs.Exchange.{Entry, entry}
+use Rattle.model.specs.Word.{Memory, currentOf}
+use Rattle.model.specs.Exchange.{Entry}
 use Rattle.model.specs.Job.{Touched, untouched, remembered, copied, Transaction, Inner}
-use Rattle.model.specs.Transaction.{bank, bankValue, versionOf, storeOf, rememberedOf, touchedOf, gather}
+use Rattle.model.specs.Transaction.{bank, versionOf, storeOf, rememberedOf, touchedOf, gather}
 use Rattle.model.specs.Plain.{Contents, Pass, noBlock, passed, passOf, commitBlocks, commits, transactionOf, result, plainly}
 use Rattle.model.specs.History.{untilCommit}
-use Rattle.model.specs.Claim.{each, blockIn, contentsOf}
+use Rattle.model.specs.Claim.{blockIn, contentsOf}
 use Rattle.model.proofs.Fit.Exchange.{entryOf, SamePairs}
-use Rattle.model.proofs.Fit.Transaction.{touched?}
-use Rattle.model.proofs.Transactions.Facts.{bankIn, Change, unchanged, raised, PutAtWork, SameCopy, Beside, Agrees, Way, PassFacts}
+use Rattle.model.proofs.Fit.Transaction.{touched?, copied?}
+use Rattle.model.proofs.Transactions.Facts.{bankIn, Change, unchanged, raised, PutAtWork, SameCopy, Beside, Agrees, PassFacts}
 use Rattle.model.proofs.Transactions.Given.{Swapped}
 use Rattle.model.proofs.Transactions.Versions.{version-bank, store-bank}
 use Rattle.model.proofs.Transactions.Contents.{ext-at, length-each, at-each, each-same, commitBlock, length-commit, at-commit}
 use Rattle.model.proofs.Transactions.Frame.{Blocks}
-use Rattle.model.proofs.Transactions.Gather.{newValue, PairOf, Bank, gathered, only-touched, nothing-touched}
+use Rattle.model.proofs.Transactions.Gather.{newValue, Bank, gathered, only-touched}
 
 -- what the exchange of a transaction does to the cells: touched bank words had the remembered value and have the new one
 pub record Committed (m n : Memory) (copies : List ℕ) (ts : List Touched) : Type 0 where
@@ -69,14 +68,25 @@ module _ {m n : Memory} {copies : List ℕ} {ts : List Touched} (C : Committed m
     now-at : (t : Touched) → at untouched ts b ≡ t → touched? t ≡ true → bankIn n b ≡ newValue copies t
     now-at t e h = rw e at (C .now b (rw e h))
 
-  -- V: a bank word stays, or its version rises by one
+  -- V: the version of a PUT block rises by one, every other bank word stays
+  pub committed-raised : (b v k : ℕ) → at untouched ts b ≡ copied v k → versionOf (bankIn n b) ≡ suc (versionOf (bankIn m b))
+  committed-raised b v k e = rw (now-at b (copied v k) e refl, was-at b (copied v k) e refl) (version-bank (suc (versionOf v)) (at 0 copies k) (small b v k e))
+
+  pub committed-stays : (b : ℕ) → copied? (at untouched ts b) ≡ false → bankIn n b ≡ bankIn m b
+  committed-stays b h = go (at untouched ts b) refl h
+    where
+      go : (t : Touched) → at untouched ts b ≡ t → copied? t ≡ false → bankIn n b ≡ bankIn m b
+      go untouched e h = C .others b (rw e)
+      go (remembered v) e h = now-at b (remembered v) e refl ∙ sym (was-at b (remembered v) e refl)
+      go (copied v k) e h = absurd (true≢false h)
+
   pub committed-change : (b : ℕ) → Change (bankIn m b) (bankIn n b)
   committed-change b = go (at untouched ts b) refl
     where
       go : (t : Touched) → at untouched ts b ≡ t → Change (bankIn m b) (bankIn n b)
-      go untouched e = unchanged (C .others b (rw e))
-      go (remembered v) e = unchanged (now-at b (remembered v) e refl ∙ sym (was-at b (remembered v) e refl))
-      go (copied v k) e = raised (rw (now-at b (copied v k) e refl, was-at b (copied v k) e refl) (version-bank (suc (versionOf v)) (at 0 copies k) (small b v k e)))
+      go untouched e = unchanged (committed-stays b (rw e))
+      go (remembered v) e = unchanged (committed-stays b (rw e))
+      go (copied v k) e = raised (committed-raised b v k e)
 
   -- a block after the exchange
   block-after : (b : ℕ) (t : Touched) (c : Option (List ℕ)) {l : List Command} → (PutAtWork b l → ⊥) → at untouched ts b ≡ t → SameCopy (m .stores) copies (blockIn m b .values) b l t c → commitBlock c (blockIn m b) ≡ blockIn n b

@@ -1,33 +1,33 @@
 -- The statements of a transaction in its exchange: the Commit that says yes commits the pass, no other statement changes a bank word.
-use Prim.Native.Nat.{ℕ, zero, suc, _+_, _<_, _≤_}
+use Prim.Native.Nat.{ℕ, _<_}
 use mathlib.Core.Bool.{Bool, true, false, true≢false}
-use mathlib.Core.Path.{_≡_, refl, sym, _∙_, ap, subst}
+use mathlib.Core.Path.{_≡_, refl, sym, _∙_, subst}
 use mathlib.Core.Logic.{_≢_}
-use mathlib.Core.List.{List, [], _∷_, _++_}
-use mathlib.Core.Option.{Option, none, some}
+use mathlib.Core.List.{[]}
+use mathlib.Core.Option.{some}
 use native.Mathlib.Omega.{arith}
 use lib.Dec.{eqb}
 use lib.ListN.{length}
-use Rattle.model.specs.Lists.{at, replace}
-use Rattle.model.specs.Command.{Command, access, COMMIT}
-use Rattle.model.specs.Word.{Memory, statusOf, setStatus, current, currentOf}
-use Rattle.model.specs.Exchange.{Step, start, test, load, look, fetch, fail, mark, install, commit, save, clean, cleanMark, Exchange, Exchanged, goes, ends, exchangeTick}
-use Rattle.model.specs.Job.{Touched, untouched, remembered, copied, Transaction, Inner, committing, Phase, transacting, Task, Turn, turn, rest, done, doneBy}
-use Rattle.model.specs.Transaction.{bank, storeOf, touchedOf, stays, restarted, rejected, gather, takenBack, committed, transactionTick}
-use Rattle.model.specs.Plain.{Arguments, transactionOf}
-use Rattle.model.specs.History.{Operation, Event, nothing, begins, amends, answering, ending, untilCommit, stepEvent, committingEvent, transactionEvent}
+use Rattle.model.specs.Lists.{at}
+use Rattle.model.specs.Word.{Memory, statusOf, currentOf}
+use Rattle.model.specs.Exchange.{Step, start, test, load, look, fetch, fail, mark, install, commit, save, clean, cleanMark, Exchange, Exchanged, ends}
+use Rattle.model.specs.Job.{Transaction, committing, transacting, Task, Turn, turn, rest}
+use Rattle.model.specs.Transaction.{bank, stays, takenBack, committed, transactionTick}
+use Rattle.model.specs.Plain.{transactionOf}
+use Rattle.model.specs.History.{Operation, untilCommit, stepEvent, committingEvent, transactionEvent}
 use Rattle.model.specs.History.{committed as committedOperation, commitBy as commitEventBy}
 use Rattle.model.proofs.Fit.Transaction.{TransactionFit}
 use Rattle.model.proofs.Whole.Outcome.{outcome}
-use Rattle.model.proofs.Transactions.Facts.{bankIn, Change, unchanged, stepSaidYes, saidYes, slotsOf, PassFacts, TransactionFacts, TaskFacts}
-use Rattle.model.proofs.Transactions.Given.{SaysYes, Swapped, Cells, same, swapped}
+use Rattle.model.proofs.Order.Exchange.{saidYes, saysYes}
+use Rattle.model.proofs.Transactions.Facts.{bankIn, unchanged, slotsOf, PassFacts, TransactionFacts, TaskFacts}
+use Rattle.model.proofs.Transactions.Given.{Swapped, Cells, same, swapped}
 use Rattle.model.proofs.Transactions.Frame.{Apart, Blocks, blocks-fit, pass-apart}
-use Rattle.model.proofs.Transactions.Steps.{SlotsApart, inner-step}
+use Rattle.model.proofs.Transactions.Steps.{inner-step}
 use Rattle.model.proofs.Transactions.Steps.{begins as begins-pass}
 use Rattle.model.proofs.Transactions.Commit.{Committed}
 use Rattle.model.proofs.Transactions.Commit.{committed as committed-cells}
 use Rattle.model.proofs.Transactions.Pass.{operationAfter, done-facts, done-slots}
-use Rattle.model.proofs.Transactions.Exchange.{NotYes, Seen, goes-on, says-yes, says-yes-last, over, seen}
+use Rattle.model.proofs.Transactions.Exchange.{yes-says, Seen, goes-on, says-yes, says-yes-last, over, seen}
 
 -- the statement of task p is the Commit that says yes for its transaction
 pub record TransactionYes (p : ℕ) (m : Memory) (t : Task) : Type 0 where
@@ -81,16 +81,16 @@ step-operation p m (clean j yes?) o = record { arguments = refl; answers = refl 
 step-operation p m (cleanMark j yes?) o = record { arguments = refl; answers = refl }
 
 -- no cell changes unless the Commit says yes
-calm : {p : ℕ} {m n : Memory} {x : Transaction} {e : Exchange} → NotYes p m e → Cells p m (transacting x (committing e)) n → (c : ℕ) → currentOf n c ≡ currentOf m c
+calm : {p : ℕ} {m n : Memory} {x : Transaction} {e : Exchange} → saysYes p m (e .step) ≡ false → Cells p m (transacting x (committing e)) n → (c : ℕ) → currentOf n c ≡ currentOf m c
 calm ny (same f h) = h
-calm {e = e} ny (swapped y Y i S) = let z : e ≡ y = cc (Y .exchange) in absurd (ny (rw (← z) at (Y .step)) (Y .status))
+calm {p} {m} {e = e} ny (swapped y Y i S) = let z : e ≡ y = cc (Y .exchange) in absurd (yes-says p m (rw (← z) at (Y .step)) (Y .status) ny)
 
 module _ {words blocks p : ℕ} {m : Memory} {t : Task} {x : Transaction} {e : Exchange} {o : Operation} (phase : t .phase ≡ transacting x (committing e))
     (fit : TransactionFit words blocks (t .copies) (t .commands) (t .pairs) x (committing e)) (T : TransactionFacts blocks m (t .copies) (t .registers) (t .commands) x (committing e) o) where
-  not-now : NotYes p m e → TransactionYes p m t → ⊥
-  not-now ny Y = let z : e ≡ Y .exchange = cc (phase, Y .phase) in ny (rw (← z) at (Y .step)) (Y .status)
+  not-now : saysYes p m (e .step) ≡ false → TransactionYes p m t → ⊥
+  not-now ny Y = let z : e ≡ Y .exchange = cc (phase, Y .phase) in yes-says p m (rw (← z) at (Y .step)) (Y .status) ny
 
-  goes-stated : {n : Memory} (y : Exchange) {o′ : Operation} → stepSaidYes (y .step) ≡ stepSaidYes (e .step) → NotYes p m e → ((c : ℕ) → currentOf n c ≡ currentOf m c) → n .stores ≡ m .stores → SameOperation o o′
+  goes-stated : {n : Memory} (y : Exchange) {o′ : Operation} → saidYes (y .step) ≡ saidYes (e .step) → saysYes p m (e .step) ≡ false → ((c : ℕ) → currentOf n c ≡ currentOf m c) → n .stores ≡ m .stores → SameOperation o o′
       → Stated blocks p m t o (turn n (stays t x (committing y))) o′
   goes-stated {n} y ey ny h st E =
       record {
@@ -105,7 +105,7 @@ module _ {words blocks p : ℕ} {m : Memory} {t : Task} {x : Transaction} {e : E
       A : Apart blocks 4 m n (t .copies)
       A = record { banks = λ b. unchanged (h (bank b)); blockStores = λ b l. rw st; slotStores = λ k l. rw st }
 
-  yes-stated : {n : Memory} (y : Exchange) {o′ : Operation} → stepSaidYes (y .step) ≡ true → e .step ≡ commit → statusOf m p ≡ 0 → Cells p m (transacting x (committing e)) n → n .stores ≡ m .stores → SameOperation o o′
+  yes-stated : {n : Memory} (y : Exchange) {o′ : Operation} → saidYes (y .step) ≡ true → e .step ≡ commit → statusOf m p ≡ 0 → Cells p m (transacting x (committing e)) n → n .stores ≡ m .stores → SameOperation o o′
       → Stated blocks p m t o (turn n (stays t x (committing y))) o′
   unfolding untilCommit
   yes-stated y ey ec es (same f h) st E = absurd (f e (record { exchange = refl; step = ec; status = es }))
@@ -130,7 +130,7 @@ module _ {words blocks p : ℕ} {m : Memory} {t : Task} {x : Transaction} {e : E
       }
 
   -- the last tick, by the answer
-  last-stated : (n : Memory) (now : ℕ) (yes? : Bool) → yes? ≡ stepSaidYes (e .step) → NotYes p m e → Cells p m (transacting x (committing e)) (committed t x (ends n yes?) .memory) → n .stores ≡ m .stores
+  last-stated : (n : Memory) (now : ℕ) (yes? : Bool) → yes? ≡ saidYes (e .step) → saysYes p m (e .step) ≡ false → Cells p m (transacting x (committing e)) (committed t x (ends n yes?) .memory) → n .stores ≡ m .stores
       → Stated blocks p m t o (committed t x (ends n yes?)) (operationAfter p (committingEvent now p m e (ends n yes?)) o)
   unfolding committed committingEvent
   last-stated n now true ey ny c st =

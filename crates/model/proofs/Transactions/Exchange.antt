@@ -1,52 +1,54 @@
 -- A tick of an exchange, as the transaction around it sees it: whether it says yes, and that no store changes.
-use Prim.Native.Nat.{ℕ, suc}
+use Prim.Native.Nat.{ℕ}
 use mathlib.Core.Bool.{Bool, true, false, true≢false}
 use mathlib.Core.Path.{_≡_, refl, sym, _∙_, ap}
-use mathlib.Core.Logic.{_≢_}
-use Rattle.model.specs.Lists.{at, replace}
+use borrow.Author.Tests.{eqb-true, ne-eqb}
+use Rattle.model.specs.Lists.{at}
 use Rattle.model.specs.Word.{Memory, statusOf, setStatus}
-use Rattle.model.specs.Exchange.{Step, start, test, load, look, fetch, fail, mark, install, commit, save, clean, cleanMark, Exchange, Exchanged, goes, ends, to, exchangeTick}
-use Rattle.model.proofs.Whole.Outcome.{Decides, commits, refuses, Cleans, renews, passes, gives-back, leaves, marks-after, Outcome, starts, tests-done, tests-on, loads, looks-own, looks-other, fetches, saves-differing, saves-to-mark, saves, fails, marks, installs, misses, decides, decides-last, cleans, cleans-last, cleans-to-mark, outcome}
-use Rattle.model.proofs.Transactions.Facts.{stepSaidYes}
+use Rattle.model.specs.Exchange.{Step, start, test, load, look, fetch, fail, mark, install, commit, save, clean, cleanMark, Exchange, Exchanged, goes, ends, to}
+use Rattle.model.proofs.Whole.Outcome.{commits, refuses, Cleans, renews, passes, gives-back, leaves, marks-after, Outcome, starts, tests-done, tests-on, loads, looks-own, looks-other, fetches, saves-differing, saves-to-mark, saves, fails, marks, installs, misses, decides, decides-last, cleans, cleans-last, cleans-to-mark}
+use Rattle.model.proofs.Order.Exchange.{saidYes, saysYes}
 
-abbrev commit? : Step → Bool
-commit? start = false
-commit? test = false
-commit? load = false
-commit? look = false
-commit? fetch = false
-commit? (save v) = false
-commit? fail = false
-commit? mark = false
-commit? install = false
-commit? commit = true
-commit? (clean j yes?) = false
-commit? (cleanMark j yes?) = false
+-- the Commit that says yes
+pub record YesStep (p : ℕ) (m : Memory) (s : Step) : Type 0 where
+  pub step : s ≡ commit
+  pub status : statusOf m p ≡ 0
 
--- not a Commit that says yes
-abbrev pub NotYes : ℕ → Memory → Exchange → Type 0
-NotYes p m x = x .step ≡ commit → statusOf m p ≢ 0
+pub yes-step : (p : ℕ) (m : Memory) (s : Step) → saysYes p m s ≡ true → YesStep p m s
+yes-step p m commit e = record { step = refl; status = eqb-true _ _ e }
+yes-step p m start e = absurd (true≢false (sym e))
+yes-step p m test e = absurd (true≢false (sym e))
+yes-step p m load e = absurd (true≢false (sym e))
+yes-step p m look e = absurd (true≢false (sym e))
+yes-step p m fetch e = absurd (true≢false (sym e))
+yes-step p m fail e = absurd (true≢false (sym e))
+yes-step p m mark e = absurd (true≢false (sym e))
+yes-step p m install e = absurd (true≢false (sym e))
+yes-step p m (save v) e = absurd (true≢false (sym e))
+yes-step p m (clean j yes?) e = absurd (true≢false (sym e))
+yes-step p m (cleanMark j yes?) e = absurd (true≢false (sym e))
 
+pub yes-says : (p : ℕ) (m : Memory) {s : Step} → s ≡ commit → statusOf m p ≡ 0 → saysYes p m s ≡ false → ⊥
+yes-says p m e h n = true≢false (rw (e, h) at n)
+
+-- a tick, by what it says
 pub data Seen (p : ℕ) (m : Memory) (x : Exchange) : Exchanged → Type 0 where
-  goes-on : {n : Memory} {y : Exchange} → stepSaidYes (y .step) ≡ stepSaidYes (x .step) → NotYes p m x → n .stores ≡ m .stores → Seen p m x (goes n y)
-  says-yes : {y : Exchange} → stepSaidYes (y .step) ≡ true → x .step ≡ commit → statusOf m p ≡ 0 → Seen p m x (goes (setStatus m p 2) y)
+  goes-on : {n : Memory} {y : Exchange} → saidYes (y .step) ≡ saidYes (x .step) → saysYes p m (x .step) ≡ false → n .stores ≡ m .stores → Seen p m x (goes n y)
+  says-yes : {y : Exchange} → saidYes (y .step) ≡ true → x .step ≡ commit → statusOf m p ≡ 0 → Seen p m x (goes (setStatus m p 2) y)
   says-yes-last : x .step ≡ commit → statusOf m p ≡ 0 → x .i ≡ 0 → Seen p m x (ends (setStatus m p 2) true)
-  over : {n : Memory} {yes? : Bool} → yes? ≡ stepSaidYes (x .step) → NotYes p m x → n .stores ≡ m .stores → Seen p m x (ends n yes?)
+  over : {n : Memory} {yes? : Bool} → yes? ≡ saidYes (x .step) → saysYes p m (x .step) ≡ false → n .stores ≡ m .stores → Seen p m x (ends n yes?)
 
 module _ (p : ℕ) (m : Memory) (x : Exchange) where
-  not-commit : {s : Step} → x .step ≡ s → commit? s ≡ false → NotYes p m x
-  not-commit e n c = absurd (true≢false (ap commit? (sym c ∙ e) ∙ n))
-
   -- at another step than Commit
-  before : {n : Memory} {y : Exchange} (s : Step) → x .step ≡ s → commit? s ≡ false → stepSaidYes (y .step) ≡ stepSaidYes s → n .stores ≡ m .stores → Seen p m x (goes n y)
-  before s e ne y st = goes-on (y ∙ ap stepSaidYes (sym e)) (not-commit e ne) st
+  before : {n : Memory} {y : Exchange} (s : Step) → x .step ≡ s → saysYes p m s ≡ false → saidYes (y .step) ≡ saidYes s → n .stores ≡ m .stores → Seen p m x (goes n y)
+  before s e ne y st = goes-on (y ∙ ap saidYes (sym e)) (rw e ne) st
 
-  cleaned-step : {n : Memory} {j : ℕ} {yes? : Bool} → Cleans p m x j yes? n → (yes? ≡ stepSaidYes (x .step)) × NotYes p m x × (n .stores ≡ m .stores)
-  cleaned-step (renews e f g) = (rw e, not-commit e refl, refl)
-  cleaned-step (passes e f g) = (rw e, not-commit e refl, refl)
-  cleaned-step (gives-back e f g) = (rw e, not-commit e refl, refl)
-  cleaned-step (leaves e f g h) = (rw e, not-commit e refl, refl)
-  cleaned-step (marks-after e) = (rw e, not-commit e refl, refl)
+  cleaned-step : {n : Memory} {j : ℕ} {yes? : Bool} → Cleans p m x j yes? n → (yes? ≡ saidYes (x .step)) × saysYes p m (x .step) ≡ false × (n .stores ≡ m .stores)
+  cleaned-step (renews e f g) = (rw e, rw e, refl)
+  cleaned-step (passes e f g) = (rw e, rw e, refl)
+  cleaned-step (gives-back e f g) = (rw e, rw e, refl)
+  cleaned-step (leaves e f g h) = (rw e, rw e, refl)
+  cleaned-step (marks-after e) = (rw e, rw e, refl)
 
   pub seen : {o : Exchanged} → Outcome p m x o → Seen p m x o
   seen (starts e) = before start e refl refl refl
@@ -64,9 +66,9 @@ module _ (p : ℕ) (m : Memory) (x : Exchange) where
   seen (installs e f) = before install e refl refl refl
   seen (misses e f) = before install e refl refl refl
   seen (decides e (commits f) g) = says-yes refl e f
-  seen (decides e (refuses f) g) = goes-on {y = to x (clean 0 false)} (rw e) (λ c. f) refl
+  seen (decides e (refuses f) g) = goes-on {y = to x (clean 0 false)} (rw e) (rw e (ne-eqb (statusOf m p) 0 f)) refl
   seen (decides-last e (commits f) g) = says-yes-last e f g
-  seen (decides-last e (refuses f) g) = over {yes? = false} (rw e) (λ c. f) refl
+  seen (decides-last e (refuses f) g) = over {yes? = false} (rw e) (rw e (ne-eqb (statusOf m p) 0 f)) refl
   seen (cleans j yes? c g) = let h = cleaned-step c in goes-on (h .0) (h .1) (h .2)
   seen (cleans-last j yes? c g) = let h = cleaned-step c in over (h .0) (h .1) (h .2)
   seen (cleans-to-mark j yes? e f g h) = before (clean j yes?) e refl refl refl

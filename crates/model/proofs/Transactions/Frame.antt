@@ -1,21 +1,20 @@
 -- What a pass knows stays while other tasks move, and while stores change that it does not look at.
-use Prim.Native.Nat.{ℕ, suc, _<_, _≤_}
-use mathlib.Core.Bool.{Bool, true, false}
+use Prim.Native.Nat.{ℕ, _<_, _≤_}
+use mathlib.Core.Bool.{true}
 use mathlib.Core.Path.{_≡_, refl, sym, _∙_, ap, subst}
-use mathlib.Core.Logic.{_≢_}
-use mathlib.Core.List.{List, [], _∷_}
+use mathlib.Core.List.{List, []}
 use mathlib.Core.Option.{Option, none, some}
 use native.Mathlib.Omega.{arith}
 use lib.ListN.{length}
 use Rattle.model.specs.Lists.{at}
-use Rattle.model.specs.Command.{Access, GET, PUT, Block, Command}
-use Rattle.model.specs.Word.{Word, Memory, stored, Reading, loading, looking, fetching}
+use Rattle.model.specs.Command.{GET, PUT, Block, Command}
+use Rattle.model.specs.Word.{Word, Memory, Reading, loading, looking, fetching}
 use Rattle.model.specs.Exchange.{Entry}
 use Rattle.model.specs.Job.{Touched, untouched, remembered, copied, Transaction, Inner, between, first, copying, again, committing}
 use Rattle.model.specs.Transaction.{storeOf, blockOf, rememberedOf, touchedOf}
 use Rattle.model.specs.Plain.{Pass, noBlock}
-use Rattle.model.proofs.Fit.Transaction.{touched?, InnerFit, TransactionFit}
-use Rattle.model.proofs.Transactions.Facts.{bankIn, Past, Change, SameCopy, Beside, Agrees, Way, InReading, CopiedTo, Fetched, Ready, AtInner, PassFacts}
+use Rattle.model.proofs.Fit.Transaction.{touched?, TransactionFit}
+use Rattle.model.proofs.Transactions.Facts.{bankIn, Past, Change, SameCopy, Beside, Agrees, Way, InReading, CopiedTo, Fetched, AtInner, PassFacts}
 use Rattle.model.proofs.Transactions.Given.{loadedBy, innerReading, SameContent}
 use Rattle.model.proofs.Transactions.Versions.{past-change, still-before}
 
@@ -25,7 +24,7 @@ pub record Apart (blocks upto : ℕ) (m n : Memory) (copies : List ℕ) : Type 0
   pub blockStores : (b : ℕ) → b < blocks → at [] (n .stores) (storeOf (bankIn m b)) ≡ at [] (m .stores) (storeOf (bankIn m b))
   pub slotStores : (k : ℕ) → k < upto → at [] (n .stores) (at 0 copies k) ≡ at [] (m .stores) (at 0 copies k)
 
--- the blocks of a transaction, as far as it takes them to be well formed
+-- of what Fit says of a transaction's blocks, the part that is used here
 pub record Blocks (blocks used : ℕ) (ts : List Touched) : Type 0 where
   pub size : length ts ≡ 16
   pub below : (b : ℕ) → touched? (at untouched ts b) ≡ true → b < blocks

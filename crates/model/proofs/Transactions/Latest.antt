@@ -1,34 +1,31 @@
 -- The latest operations that the history holds, before and after a tick, of the tasks that are in a transaction.
-use Prim.Native.Nat.{ℕ, suc, _<_}
-use mathlib.Core.Bool.{Bool, false}
-use mathlib.Core.Path.{_≡_, refl, sym, _∙_, ap}
+use Prim.Native.Nat.{ℕ, _<_}
+use mathlib.Core.Bool.{Bool}
+use mathlib.Core.Path.{_≡_, refl}
 use mathlib.Core.Logic.{_≢_}
-use mathlib.Core.List.{List, []}
+use mathlib.Core.List.{[]}
 use mathlib.Core.Option.{Option, none, some}
 use native.Mathlib.Decide.{decLt}
 use native.Mathlib.Omega.{arith}
 use lib.ListN.{length}
 use Rattle.model.specs.Lists.{at}
-use Rattle.model.specs.Word.{Memory}
-use Rattle.model.specs.Job.{Transaction, Inner, transacting, Task}
 use Rattle.model.specs.Machine.{Machine, taskAt, running}
 use Rattle.model.specs.Plain.{Arguments, swapOf}
-use Rattle.model.specs.History.{Operation, History, operationAt, Event, nothing, begins, amends, noted, observed, eventOf}
-use Rattle.model.proofs.Order.Advance.{Changed}
+use Rattle.model.specs.History.{Operation, History, operationAt, Event, nothing, amends, noted, observed}
 use Rattle.model.proofs.Order.Noted.{latestOf, newOperation, noted-nothing, latest-nothing, noted-begins, latest-begins, noted-amends, latest-amends}
 use Rattle.model.proofs.Order.Arrive.{Runs}
-use Rattle.model.proofs.Order.Moves.{given, Settling, Moves, outside, begun, goesOn, answers, readEnds, swapCommits, swapEnds, swapCommitsAndEnds, swapRejected, transactionCommits, transactionEnds, transactionCommitsAndEnds, nothingTouched, endsSpent}
+use Rattle.model.proofs.Order.Moves.{Settling, Moves, outside, begun, goesOn, answers, readEnds, swapCommits, swapEnds, swapCommitsAndEnds, swapRejected, transactionCommits, transactionEnds, transactionCommitsAndEnds, nothingTouched, endsSpent}
 use Rattle.model.proofs.Order.Statement.{moves}
-use Rattle.model.proofs.Order.Linked.{Open, OpenBy, Inside, givenTo, Linked, Next}
+use Rattle.model.proofs.Order.Linked.{Open, OpenBy, Inside, givenTo}
 use Rattle.model.proofs.Order.Ticks.{MachineLinked, latest-below, next-of}
 use Rattle.model.proofs.Transactions.Pass.{operationAfter}
-use Rattle.model.proofs.Transactions.Machine.{turnOf, Later}
+use Rattle.model.proofs.Transactions.Machine.{Later}
 
 abbrev pub operationOr : Option Operation → Operation
 operationOr none = newOperation 0 (swapOf [])
 operationOr (some o) = o
 
--- the latest operation of task p; another one where it has none
+-- the latest operation of task p, or any where it has none
 abbrev pub latestIn : History → ℕ → Operation
 latestIn h p = operationOr (operationAt h (latestOf h p))
 

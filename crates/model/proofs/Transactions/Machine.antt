@@ -1,36 +1,28 @@
--- A statement of the running task keeps the transaction layer's invariant; no block changes but by a transaction's yes, which is the plain transaction.
-use Prim.Native.Nat.{ℕ, zero, suc, _+_, _<_, _≤_}
-use mathlib.Core.Bool.{Bool, true, false, true≢false}
-use mathlib.Core.Path.{_≡_, refl, sym, _∙_, ap, subst}
+-- A statement of the running task keeps the invariant of the transaction layer, and a bank word rises only where a transaction commits that has PUT its block.
+use Prim.Native.Nat.{ℕ, _<_, _≤_}
+use mathlib.Core.Bool.{true}
+use mathlib.Core.Path.{_≡_, refl}
 use mathlib.Core.Logic.{_≢_}
-use mathlib.Core.List.{List, [], _∷_}
-use mathlib.Core.Option.{Option, none, some}
+use mathlib.Core.List.{List, []}
 use native.Mathlib.Omega.{arith}
 use lib.ListN.{length}
 use Rattle.model.specs.Lists.{at, replace}
-use Rattle.model.specs.Command.{Command, COMMIT}
-use Rattle.model.specs.Sheet.{Sheet}
-use Rattle.model.specs.Word.{Word, Memory, current, currentOf}
-use Rattle.model.specs.Job.{Touched, untouched, copied, Transaction, Inner, between, Phase, idle, plain, reading, exchanging, transacting, Task, Turn, ticked}
-use Rattle.model.specs.Transaction.{bank, storeOf, touchedOf, nothing?, takenBack}
+use Rattle.model.specs.Word.{Memory}
+use Rattle.model.specs.Job.{copied, Transaction, Inner, Phase, idle, plain, reading, exchanging, transacting, Task, Turn, ticked}
+use Rattle.model.specs.Transaction.{storeOf, touchedOf}
 use Rattle.model.specs.Machine.{taskAt, noTask, statement}
-use Rattle.model.specs.Plain.{transactionOf, result, plainly}
-use Rattle.model.specs.History.{Operation, untilCommit, eventOf}
-use Rattle.model.specs.Claim.{blockIn, contentsOf}
-use Rattle.model.proofs.Lists.{replace-same, replace-other, same?}
+use Rattle.model.specs.History.{Operation, eventOf}
+use Rattle.model.proofs.Lists.{replace-same, replace-other, same?, test?}
 use Rattle.model.proofs.Fit.Memory.{MemoryFit}
-use Rattle.model.proofs.Fit.Transaction.{TransactionFit}
-use Rattle.model.proofs.Fit.Machine.{PhaseFit}
-use Rattle.model.proofs.Transactions.Facts.{bankIn, Change, unchanged, raised, saidYes, slotsOf, Owner, block, slot, Owners, PassFacts, TransactionFacts, PhaseFacts, TaskFacts, Transactions}
-use Rattle.model.proofs.Transactions.Given.{loadedBy, readingIn, SameContent, Cells, Given}
-use Rattle.model.proofs.Transactions.Frame.{Apart, Blocks, blocks-fit, pass-apart}
-use Rattle.model.proofs.Transactions.Steps.{SlotsApart}
-use Rattle.model.proofs.Transactions.Gather.{nothing-touched}
-use Rattle.model.proofs.Transactions.Commit.{Committed, committed-nothing, committed-change, commits-whole}
+use Rattle.model.proofs.Fit.Transaction.{copied?}
+use Rattle.model.proofs.Transactions.Facts.{bankIn, transaction-facts, Change, unchanged, slotsOf, block, slot, Owners, TaskFacts, Transactions}
+use Rattle.model.proofs.Transactions.Given.{Given}
+use Rattle.model.proofs.Transactions.Frame.{Apart, pass-apart}
+use Rattle.model.proofs.Transactions.Commit.{committed-stays, committed-change}
 use Rattle.model.proofs.Transactions.Owners.{owners-stay, slots-apart, owners-exchanged}
 use Rattle.model.proofs.Transactions.Pass.{operationAfter}
 use Rattle.model.proofs.Transactions.Committing.{TransactionYes, CommitsNow, Effect, quiet, commits, Stated}
-use Rattle.model.proofs.Transactions.Statement.{JobFit, TaskSituation, phase-stated}
+use Rattle.model.proofs.Transactions.Statement.{JobFit, transaction-fit, phase-stated}
 
 abbrev pub turnOf : ℕ → Memory → List Task → Turn
 turnOf p m ts = statement p m (taskAt ts p) (taskAt ts p .phase)
@@ -88,6 +80,14 @@ module _ {words blocks tasks p : ℕ} {m : Memory} {ts : List Task} {operations 
       go (quiet y h e) = unchanged (h b)
       go (commits y C e f) = committed-change (C .cells) (small (R .declared) (R .invariant .owners) C e) b
 
+  -- it rises only where a transaction commits that has PUT the block
+  pub bank-stays : (b : ℕ) → ((y : TransactionYes p m (taskAt ts p)) → copied? (touchedOf (y .transaction) b) ≡ true → ⊥) → bankIn (turnOf p m ts .memory) b ≡ bankIn m b
+  bank-stays b n = go (stated .effect)
+    where
+      go : Effect blocks p m (taskAt ts p) (operations p) (turnOf p m ts .memory) (turnOf p m ts .task) → bankIn (turnOf p m ts .memory) b ≡ bankIn m b
+      go (quiet y h e) = h b
+      go (commits y C e f) = test? (copied? (touchedOf (y .transaction) b)) (λ k. absurd (n y k)) (committed-stays (C .cells) (small (R .declared) (R .invariant .owners) C e) b)
+
   -- stores are written only in copy slots of the task that runs
   pub block-stores : (b : ℕ) → b < blocks → at [] (turnOf p m ts .memory .stores) (storeOf (bankIn m b)) ≡ at [] (m .stores) (storeOf (bankIn m b))
   block-stores b lt = stated .stores (storeOf (bankIn m b)) (λ k l e. let z : _≡_ {A = ℕ} 0 1 = cc (R .invariant .owners .different (block b) (slot p k) lt (R .declared, l) e) in omega arith)
@@ -106,8 +106,8 @@ module _ {words blocks tasks p : ℕ} {m : Memory} {ts : List Task} {operations 
     other-facts (reading r w s) e = rw e tt
     other-facts (exchanging r x) e = rw e tt
     other-facts (transacting x s) e =
-        let K : TransactionFacts blocks m (taskAt ts q .copies) (taskAt ts q .registers) (taskAt ts q .commands) x s (operations q) = subst (λ (f : Phase). PhaseFacts blocks m (taskAt ts q .copies) (taskAt ts q .registers) (taskAt ts q .commands) (operations q) f) e (R .invariant .task q declared) in
-        let F : TransactionFit words blocks (taskAt ts q .copies) (taskAt ts q .commands) (taskAt ts q .pairs) x s = subst (λ (f : Phase). PhaseFit words blocks (taskAt ts q .copies) (taskAt ts q .commands) (taskAt ts q .pairs) f) e (R .fit q declared) in
+        let K = transaction-facts blocks m (taskAt ts q) (operations q) e (R .invariant .task q declared) in
+        let F = transaction-fit words blocks (taskAt ts q) e (R .fit q declared) in
         rw e
         (record {
           arguments = K .arguments;

@@ -1,24 +1,23 @@
 -- D: each block and each copy slot has a store of its own. The yes of an exchange renames the owners; no other statement moves one.
-use Prim.Native.Nat.{ℕ, zero, suc, _+_, _*_, _/_, _%_, _<_, _≤_}
+use Prim.Native.Nat.{ℕ, suc, _<_}
 use mathlib.Core.Bool.{Bool, true, false}
 use mathlib.Core.Path.{_≡_, refl, sym, _∙_, ap}
 use mathlib.Core.Logic.{_≢_}
-use mathlib.Core.List.{List, [], _∷_}
+use mathlib.Core.List.{List}
 use native.Mathlib.Omega.{arith}
 use lib.Dec.{eqb}
 use lib.ListN.{length}
 use borrow.Author.Tests.{eqb-true, eqb-false, eq-eqb}
 use Rattle.model.specs.Lists.{at}
-use Rattle.model.specs.Word.{Memory, current, currentOf}
+use Rattle.model.specs.Word.{Memory}
 use Rattle.model.specs.Job.{Touched, untouched, remembered, copied}
-use Rattle.model.specs.Transaction.{bank, bankValue, versionOf, storeOf, rememberedOf, takenBack}
+use Rattle.model.specs.Transaction.{bankValue, versionOf, storeOf, takenBack}
 use Rattle.model.proofs.Lists.{test?}
-use Rattle.model.proofs.Fit.Transaction.{touched?}
 use Rattle.model.proofs.Transactions.Facts.{bankIn, Owner, block, slot, Declared, place, Owners}
 use Rattle.model.proofs.Transactions.Versions.{store-bank}
 use Rattle.model.proofs.Transactions.Frame.{Blocks}
 use Rattle.model.proofs.Transactions.Steps.{SlotsApart}
-use Rattle.model.proofs.Transactions.Gather.{newValue, Holder, has, nobody, holder, slot-stays, slot-takes}
+use Rattle.model.proofs.Transactions.Gather.{Holder, has, nobody, holder, slot-stays, slot-takes}
 use Rattle.model.proofs.Transactions.Commit.{Committed}
 
 module _ {blocks tasks : ℕ} {banks banks′ : ℕ → ℕ} {slots slots′ : ℕ → List ℕ} where

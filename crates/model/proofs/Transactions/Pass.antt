@@ -1,29 +1,29 @@
 -- Every statement of a transaction outside its exchange keeps what is said of its pass, leaves every current value and writes only copy slots.
-use Prim.Native.Nat.{ℕ, zero, suc, _+_, _<_, _≤_}
+use Prim.Native.Nat.{ℕ, suc, _<_, _≤_}
 use mathlib.Core.Bool.{Bool, true, false, true≢false}
-use mathlib.Core.Path.{_≡_, refl, sym, _∙_, ap, subst}
+use mathlib.Core.Path.{_≡_, refl, sym, subst}
 use mathlib.Core.Logic.{_≢_}
-use mathlib.Core.List.{List, [], _∷_, _++_}
-use mathlib.Core.Option.{Option, none, some}
+use mathlib.Core.List.{List, [], _∷_}
+use mathlib.Core.Option.{none}
 use native.Mathlib.Omega.{arith}
 use lib.Dec.{eqb}
-use lib.ListN.{length}
-use borrow.Author.Tests.{eqb-true, eqb-false}
-use Rattle.model.specs.Lists.{at, replace}
+use borrow.Author.Tests.{eqb-true}
+use Rattle.model.specs.Lists.{at}
 use Rattle.model.specs.Command.{Access, GET, PUT, Block, Command, WORD, BLOCK, TASK, RELEASE, END, LOAD, ADD, READ, PAIR, SWAP, BEGIN, access, COMMIT}
 use Rattle.model.specs.Word.{Word, Memory, cellOf, stored, saved, setStored, own, current, currentBy, currentOf, Reading, loading, looking, fetching, Read, reads, gives, lookBy, readTick}
 use Rattle.model.specs.Exchange.{Entry, exchangeOf}
-use Rattle.model.specs.Job.{Touched, untouched, remembered, copied, Transaction, Inner, between, first, copying, again, committing, Phase, idle, plain, transacting, Task, Turn, turn, rest, done, doneBy, ended}
-use Rattle.model.specs.Transaction.{bank, versionOf, storeOf, blockOf, rememberedOf, touchedOf, fresh, touch, stays, goesOn, restarted, loaded, added, firstRead, copyBy, copyTick, accessTick, checkBy, againRead, nothing?, spent?, gather, commitBy, commandTick, transactionTick}
-use Rattle.model.specs.Plain.{Arguments, transactionOf, computes, passBy}
+use Rattle.model.specs.Job.{Touched, untouched, remembered, copied, Transaction, Inner, between, first, copying, again, committing, transacting, Task, Turn, turn, rest, doneBy}
+use Rattle.model.specs.Transaction.{bank, versionOf, storeOf, blockOf, rememberedOf, touchedOf, stays, goesOn, restarted, loaded, added, firstRead, copyBy, copyTick, accessTick, checkBy, againRead, nothing?, spent?, gather, commitBy, commandTick, transactionTick}
+use Rattle.model.specs.Plain.{transactionOf, computes, passBy}
 use Rattle.model.specs.Plain.{Pass as Plain}
 use Rattle.model.specs.History.{Operation, Event, nothing, begins, amends, answering, untilCommit, commitEvent, commandEvent, checkEvent, againEvent, transactionEvent}
 use Rattle.model.proofs.Lists.{replace-other}
 use Rattle.model.proofs.Fit.Memory.{MemoryFit}
 use Rattle.model.proofs.Fit.Transaction.{touched?, AgainFit, TransactionFit}
-use Rattle.model.proofs.Transactions.Facts.{bankIn, Past, saidYes, slotsOf, PutAtWork, InReading, CopiedTo, Fetched, Ready, AtInner, PassFacts, TransactionFacts, PhaseFacts, TaskFacts}
+use Rattle.model.proofs.Order.Moves.{innerCommitted}
+use Rattle.model.proofs.Transactions.Facts.{bankIn, Past, slotsOf, PutAtWork, InReading, CopiedTo, Ready, AtInner, PassFacts, TaskFacts}
 use Rattle.model.proofs.Transactions.Versions.{now-past}
-use Rattle.model.proofs.Transactions.Frame.{Blocks, blocks-fit}
+use Rattle.model.proofs.Transactions.Frame.{blocks-fit}
 use Rattle.model.proofs.Transactions.Steps.{SlotsApart, inner-step, computed, got-done}
 use Rattle.model.proofs.Transactions.Steps.{begins as begins-pass}
 use Rattle.model.proofs.Transactions.Puts.{remembers, copies-all, copies-one, writes}
@@ -79,7 +79,7 @@ pub record PassSituation (words blocks : ℕ) (m : Memory) (t : Task) (x : Trans
 
 module _ {words blocks : ℕ} {m : Memory} {t : Task} {x : Transaction} {s : Inner} {o : Operation} (S : PassSituation words blocks m t x s o) where
   -- another inner step of the same command
-  stays-turned : (s′ : Inner) → saidYes s′ ≡ false → AtInner m (t .copies) x s′ → Turned blocks m t (turn m (stays t x s′)) o
+  stays-turned : (s′ : Inner) → innerCommitted s′ ≡ false → AtInner m (t .copies) x s′ → Turned blocks m t (turn m (stays t x s′)) o
   stays-turned s′ e h = same-memory (record { arguments = S .arguments; pass = λ _. inner-step s′ h (S .pass) }) (rw e)
 
   restart-turned : Turned blocks m t (turn m (restarted t x)) (answering [] o)
@@ -99,7 +99,7 @@ module _ {words blocks : ℕ} {m : Memory} {t : Task} {x : Transaction} {s : Inn
       v : ℕ
       v = stored (m .stores) (storeOf (rememberedOf (touchedOf x b))) n
 
-      goes-on : (s′ : Inner) → saidYes s′ ≡ false
+      goes-on : (s′ : Inner) → innerCommitted s′ ≡ false
           → (CopiedTo (setStored m (at 0 (t .copies) (x .used)) n (stored (m .stores) (storeOf (rememberedOf (touchedOf x b))) n)) (t .copies) x b (suc n) → AtInner (setStored m (at 0 (t .copies) (x .used)) n (stored (m .stores) (storeOf (rememberedOf (touchedOf x b))) n)) (t .copies) x s′)
           → Turned blocks m t (turn (setStored m (at 0 (t .copies) (x .used)) n (stored (m .stores) (storeOf (rememberedOf (touchedOf x b))) n)) (stays t x s′)) o
       goes-on s′ e f =
@@ -167,7 +167,7 @@ module _ {words blocks : ℕ} {m : Memory} {t : Task} {x : Transaction} {s : Inn
   commit-turned p now false false = stays-turned (committing (exchangeOf (gather (t .copies) 0 (x .blocks)))) refl tt
 
   -- a command that no transaction has
-  nothing-turned : saidYes s ≡ false → Turned blocks m t (turn m t) o
+  nothing-turned : innerCommitted s ≡ false → Turned blocks m t (turn m t) o
   nothing-turned y = same-memory (rw (S .phase) (record { arguments = S .arguments; pass = λ _. S .pass })) (rw (S .phase, y))
 
   computed-turned : (c : Command) (rs : List ℕ) (l : List Command) → t .commands ≡ c ∷ l → ((b : ℕ) → PutAtWork b (c ∷ l) → ⊥) → untilCommit (c ∷ l) ≡ c ∷ untilCommit l
@@ -175,7 +175,7 @@ module _ {words blocks : ℕ} {m : Memory} {t : Task} {x : Transaction} {s : Inn
   computed-turned c rs l e np u f =
       same-memory (record { arguments = S .arguments; pass = λ _. rw e (computed c l rs np u f (subst (λ (y : List Command). PassFacts blocks m (t .copies) (t .registers) y x s (o .answers)) e (S .pass))) }) refl
 
-  command-turned : (p now : ℕ) (l : List Command) → saidYes s ≡ false → t .commands ≡ l → PutRoom x (t .commands) → Turned blocks m t (commandTick m t x l) (operationAfter p (commandEvent now x l) o)
+  command-turned : (p now : ℕ) (l : List Command) → innerCommitted s ≡ false → t .commands ≡ l → PutRoom x (t .commands) → Turned blocks m t (commandTick m t x l) (operationAfter p (commandEvent now x l) o)
   unfolding commandTick commandEvent passBy untilCommit
   command-turned p now [] y e room = nothing-turned y
   command-turned p now (LOAD r v ∷ l) y e room = computed-turned (LOAD r v) (loaded (t .registers) r v) l e (λ b w. let z : _≡_ {A = ℕ} 0 1 = cc (w .commands) in omega arith) refl (λ bs q h. rw h)

@@ -1,24 +1,24 @@
 -- The statements of a pass that change what it has touched: a bank word remembered, a block copied, a copy written.
-use Prim.Native.Nat.{ℕ, suc, _<_, _≤_}
-use mathlib.Core.Bool.{Bool, true, false, true≢false}
-use mathlib.Core.Path.{_≡_, refl, sym, _∙_, ap, subst}
+use Prim.Native.Nat.{ℕ, suc, _<_}
+use mathlib.Core.Bool.{true, true≢false}
+use mathlib.Core.Path.{_≡_, refl, sym, _∙_, subst}
 use mathlib.Core.Logic.{_≢_}
 use mathlib.Core.List.{List, [], _∷_}
 use mathlib.Core.Option.{Option, none, some}
 use native.Mathlib.Omega.{arith}
 use lib.ListN.{length}
 use Rattle.model.specs.Lists.{at, replace}
-use Rattle.model.specs.Command.{Access, GET, PUT, Block, Command, access}
-use Rattle.model.specs.Word.{Memory, stored, setStored, current}
+use Rattle.model.specs.Command.{PUT, Block, Command, access}
+use Rattle.model.specs.Word.{Memory, stored, setStored}
 use Rattle.model.specs.Job.{Touched, untouched, remembered, copied, Transaction, Inner, between}
 use Rattle.model.specs.Transaction.{storeOf, rememberedOf, touchedOf, touch}
-use Rattle.model.specs.Plain.{Pass, noBlock, valuesBy, valuesOf, puts, passBy, passed, passOf}
+use Rattle.model.specs.Plain.{Pass, noBlock, valuesOf, puts, passBy, passed}
 use Rattle.model.specs.History.{untilCommit}
 use Rattle.model.proofs.Lists.{replace-same, replace-other, length-replace, same?}
 use Rattle.model.proofs.Fit.Memory.{MemoryFit}
 use Rattle.model.proofs.Fit.Transaction.{touched?}
-use Rattle.model.proofs.Transactions.Facts.{bankIn, Past, unchanged, PutAtWork, SameCopy, Beside, Agrees, Way, CopiedTo, AtInner, PassFacts}
-use Rattle.model.proofs.Transactions.Frame.{Apart, Blocks, same-copy, beside-apart, stood, same-store, agreed}
+use Rattle.model.proofs.Transactions.Facts.{bankIn, Past, unchanged, PutAtWork, SameCopy, Beside, CopiedTo, AtInner, PassFacts}
+use Rattle.model.proofs.Transactions.Frame.{Apart, Blocks, same-copy, beside-apart, same-store, agreed}
 use Rattle.model.proofs.Transactions.Contents.{ext-at}
 use Rattle.model.proofs.Transactions.Steps.{SlotsApart, copy-onward, held}
 

@@ -1,30 +1,28 @@
 -- What a statement does to the blocks of a run's contents: nothing, or what the plain transaction does, with the answers of the pass.
-use Prim.Native.Nat.{ℕ, zero, suc, _+_, _<_, _≤_}
-use mathlib.Core.Bool.{Bool, true, false}
-use mathlib.Core.Path.{_≡_, refl, sym, _∙_, ap, subst}
-use mathlib.Core.List.{List, [], _∷_}
+use Prim.Native.Nat.{ℕ, _+_, _<_}
+use mathlib.Core.Bool.{true}
+use mathlib.Core.Path.{_≡_, refl}
+use mathlib.Core.List.{List, _∷_}
 use native.Mathlib.Omega.{arith}
 use lib.ListN.{length}
-use Rattle.model.specs.Lists.{at}
-use Rattle.model.specs.Command.{Block, Command, COMMIT}
+use Rattle.model.specs.Command.{Command, COMMIT}
 use Rattle.model.specs.Sheet.{Sheet}
-use Rattle.model.specs.Word.{Memory, current, currentOf}
+use Rattle.model.specs.Word.{Memory, currentOf}
 use Rattle.model.specs.Exchange.{Exchange}
-use Rattle.model.specs.Job.{Touched, untouched, copied, Transaction, Inner, between, Phase, transacting, Task, Turn}
-use Rattle.model.specs.Transaction.{bank, storeOf, versionOf, touchedOf, nothing?}
+use Rattle.model.specs.Job.{Transaction, between, Phase, transacting, Task}
+use Rattle.model.specs.Transaction.{nothing?}
 use Rattle.model.specs.Machine.{taskAt}
-use Rattle.model.specs.Plain.{transactionOf, result, plainly}
+use Rattle.model.specs.Plain.{result, plainly}
 use Rattle.model.specs.History.{Operation, untilCommit}
-use Rattle.model.specs.Claim.{each, blockIn, contentsOf}
-use Rattle.model.proofs.Fit.Transaction.{TransactionFit}
-use Rattle.model.proofs.Fit.Machine.{PhaseFit}
-use Rattle.model.proofs.Transactions.Facts.{bankIn, slotsOf, TransactionFacts, PhaseFacts}
-use Rattle.model.proofs.Transactions.Given.{SaysYes, Cells, same, swapped, Given}
+use Rattle.model.specs.Claim.{blockIn, contentsOf}
+use Rattle.model.proofs.Transactions.Facts.{transaction-facts}
+use Rattle.model.proofs.Transactions.Given.{SaysYes, Cells, same, swapped}
 use Rattle.model.proofs.Transactions.Contents.{each-same}
 use Rattle.model.proofs.Transactions.Frame.{blocks-fit}
 use Rattle.model.proofs.Transactions.Gather.{nothing-touched}
 use Rattle.model.proofs.Transactions.Commit.{committed-nothing, commits-whole}
-use Rattle.model.proofs.Transactions.Committing.{TransactionYes, CommitsNow, Effect, quiet, commits, Stated}
+use Rattle.model.proofs.Transactions.Committing.{TransactionYes, Effect, quiet, commits}
+use Rattle.model.proofs.Transactions.Statement.{transaction-fit}
 use Rattle.model.proofs.Transactions.Machine.{turnOf, Running, small, stated, block-stores}
 
 cells-stay : {p : ℕ} {m n : Memory} {f : Phase} → ((x : Exchange) → SaysYes p m f x → ⊥) → Cells p m f n → (c : ℕ) → currentOf n c ≡ currentOf m c
@@ -64,7 +62,7 @@ module _ (s : Sheet) {tasks p : ℕ} {m : Memory} {ts : List Task} {operations :
       → plainly (operations p .arguments) (contentsOf s m) ≡ result (contentsOf s m) (operations p .answers)
   unfolding untilCommit
   nothing-replays x l e c h =
-      let K : TransactionFacts (length (s .blocks)) m (taskAt ts p .copies) (taskAt ts p .registers) (taskAt ts p .commands) x between (operations p) = subst (λ (f : Phase). PhaseFacts (length (s .blocks)) m (taskAt ts p .copies) (taskAt ts p .registers) (taskAt ts p .commands) (operations p) f) e (R .invariant .task p (R .declared)) in
-      let F : TransactionFit (length (s .words)) (length (s .blocks)) (taskAt ts p .copies) (taskAt ts p .commands) (taskAt ts p .pairs) x between = subst (λ (f : Phase). PhaseFit (length (s .words)) (length (s .blocks)) (taskAt ts p .copies) (taskAt ts p .commands) (taskAt ts p .pairs) f) e (R .fit p (R .declared)) in
+      let K = transaction-facts (length (s .blocks)) m (taskAt ts p) (operations p) e (R .invariant .task p (R .declared)) in
+      let F = transaction-fit (length (s .words)) (length (s .blocks)) (taskAt ts p) e (R .fit p (R .declared)) in
       let u = nothing-touched (x .blocks) h in
       rw (K .arguments) (commits-whole s (R .fewWords) (blocks-fit F) (K .pass refl) (rw c) (committed-nothing m (taskAt ts p .copies) (x .blocks) u) (λ b v k y. let z : _≡_ {A = ℕ} 0 1 = cc (u b) in absurd (omega arith)))

@@ -1,23 +1,22 @@
 -- The start of a run: task p has stores 4p to 4p + 3, block b has store 4N + b, and no task is in a transaction.
-use Prim.Native.Nat.{ℕ, zero, suc, _+_, _*_, _-_, _/_, _%_, _<_, _≤_}
+use Prim.Native.Nat.{ℕ, zero, suc, _+_, _*_, _-_, _<_}
 use mathlib.Core.Path.{_≡_, refl, sym, _∙_, ap}
 use mathlib.Core.List.{List, [], _∷_, _++_, map}
 use native.Mathlib.Omega.{arith}
 use lib.ListN.{length, replicate, length-map}
 use lib.Seq.{getD-append-add}
 use Rattle.model.specs.Lists.{at}
-use Rattle.model.specs.Command.{Block, Command}
+use Rattle.model.specs.Command.{Block}
 use Rattle.model.specs.Sheet.{Sheet}
-use Rattle.model.specs.Word.{Word, Memory, own, currentBy, current, currentOf, cellOf}
+use Rattle.model.specs.Word.{Word, own, currentBy, current, cellOf}
 use Rattle.model.specs.Word.{fresh as freshWord}
-use Rattle.model.specs.Job.{Task}
 use Rattle.model.specs.Transaction.{bank, bankValue, storeOf}
 use Rattle.model.specs.Machine.{taskAt, filled, copiesOf, banksFrom, startMemory, startMachine}
 use Rattle.model.specs.History.{Operation}
 use Rattle.model.proofs.Lists.{at-append}
 use Rattle.model.proofs.Fit.Sheet.{noBlock, SheetFit}
 use Rattle.model.proofs.Fit.Start.{filled-size, start-task}
-use Rattle.model.proofs.Transactions.Facts.{bankIn, slotsOf, Owner, block, slot, Declared, place, Owners, TaskFacts, Transactions}
+use Rattle.model.proofs.Transactions.Facts.{bankIn, slotsOf, Owner, block, slot, Declared, place, Owners, Transactions}
 use Rattle.model.proofs.Transactions.Versions.{store-bank}
 
 -- BANK WORDS

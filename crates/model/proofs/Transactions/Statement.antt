@@ -1,35 +1,33 @@
 -- Every statement of a task, in a transaction or not: what is said of its task afterwards, and what it does to blocks, slots and stores.
-use Prim.Native.Nat.{ℕ, zero, suc, _+_, _<_, _≤_}
-use mathlib.Core.Bool.{Bool, true, false, true≢false}
-use mathlib.Core.Path.{_≡_, refl, sym, _∙_, ap, subst}
-use mathlib.Core.Logic.{_≢_}
+use Prim.Native.Nat.{ℕ, _<_, _≤_}
+use mathlib.Core.Bool.{false}
+use mathlib.Core.Path.{_≡_, refl, sym, _∙_, subst}
 use mathlib.Core.List.{List, [], _∷_, _++_}
-use mathlib.Core.Option.{Option, none, some}
+use mathlib.Core.Option.{none}
 use native.Mathlib.Omega.{arith}
-use lib.Dec.{eqb}
 use lib.ListN.{length}
 use Rattle.model.specs.Lists.{at, replace}
-use Rattle.model.specs.Command.{Access, GET, PUT, Command, WORD, BLOCK, TASK, RELEASE, END, LOAD, ADD, READ, PAIR, SWAP, BEGIN, access, COMMIT}
-use Rattle.model.specs.Word.{Memory, current, currentOf, Reading, loading, Read, reads, gives, readTick}
+use Rattle.model.specs.Command.{PUT, Command, WORD, BLOCK, TASK, RELEASE, END, LOAD, ADD, READ, PAIR, SWAP, BEGIN, access, COMMIT}
+use Rattle.model.specs.Word.{Memory, currentOf, loading, Read, reads, gives, readTick}
 use Rattle.model.specs.Exchange.{Entry, entry, exchangeOf, start, Exchange, Exchanged, goes, ends, exchangeTick}
-use Rattle.model.specs.Job.{Touched, untouched, remembered, copied, Transaction, Inner, between, first, copying, again, committing, Phase, idle, plain, reading, exchanging, transacting, Task, Turn, turn, rest, done, doneBy, inPhase}
-use Rattle.model.specs.Transaction.{bank, blockOf, touchedOf, fresh, within, loaded, added, stays, copyBy, copyTick, accessTick, commandTick, transactionTick}
+use Rattle.model.specs.Job.{Transaction, Inner, between, first, copying, again, committing, Phase, idle, plain, reading, exchanging, transacting, Task, turn, rest, done}
+use Rattle.model.specs.Transaction.{bank, loaded, added, stays, copyBy, copyTick, accessTick, commandTick, transactionTick}
 use Rattle.model.specs.Machine.{answer, readBy, swapBy, plainTick, statement}
-use Rattle.model.specs.Plain.{transactionOf}
-use Rattle.model.specs.History.{Operation, untilCommit, plainEvent, eventOf, transactionEvent}
+use Rattle.model.specs.History.{Operation, plainEvent, eventOf, transactionEvent}
 use Rattle.model.proofs.Fit.Memory.{MemoryFit}
 use Rattle.model.proofs.Fit.Exchange.{entryOf}
 use Rattle.model.proofs.Fit.Transaction.{TransactionFit}
 use Rattle.model.proofs.Fit.Machine.{PhaseFit}
 use Rattle.model.proofs.Whole.Act.{memoryAfter}
 use Rattle.model.proofs.Whole.Outcome.{outcome}
-use Rattle.model.proofs.Transactions.Facts.{bankIn, saidYes, slotsOf, PassFacts, TransactionFacts, PhaseFacts, TaskFacts}
-use Rattle.model.proofs.Transactions.Given.{exchangeIn, SaysYes, Swapped, Cells, same, swapped}
+use Rattle.model.proofs.Order.Moves.{innerCommitted}
+use Rattle.model.proofs.Transactions.Facts.{bankIn, slotsOf, transaction-facts, TaskFacts}
+use Rattle.model.proofs.Transactions.Given.{exchangeIn, Swapped, Cells, same, swapped}
 use Rattle.model.proofs.Transactions.Steps.{SlotsApart}
 use Rattle.model.proofs.Transactions.Steps.{begins as begins-pass}
-use Rattle.model.proofs.Transactions.Pass.{operationAfter, Turned, done-facts, done-slots, PutRoom, PassSituation, Outside, pass-turned}
+use Rattle.model.proofs.Transactions.Pass.{operationAfter, done-facts, done-slots, PutRoom, Outside, pass-turned}
 use Rattle.model.proofs.Transactions.Exchange.{Seen, goes-on, says-yes, says-yes-last, over, seen}
-use Rattle.model.proofs.Transactions.Committing.{TransactionYes, Effect, quiet, commits, Stated, committing-stated}
+use Rattle.model.proofs.Transactions.Committing.{TransactionYes, quiet, Stated, committing-stated}
 
 -- no exchange is at work
 no-exchange : {p : ℕ} {m n : Memory} {f : Phase} → exchangeIn f ≡ none → Cells p m f n → (c : ℕ) → currentOf n c ≡ currentOf m c
@@ -99,6 +97,9 @@ module _ {blocks p : ℕ} {m : Memory} {t : Task} {o : Operation} (own : slotsOf
 abbrev pub JobFit : ℕ → ℕ → Task → Type 0
 JobFit words blocks t = PhaseFit words blocks (t .copies) (t .commands) (t .pairs) (t .phase)
 
+pub transaction-fit : (words blocks : ℕ) (t : Task) {x : Transaction} {s : Inner} → t .phase ≡ transacting x s → JobFit words blocks t → TransactionFit words blocks (t .copies) (t .commands) (t .pairs) x s
+transaction-fit words blocks t e F = subst (λ (f : Phase). PhaseFit words blocks (t .copies) (t .commands) (t .pairs) f) e F
+
 -- a first copy tick is well formed afterwards, so a copy slot was left before it
 put-room : (words blocks p : ℕ) (m : Memory) (t : Task) (x : Transaction) → JobFit words blocks (transactionTick p m t x between .task) → PutRoom x (t .commands)
 unfolding transactionTick commandTick accessTick copyTick copyBy
@@ -117,12 +118,12 @@ pub record TaskSituation (words blocks p : ℕ) (m : Memory) (t : Task) (o : Ope
   pub apart : slotsOf t ≡ t .copies → SlotsApart blocks m (t .copies)
 
 module _ {words blocks p : ℕ} {m : Memory} {t : Task} {o : Operation} (S : TaskSituation words blocks p m t o) (now : ℕ) where
-  pass-stated : (x : Transaction) (s : Inner) → t .phase ≡ transacting x s → Outside x (t .commands) s → saidYes s ≡ false
+  pass-stated : (x : Transaction) (s : Inner) → t .phase ≡ transacting x s → Outside x (t .commands) s → innerCommitted s ≡ false
       → Stated blocks p m t o (transactionTick p m t x s) (operationAfter p (transactionEvent now p m t x s) o)
   pass-stated x s e out ny =
       let own : slotsOf t ≡ t .copies = rw (e, ny) in
-      let F : TransactionFit words blocks (t .copies) (t .commands) (t .pairs) x s = subst (λ (f : Phase). PhaseFit words blocks (t .copies) (t .commands) (t .pairs) f) e (S .fit) in
-      let K : TransactionFacts blocks m (t .copies) (t .registers) (t .commands) x s o = subst (λ (f : Phase). PhaseFacts blocks m (t .copies) (t .registers) (t .commands) o f) e (S .facts) in
+      let F = transaction-fit words blocks t e (S .fit) in
+      let K = transaction-facts blocks m t o e (S .facts) in
       let T = pass-turned p now s out (record { most = S .fewBlocks; memory = S .memory; apart = S .apart own; phase = e; fit = F; arguments = K .arguments; pass = K .pass ny }) in
       record { facts = T .facts; effect = quiet (λ Y. outside Y) (λ b. T .cells (bank b)) (T .slots ∙ sym own); stores = λ i ne. T .stores i (rw own at ne) }
     where
@@ -144,7 +145,4 @@ module _ {words blocks p : ℕ} {m : Memory} {t : Task} {o : Operation} (S : Tas
   phase-stated (transacting x (copying a n)) e G c = pass-stated x (copying a n) e tt refl
   phase-stated (transacting x (again a v r)) e G c = pass-stated x (again a v r) e tt refl
   phase-stated (transacting x (committing y)) e G c =
-      committing-stated e
-      (subst (λ (f : Phase). PhaseFit words blocks (t .copies) (t .commands) (t .pairs) f) e (S .fit))
-      (subst (λ (f : Phase). PhaseFacts blocks m (t .copies) (t .registers) (t .commands) o f) e (S .facts))
-      now c
+      committing-stated e (transaction-fit words blocks t e (S .fit)) (transaction-facts blocks m t o e (S .facts)) now c

@@ -1,7 +1,7 @@
 -- The statements of a pass up to its COMMIT, each with the plain machine: a command done is one step of it, a restart starts it again.
-use Prim.Native.Nat.{ℕ, suc, _<_, _≤_}
-use mathlib.Core.Bool.{Bool, true, false, true≢false}
-use mathlib.Core.Path.{_≡_, refl, sym, _∙_, ap, subst}
+use Prim.Native.Nat.{ℕ, _<_}
+use mathlib.Core.Bool.{true, true≢false}
+use mathlib.Core.Path.{_≡_, refl, sym, _∙_, ap}
 use mathlib.Core.Logic.{_≢_}
 use mathlib.Core.List.{List, [], _∷_, _++_}
 use mathlib.Core.Option.{Option, none, some}
@@ -9,17 +9,15 @@ use native.Mathlib.Decide.{decLt}
 use native.Mathlib.Omega.{arith}
 use lib.ListN.{length, replicate, length-replicate}
 use Rattle.model.specs.Lists.{at, replace}
-use Rattle.model.specs.Command.{Access, GET, PUT, Block, Command, LOAD, ADD, access}
-use Rattle.model.specs.Word.{Memory, stored, setStored, current}
-use Rattle.model.specs.Job.{Touched, untouched, remembered, copied, Transaction, Inner, between, first, copying, again, committing}
-use Rattle.model.specs.Transaction.{storeOf, blockOf, rememberedOf, touchedOf, fresh, touch}
-use Rattle.model.specs.Plain.{Pass, noBlock, noCopies, valuesBy, valuesOf, computes, gets, puts, passBy, passed, passOf}
+use Rattle.model.specs.Command.{GET, Block, Command, access}
+use Rattle.model.specs.Word.{Memory}
+use Rattle.model.specs.Job.{Touched, untouched, remembered, copied, Transaction, Inner, between}
+use Rattle.model.specs.Transaction.{storeOf, rememberedOf, touchedOf, fresh}
+use Rattle.model.specs.Plain.{Pass, noBlock, noCopies, valuesBy, valuesOf, computes, passBy, passed}
 use Rattle.model.specs.History.{untilCommit}
-use Rattle.model.proofs.Lists.{replace-same, replace-other, length-replace, at-past, at-replicate, same?}
-use Rattle.model.proofs.Fit.Memory.{MemoryFit}
+use Rattle.model.proofs.Lists.{at-past, at-replicate}
 use Rattle.model.proofs.Fit.Transaction.{touched?}
-use Rattle.model.proofs.Transactions.Facts.{bankIn, Past, unchanged, PutAtWork, SameCopy, Beside, Agrees, Way, CopiedTo, Fetched, AtInner, PassFacts}
-use Rattle.model.proofs.Transactions.Frame.{Apart, Blocks, same-copy, beside-apart, stood, same-store, agreed}
+use Rattle.model.proofs.Transactions.Facts.{bankIn, PutAtWork, SameCopy, Fetched, AtInner, PassFacts}
 
 -- D as one task needs it: its slots are apart from the blocks' stores and from each other
 pub record SlotsApart (blocks : ℕ) (m : Memory) (copies : List ℕ) : Type 0 where

@@ -1,6 +1,6 @@
 -- V: a remembered value stays the current one or its version has been passed, and never comes back.
-use Prim.Native.Nat.{ℕ, suc, _+_, _*_, _/_, _%_, _<_, _≤_}
-use mathlib.Core.Path.{_≡_, refl, sym, _∙_, ap}
+use Prim.Native.Nat.{ℕ, _<_}
+use mathlib.Core.Path.{_≡_, refl, sym, _∙_}
 use native.Mathlib.Omega.{arith}
 use Rattle.model.specs.Transaction.{bankValue, versionOf, storeOf}
 use Rattle.model.proofs.Transactions.Facts.{Past, Change, unchanged, raised}

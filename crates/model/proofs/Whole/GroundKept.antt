@@ -1,4 +1,4 @@
--- Commit and Clean uphold N; with that every statement keeps it: `exchange-past`, `start-past`, `quiet-past-kept`. A no has its grounds: `no-grounds`.
+-- Commit and Clean uphold N, and with that every outcome of an exchange's tick. An exchange that ends with no has its grounds.
 use Prim.Native.Nat.{ℕ, suc, _<_, _≤_}
 use mathlib.Core.Bool.{Bool, false, true≢false}
 use mathlib.Core.Path.{_≡_, refl, sym, _∙_, ap}

@@ -1,17 +1,13 @@
 -- A statement of the machine's running task: it keeps the invariant, and what it does to the current values and to what others have loaded.
-use Prim.Native.Nat.{ℕ, _+_, _<_, _≤_}
-use mathlib.Core.Bool.{Bool, true, false, true≢false}
+use Prim.Native.Nat.{ℕ, _<_}
 use mathlib.Core.Path.{_≡_, refl, sym, _∙_, ap, subst}
 use mathlib.Core.Logic.{_≢_, _⊎_, inl, inr}
 use mathlib.Core.List.{List}
 use native.Mathlib.Omega.{arith}
-use lib.Dec.{eqb}
-use lib.ListN.{length}
 use Rattle.model.specs.Lists.{at, replace}
-use Rattle.model.specs.Word.{Word, Memory, cellOf, statusOf, setStatus, own, current, currentOf, Reading, loading, looking, fetching, Read, reads, gives, readTick}
-use Rattle.model.specs.Exchange.{Entry, Step, start, commit, Exchange, exchangeTick}
-use Rattle.model.specs.Job.{Phase, Task}
-use Rattle.model.proofs.Whole.Act.{Act, free, reading, exchanging, actAt, actBy, actOf, started?, actAfter, memoryAfter, Quiet}
+use Rattle.model.specs.Word.{Word, Memory, statusOf, own, current, currentOf, Reading, loading, looking, fetching, Read, reads, gives, readTick}
+use Rattle.model.specs.Exchange.{Step, start, commit, Exchange, exchangeTick}
+use Rattle.model.proofs.Whole.Act.{Act, free, reading, exchanging, actAt, actBy, actOf, started?, actAfter, memoryAfter}
 use Rattle.model.proofs.Whole.Invariant.{WellFormed, Knows, Rank, itself, idle, lower, Invariant, Situation}
 use Rattle.model.proofs.Whole.Outcome.{outcome}
 use Rattle.model.proofs.Whole.Frame.{Frame, frame-none, own-frame, current-frame, lower-clear, Moved}
@@ -20,7 +16,7 @@ use Rattle.model.proofs.Whole.Standing.{AllInstalled, Upholds, invarian
 use Rattle.model.proofs.Whole.Upheld.{exchange-upholds}
 use Rattle.model.proofs.Whole.Preserve.{quiet-upholds}
 use Rattle.model.proofs.Whole.Current.{start-current, current-kept}
-use Rattle.model.proofs.Whole.Touch.{withStores, Ready, Touches, no-cell, waits, begins-reading, goes-on-reading, exchanges}
+use Rattle.model.proofs.Whole.Touch.{withStores, Touches, no-cell, waits, begins-reading, goes-on-reading, exchanges}
 
 frame-stores : (p : ℕ) (m : Memory) (stores : List (List ℕ)) → Frame p m (withStores m stores)
 frame-stores p m stores = record { status = frame-none p m .status; saves = frame-none p m .saves }

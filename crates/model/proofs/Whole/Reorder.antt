@@ -1,13 +1,13 @@
 -- The order of urgency may change between two ticks: as long as it stays among the tasks at work, so do the invariant and the grounds.
-use Prim.Native.Nat.{ℕ, _<_, _≤_}
+use Prim.Native.Nat.{ℕ}
 use mathlib.Core.Path.{_≡_, refl}
 use mathlib.Core.Logic.{_≢_}
 use mathlib.Core.List.{List}
 use native.Mathlib.Omega.{arith}
-use Rattle.model.specs.Word.{Word, Memory, Reading, loading, looking, fetching}
+use Rattle.model.specs.Word.{Word, Memory, loading, looking, fetching}
 use Rattle.model.specs.Exchange.{Entry, Step, start, test, load, look, fetch, fail, mark, install, commit, save, clean, cleanMark, Exchange}
 use Rattle.model.proofs.Whole.Act.{Act, free, reading, exchanging, actAt}
-use Rattle.model.proofs.Whole.Invariant.{WellFormed, valid, held, Loaded, Found, Settled, AtStep, InReading, Knows, CoveredBy, Stands, stands, covered, Standing, Invariant}
+use Rattle.model.proofs.Whole.Invariant.{WellFormed, valid, held, Loaded, Found, Settled, AtStep, Knows, CoveredBy, Stands, stands, covered, Standing, Invariant}
 use Rattle.model.proofs.Whole.Ground.{History, GroundsOf, ReplacedBy, CountsOn, there, replaced, was-hit, PastStep, PastAct, Past}
 
 not-free : {v : Act} {x : Exchange} → v ≡ exchanging x → v ≢ free

@@ -1,12 +1,11 @@
 -- The machine's tasks as acts, and the situation of the task that runs, from Fit. Now the order is that of task numbers.
-use Prim.Native.Nat.{ℕ, _+_, _<_, _≤_}
-use mathlib.Core.Bool.{true, false, true≢false}
-use mathlib.Core.Path.{_≡_, refl, sym, _∙_, ap}
-use mathlib.Core.Logic.{_≢_}
+use Prim.Native.Nat.{ℕ, _<_, _≤_}
+use mathlib.Core.Bool.{false, true≢false}
+use mathlib.Core.Path.{_≡_, refl, sym, _∙_}
 use mathlib.Core.List.{List, map}
 use native.Mathlib.Omega.{arith}
 use lib.ListN.{length, length-map}
-use Rattle.model.specs.Lists.{at, replace}
+use Rattle.model.specs.Lists.{replace}
 use Rattle.model.specs.Word.{Memory}
 use Rattle.model.specs.Exchange.{Entry}
 use Rattle.model.specs.Job.{Inner, between, first, copying, again, committing, Phase, idle, plain, transacting, Task}
@@ -17,8 +16,8 @@ use Rattle.model.proofs.Lists.{at-map, map-replace, same?}
 use Rattle.model.proofs.Fit.Elements.{below?}
 use Rattle.model.proofs.Fit.Memory.{MemoryFit}
 use Rattle.model.proofs.Fit.Exchange.{EntriesFit}
-use Rattle.model.proofs.Fit.Running.{busy, Highest}
-use Rattle.model.proofs.Whole.Act.{Act, free, reading, exchanging, actAt, actOf}
+use Rattle.model.proofs.Fit.Running.{Highest}
+use Rattle.model.proofs.Whole.Act.{Act, free, reading, actAt, actOf}
 use Rattle.model.proofs.Whole.Invariant.{Order, Rank, itself, lower, Invariant, Situation, Room}
 use Rattle.model.proofs.Whole.Invariant.{idle as free-now}
 

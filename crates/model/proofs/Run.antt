@@ -1,0 +1,3 @@
+-- Demand 3: every run of an accepted sheet is a sequence of whole operations. The layers joined.
+pub mod Acts
+pub mod Cells
