@@ -1,3 +1,5 @@
 -- Demand 3: every run of an accepted sheet is a sequence of whole operations. The layers joined.
 pub mod Acts
 pub mod Cells
+pub mod Past
+pub mod Grounds

@@ -55,7 +55,7 @@ pub record Work (x : Exchange) : Type 0 where
   pub most : high ≤ 48
 
 module _ {words blocks : ℕ} (fewWords : words ≤ 32) (fewBlocks : blocks ≤ 16) (t : Task) (f : JobFit words blocks t) where
-  fit-as : (g : Phase) → t .phase ≡ g → PhaseFit words blocks (t .copies) (t .commands) (t .pairs) g
+  pub fit-as : (g : Phase) → t .phase ≡ g → PhaseFit words blocks (t .copies) (t .commands) (t .pairs) g
   fit-as g e = subst (λ (g : Phase). PhaseFit words blocks (t .copies) (t .commands) (t .pairs) g) e f
 
   pub work : {x : Exchange} → ExchangeIn t x → Work x
