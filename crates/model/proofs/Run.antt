@@ -3,3 +3,4 @@ pub mod Acts
 pub mod Cells
 pub mod Past
 pub mod Grounds
+pub mod Swap
