@@ -4,3 +4,5 @@ pub mod Cells
 pub mod Past
 pub mod Grounds
 pub mod Swap
+pub mod Latest
+pub mod State
