@@ -6,3 +6,4 @@ pub mod Grounds
 pub mod Swap
 pub mod Latest
 pub mod State
+pub mod Always
