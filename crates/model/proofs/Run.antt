@@ -7,3 +7,4 @@ pub mod Swap
 pub mod Latest
 pub mod State
 pub mod Always
+pub mod Justify

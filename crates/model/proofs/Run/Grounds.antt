@@ -50,7 +50,7 @@ module _ {u p words blocks : ℕ} {m : Memory} {ts : List Task} {h h′ : Histor
   S : {v : Act} → actIn (taskAt ts p .phase) ≡ v → Situation below m (actsOf ts) p v
   S e = subst (λ (v : Act). Situation below m (actsOf ts) p v) e (situation g size r I)
 
-  same-pairs : (x : Exchange) → actIn (taskAt ts p .phase) ≡ exchangingAct x → SamePairs (x .entries) (pairs p)
+  pub same-pairs : (x : Exchange) → actIn (taskAt ts p .phase) ≡ exchangingAct x → SamePairs (x .entries) (pairs p)
   same-pairs x e =
       let k : PastExchange below (knowledge values u h pairs) (m .cells) (m .status) (m .saves) (actsOf ts) p x = subst (λ (v : Act). PastAct below (knowledge values u h pairs) (m .cells) (m .status) (m .saves) (actsOf ts) p v) (act-at ts p ∙ e) (P .knows p) in
       k .pairs

@@ -66,7 +66,7 @@ busy-inside : (ts : List Task) (r : ℕ) → Busy (actsOf ts) r → Inside (give
 busy-inside ts r b = acts-inside ts r (λ e. let z : _≡_ {A = ℕ} 0 1 = cc (b .act) in omega arith)
 
 -- the pair of each entry is among the pairs
-among-pairs : (es : List Entry) (e : ℕ) → e < length es → Among (pairOf (entryOf es e)) (map pairOf es)
+pub among-pairs : (es : List Entry) (e : ℕ) → e < length es → Among (pairOf (entryOf es e)) (map pairOf es)
 unfolding at
 among-pairs [] e l = absurd (omega arith)
 among-pairs (a ∷ es) zero l = inl refl
