@@ -8,3 +8,4 @@ pub mod Latest
 pub mod State
 pub mod Always
 pub mod Justify
+pub mod Theorem

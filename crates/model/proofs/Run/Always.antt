@@ -1,35 +1,30 @@
 -- It holds at the start of an accepted sheet's run, and after every tick.
-use Prim.Native.Nat.{ℕ, zero, suc, _*_, _-_, _<_, _≤_}
-use mathlib.Core.Bool.{Bool, true, false}
+use Prim.Native.Nat.{ℕ, zero, suc, _*_, _-_}
+use mathlib.Core.Bool.{true}
 use mathlib.Core.Path.{_≡_, refl, sym, _∙_, ap, subst}
 use mathlib.Core.List.{List, [], _∷_, _++_, map}
-use native.Mathlib.Omega.{arith}
 use lib.ListN.{length, replicate}
 use Rattle.model.specs.Lists.{at}
 use Rattle.model.specs.Command.{Block}
 use Rattle.model.specs.Sheet.{Sheet}
-use Rattle.model.specs.Word.{Word, Memory, cellOf, currentOf, current}
+use Rattle.model.specs.Word.{Word, Memory, cellOf, currentOf}
 use Rattle.model.specs.Word.{fresh as freshWord}
 use Rattle.model.specs.Job.{idle}
-use Rattle.model.specs.Machine.{Machine, taskAt, Running, nobody, running, runningOf, arrive, move, moveAny, tick, filled, banksFrom, startMemory, startMachine}
+use Rattle.model.specs.Machine.{Machine, taskAt, Running, nobody, running, runningOf, move, filled, banksFrom, startMemory, startMachine}
 use Rattle.model.specs.History.{History, noHistory, observed}
 use Rattle.model.proofs.Fit.Sheet.{SheetFit}
 use Rattle.model.proofs.Fit.Machine.{Fit}
 use Rattle.model.proofs.Fit.Tick.{tick-fit, arrive-fit, arrived-fit}
 use Rattle.model.proofs.Fit.Start.{start-fit}
 use Rattle.model.proofs.Whole.Act.{free, actAt}
-use Rattle.model.proofs.Whole.Invariant.{Invariant}
 use Rattle.model.proofs.Whole.Preserve.{invariant-at-first}
 use Rattle.model.proofs.Whole.Ground.{past-at-first}
-use Rattle.model.proofs.Transactions.Facts.{Transactions}
 use Rattle.model.proofs.Transactions.Start.{start-transactions}
 use Rattle.model.proofs.Order.Steps.{stateAfter, arrivedAt, historyAfter, state-next, history-next}
-use Rattle.model.proofs.Order.Arrive.{Arrived, Runs, runs, none-runs}
-use Rattle.model.proofs.Order.Ticks.{MachineLinked, Started, arrived-at, arrived-now, arrived-linked}
+use Rattle.model.proofs.Order.Arrive.{runs, none-runs}
+use Rattle.model.proofs.Order.Ticks.{arrived-at, arrived-now, arrived-linked}
 use Rattle.model.proofs.Order.Start.{WithinCeilings, started}
-use Rattle.model.proofs.Run.Acts.{actIn, actsOf, act-at}
-use Rattle.model.proofs.Run.Cells.{below}
-use Rattle.model.proofs.Run.Grounds.{PastAfter}
+use Rattle.model.proofs.Run.Acts.{actsOf, act-at}
 use Rattle.model.proofs.Run.State.{Holds, holds-arrived, holds-runs}
 use Rattle.model.proofs.Run.Latest.{latestOperation}
 

@@ -1,8 +1,7 @@
 -- What each task knows of the past stays true, the value that a READ gives was seen, and a SWAP that says no has its grounds.
-use Prim.Native.Nat.{ℕ, suc, _<_, _≤_}
+use Prim.Native.Nat.{ℕ, suc, _≤_}
 use mathlib.Core.Bool.{Bool, true, false}
-use mathlib.Core.Path.{_≡_, refl, sym, _∙_, ap, subst}
-use mathlib.Core.Logic.{_≢_}
+use mathlib.Core.Path.{_≡_, refl, _∙_, ap, subst}
 use mathlib.Core.List.{List}
 use mathlib.Core.Option.{Option}
 use native.Mathlib.Omega.{arith}
@@ -10,9 +9,9 @@ use lib.Dec.{eqb}
 use lib.ListN.{length}
 use borrow.Author.Tests.{eq-eqb, ne-eqb}
 use Rattle.model.specs.Lists.{replace}
-use Rattle.model.specs.Word.{Memory, currentOf, Reading, loading, looking, fetching, Read, reads, gives, readTick}
+use Rattle.model.specs.Word.{Memory, currentOf, Reading, loading, looking, fetching, gives, readTick}
 use Rattle.model.specs.Exchange.{Entry, Step, start, Exchange, ends, exchangeTick}
-use Rattle.model.specs.Job.{Phase, exchanging, Task}
+use Rattle.model.specs.Job.{Task}
 use Rattle.model.specs.Job.{reading as readingPhase}
 use Rattle.model.specs.Machine.{taskAt}
 use Rattle.model.specs.Plain.{Arguments}
@@ -20,7 +19,7 @@ use Rattle.model.specs.History.{History}
 use Rattle.model.proofs.Lists.{same?}
 use Rattle.model.proofs.Fit.Memory.{MemoryFit}
 use Rattle.model.proofs.Fit.Exchange.{SamePairs, same-refl}
-use Rattle.model.proofs.Whole.Act.{Act, free, reading, actAt, actBy, actOf, actAfter, memoryAfter, started?}
+use Rattle.model.proofs.Whole.Act.{Act, free, actAt, actBy, actOf, actAfter, memoryAfter, started?}
 use Rattle.model.proofs.Whole.Act.{exchanging as exchangingAct}
 use Rattle.model.proofs.Whole.Invariant.{Invariant, Situation, Room}
 use Rattle.model.proofs.Whole.Ground.{PastAct, PastExchange, Past, Busy, Passes, SeesNow, GroundsOf}
@@ -28,9 +27,9 @@ use Rattle.model.proofs.Whole.Grounded.{free-past, load-past, reading-p
 use Rattle.model.proofs.Transactions.Statement.{JobFit}
 use Rattle.model.proofs.Order.Linked.{givenTo, Linked, Next}
 use Rattle.model.proofs.Order.Arrive.{Runs}
-use Rattle.model.proofs.Run.Acts.{readAct, actIn, actsOf, act-at, SameCells, ExchangeIn, Touches, nothing, loads, looks, exchanges}
+use Rattle.model.proofs.Run.Acts.{actIn, actsOf, act-at, ExchangeIn, Touches, nothing, loads, looks, exchanges}
 use Rattle.model.proofs.Run.Cells.{below, situation, work, room, distinct}
-use Rattle.model.proofs.Run.Past.{Seen, knowledge, at-work, passes, sees-now}
+use Rattle.model.proofs.Run.Past.{Seen, knowledge, passes, sees-now}
 
 -- the pairs of task p are these from now on
 abbrev pairsBy : Bool → List Entry → List Entry → List Entry

@@ -1,48 +1,45 @@
 -- Every tick of an accepted sheet's run justifies what it settles.
-use Prim.Native.Nat.{ℕ, suc, _<_, _≤_}
-use mathlib.Core.Bool.{Bool, true, false, true≢false}
+use Prim.Native.Nat.{ℕ, suc, _<_}
+use mathlib.Core.Bool.{Bool, true, false}
 use mathlib.Core.Path.{_≡_, refl, sym, _∙_, ap, subst}
-use mathlib.Core.Logic.{_≢_, _⊎_, inl, inr}
+use mathlib.Core.Logic.{inl, inr}
 use mathlib.Core.List.{List, [], _∷_}
-use mathlib.Core.Option.{Option, none, some}
+use mathlib.Core.Option.{none, some}
 use native.Mathlib.Omega.{arith}
-use lib.Dec.{eqb}
 use lib.ListN.{length}
 use Rattle.model.specs.Lists.{at}
 use Rattle.model.specs.Command.{Command, WORD, BLOCK, TASK, RELEASE, END, LOAD, ADD, READ, PAIR, SWAP, BEGIN, access, COMMIT}
 use Rattle.model.specs.Sheet.{Sheet}
-use Rattle.model.specs.Word.{Memory, statusOf, current, currentOf, Reading, Read, reads, gives, readTick}
-use Rattle.model.specs.Exchange.{Entry, Step, start, commit, Exchange, Exchanged, goes, ends, exchangeTick}
-use Rattle.model.specs.Job.{Transaction, Inner, between, first, copying, again, committing, Phase, idle, plain, exchanging, transacting, Task}
+use Rattle.model.specs.Word.{Memory, currentOf, Reading, Read, reads, gives, readTick}
+use Rattle.model.specs.Exchange.{Step, start, Exchange, Exchanged, goes, ends, exchangeTick}
+use Rattle.model.specs.Job.{Transaction, Inner, between, first, copying, again, committing, Phase, idle, plain, exchanging, transacting}
 use Rattle.model.specs.Job.{reading as readingPhase}
 use Rattle.model.specs.Transaction.{nothing?}
 use Rattle.model.specs.Machine.{Machine, taskAt, running}
-use Rattle.model.specs.Plain.{Contents, Pair, transactionOf, swapOf, result, plainly}
+use Rattle.model.specs.Plain.{Contents, transactionOf, swapOf, result, plainly}
 use Rattle.model.specs.History.{Operation, History, operationAt, pairOf, untilCommit, observed}
-use Rattle.model.specs.Claim.{Among, contentsOf}
-use Rattle.model.proofs.Lists.{test?}
+use Rattle.model.specs.Claim.{contentsOf}
 use Rattle.model.proofs.Fit.Sheet.{SheetFit}
 use Rattle.model.proofs.Fit.Machine.{ExchangingFit}
 use Rattle.model.proofs.Fit.Exchange.{entryOf, SamePairs}
-use Rattle.model.proofs.Whole.Act.{actOf, started?}
+use Rattle.model.proofs.Whole.Act.{started?}
 use Rattle.model.proofs.Whole.Act.{exchanging as exchangingAct}
-use Rattle.model.proofs.Whole.Ground.{Grounds, differs, beaten, GroundsOf}
+use Rattle.model.proofs.Whole.Ground.{differs, beaten, GroundsOf}
 use Rattle.model.proofs.Transactions.Given.{exchangeIn, SaysYes, Swapped, Cells, same, swapped}
-use Rattle.model.proofs.Transactions.Committing.{TransactionYes}
 use Rattle.model.proofs.Transactions.Machine.{turnOf}
 use Rattle.model.proofs.Transactions.Replay.{blocks-stay, contents-stay, commit-replays, nothing-replays}
 use Rattle.model.proofs.Order.Exchange.{saysYes, pairsOf}
-use Rattle.model.proofs.Order.Moves.{given, innerCommitted, hasCommitted, Settling, readSettles, endSettles, swapSettles, transactionSettles, commandSettles, innerSettles, settling}
-use Rattle.model.proofs.Order.Noted.{latestOf, number-below}
-use Rattle.model.proofs.Order.Linked.{Open, OpenBy, Inside, givenTo, Next}
+use Rattle.model.proofs.Order.Moves.{given, innerCommitted, hasCommitted, readSettles, swapSettles, transactionSettles, commandSettles, innerSettles, settling}
+use Rattle.model.proofs.Order.Noted.{latestOf}
+use Rattle.model.proofs.Order.Linked.{Open, OpenBy, Inside, givenTo}
 use Rattle.model.proofs.Order.Hit.{Hit}
 use Rattle.model.proofs.Order.Justified.{Found, Ground, differed, hit, Justified}
 use Rattle.model.proofs.Order.Arrive.{Runs}
 use Rattle.model.proofs.Order.Ticks.{MachineLinked, next-of}
-use Rattle.model.proofs.Run.Acts.{actIn, ExchangeIn, goes-on}
+use Rattle.model.proofs.Run.Acts.{actIn, goes-on}
 use Rattle.model.proofs.Run.Cells.{fit-as, says-commit, says-not}
-use Rattle.model.proofs.Run.Past.{Seen, HitOn, knowledge, among-pairs}
-use Rattle.model.proofs.Run.Grounds.{PastAfter, same-pairs, read-seen, no-seen}
+use Rattle.model.proofs.Run.Past.{knowledge, among-pairs}
+use Rattle.model.proofs.Run.Grounds.{same-pairs, read-seen, no-seen}
 use Rattle.model.proofs.Run.Swap.{word-at, swap-replays}
 use Rattle.model.proofs.Run.Latest.{latestOperation}
 use Rattle.model.proofs.Run.State.{Holds, job, running-task}

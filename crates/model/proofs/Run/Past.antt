@@ -1,40 +1,36 @@
 -- What the exchange layer asks of a history, from the history of the run: the values seen since a task's operation began, and what has hit it.
 use Prim.Native.Nat.{ℕ, zero, suc, _<_, _≤_}
-use mathlib.Core.Bool.{Bool, true, false}
-use mathlib.Core.Path.{_≡_, refl, sym, _∙_, ap, subst}
+use mathlib.Core.Bool.{Bool}
+use mathlib.Core.Path.{_≡_, refl, sym, _∙_, ap}
 use mathlib.Core.Logic.{_≢_, _⊎_, inl, inr}
 use mathlib.Core.List.{List, [], _∷_, map}
-use mathlib.Core.Option.{Option, none, some}
+use mathlib.Core.Option.{Option}
 use native.Mathlib.Omega.{arith}
-use lib.Dec.{eqb}
 use lib.ListN.{length}
-use borrow.Author.Tests.{eq-eqb, ne-eqb}
-use Rattle.model.specs.Lists.{at, replace}
-use Rattle.model.specs.Word.{Memory, currentOf, current, Reading, loading, looking, fetching}
-use Rattle.model.specs.Exchange.{Entry, entry, Step, start, Exchange, Exchanged, exchangeTick, entryAt}
-use Rattle.model.specs.Job.{Inner, between, first, copying, again, committing, Phase, idle, plain, exchanging, transacting, Task}
+use Rattle.model.specs.Lists.{at}
+use Rattle.model.specs.Word.{Memory, currentOf, Reading, loading, looking, fetching}
+use Rattle.model.specs.Exchange.{Entry, Exchange}
+use Rattle.model.specs.Job.{between, first, copying, again, committing, Phase, idle, plain, exchanging, transacting, Task}
 use Rattle.model.specs.Job.{reading as readingPhase}
 use Rattle.model.specs.Transaction.{bank, blockOf}
 use Rattle.model.specs.Machine.{taskAt}
-use Rattle.model.specs.Plain.{Pair, Arguments, swapOf}
+use Rattle.model.specs.Plain.{Arguments, swapOf}
 use Rattle.model.specs.History.{History, pairOf}
 use Rattle.model.specs.Claim.{Among}
-use Rattle.model.proofs.Lists.{same?, at-map}
-use Rattle.model.proofs.Fit.Memory.{MemoryFit}
-use Rattle.model.proofs.Fit.Exchange.{entryOf, SamePairs, same-refl}
-use Rattle.model.proofs.Whole.Act.{Act, free, reading, actAt, actOf, actAfter, memoryAfter, started?}
+use Rattle.model.proofs.Lists.{same?}
+use Rattle.model.proofs.Fit.Exchange.{entryOf, SamePairs}
+use Rattle.model.proofs.Whole.Act.{free, actAt, actOf, started?}
 use Rattle.model.proofs.Whole.Act.{exchanging as exchangingAct}
-use Rattle.model.proofs.Whole.Invariant.{Invariant, Situation, Room}
-use Rattle.model.proofs.Whole.Ground.{PastExchange, PastAct, Past, Busy, Passes, SeesNow}
+use Rattle.model.proofs.Whole.Ground.{Busy, Passes, SeesNow}
 use Rattle.model.proofs.Whole.Ground.{History as Knowledge}
 use Rattle.model.proofs.Transactions.Statement.{JobFit}
 use Rattle.model.proofs.Order.Exchange.{pairsOf}
-use Rattle.model.proofs.Order.Moves.{given, hasCommitted}
+use Rattle.model.proofs.Order.Moves.{given}
 use Rattle.model.proofs.Order.Noted.{latestOf}
-use Rattle.model.proofs.Order.Linked.{Open, OpenBy, Inside, givenTo, Linked, Next}
+use Rattle.model.proofs.Order.Linked.{Open, Inside, givenTo, Linked, Next}
 use Rattle.model.proofs.Order.Hit.{Hit, hit-kept, hit-lower, hit-by}
 use Rattle.model.proofs.Order.Arrive.{Runs}
-use Rattle.model.proofs.Run.Acts.{readAct, innerAct, actIn, taskAct, actsOf, act-at, ExchangeIn, begins, goes-on, commits}
+use Rattle.model.proofs.Run.Acts.{readAct, actIn, actsOf, act-at, ExchangeIn, begins, goes-on, commits}
 use Rattle.model.proofs.Run.Cells.{below, fit-as}
 
 -- cell c had the value v at the beginning of a tick of task r's latest operation, u ticks being done

@@ -1,40 +1,32 @@
 -- What holds after every tick of an accepted sheet's run: the machine is well formed, and so say the exchange and the transaction layer with their knowledge of the past.
-use Prim.Native.Nat.{ℕ, zero, suc, _<_, _≤_}
-use mathlib.Core.Bool.{Bool, true, false, true≢false}
-use mathlib.Core.Path.{_≡_, refl, sym, _∙_, ap, subst}
-use mathlib.Core.Logic.{_≢_}
-use mathlib.Core.List.{List, [], _∷_, map}
-use mathlib.Core.Option.{Option, none, some}
+use Prim.Native.Nat.{ℕ, suc, _<_}
+use mathlib.Core.Bool.{true≢false}
+use mathlib.Core.Path.{_≡_, refl, sym, _∙_, ap}
 use native.Mathlib.Decide.{decLt}
 use native.Mathlib.Omega.{arith}
 use lib.ListN.{length, length-map}
-use Rattle.model.specs.Lists.{at, replace}
+use Rattle.model.specs.Lists.{replace}
 use Rattle.model.specs.Sheet.{Sheet}
-use Rattle.model.specs.Word.{Memory, currentOf, current}
-use Rattle.model.specs.Job.{Transaction, Inner, Phase, idle, transacting, Task, ticked, started}
-use Rattle.model.specs.Machine.{Machine, noTask, taskAt, unfinished, Running, nobody, running, runningOf, move, tick, statement}
-use Rattle.model.specs.History.{Operation, History, eventOf, observed}
-use Rattle.model.proofs.Lists.{map-replace, same?}
+use Rattle.model.specs.Word.{Memory, currentOf}
+use Rattle.model.specs.Job.{Task, ticked}
+use Rattle.model.specs.Machine.{Machine, taskAt, unfinished, running, move}
+use Rattle.model.specs.History.{Operation, History, observed}
+use Rattle.model.proofs.Lists.{map-replace}
 use Rattle.model.proofs.Fit.Sheet.{SheetFit}
-use Rattle.model.proofs.Fit.Machine.{TaskFit, Fit}
+use Rattle.model.proofs.Fit.Machine.{Fit}
 use Rattle.model.proofs.Fit.Statement.{statement-fit}
-use Rattle.model.proofs.Fit.Tick.{tick-fit, arrive-fit, arrived-fit}
-use Rattle.model.proofs.Whole.Act.{Act, free, actAt}
+use Rattle.model.proofs.Whole.Act.{free}
 use Rattle.model.proofs.Whole.Invariant.{Invariant}
-use Rattle.model.proofs.Whole.Ground.{Past}
-use Rattle.model.proofs.Transactions.Facts.{slotsOf, Owners, TaskFacts, Transactions}
+use Rattle.model.proofs.Transactions.Facts.{slotsOf, TaskFacts, Transactions}
 use Rattle.model.proofs.Transactions.Owners.{owners-stay}
 use Rattle.model.proofs.Transactions.Contents.{ext-at}
 use Rattle.model.proofs.Transactions.Machine.{turnOf, Later, statement-keeps}
 use Rattle.model.proofs.Transactions.Machine.{Running as RunningTask}
 use Rattle.model.proofs.Transactions.Statement.{JobFit}
-use Rattle.model.proofs.Order.Steps.{stateAfter, arrivedAt, historyAfter, state-next, history-next}
 use Rattle.model.proofs.Order.Arrive.{TaskArrived, waits, starts, Arrived, Runs}
 use Rattle.model.proofs.Order.Statement.{moves}
-use Rattle.model.proofs.Order.Noted.{latestOf}
-use Rattle.model.proofs.Order.Linked.{Inside, givenTo, Linked, Next}
-use Rattle.model.proofs.Order.Ticks.{MachineLinked, next-of, other-operation, arrived-at}
-use Rattle.model.proofs.Run.Acts.{actIn, taskAct, actsOf, act-at, touches}
+use Rattle.model.proofs.Order.Ticks.{MachineLinked, next-of, other-operation}
+use Rattle.model.proofs.Run.Acts.{taskAct, actsOf, act-at, touches}
 use Rattle.model.proofs.Run.Cells.{below, invariant-after, given-after}
 use Rattle.model.proofs.Run.Grounds.{PastAfter, past-after}
 use Rattle.model.proofs.Run.Latest.{operationOr, latestOperation, latest-after}

@@ -1,20 +1,19 @@
 -- The Commit of a SWAP is the plain machine's SWAP: every named word was old, every named word becomes new, and nothing else changes.
-use Prim.Native.Nat.{ℕ, zero, suc, _+_, _<_, _≤_}
-use mathlib.Core.Bool.{Bool, true, false, _&&_}
+use Prim.Native.Nat.{ℕ, zero, suc, _<_}
+use mathlib.Core.Bool.{true}
 use mathlib.Core.Path.{_≡_, refl, sym, _∙_, ap}
 use mathlib.Core.Logic.{_≢_, _⊎_, inl, inr}
 use mathlib.Core.List.{List, [], _∷_, map}
 use native.Mathlib.Omega.{arith}
-use lib.Dec.{eqb}
 use lib.ListN.{length}
 use borrow.Author.Tests.{eq-eqb}
 use Rattle.model.specs.Lists.{at, replace}
 use Rattle.model.specs.Sheet.{Sheet}
-use Rattle.model.specs.Word.{Memory, current, currentOf}
-use Rattle.model.specs.Exchange.{Entry, entry}
+use Rattle.model.specs.Word.{Memory, currentOf}
+use Rattle.model.specs.Exchange.{Entry}
 use Rattle.model.specs.Plain.{Contents, Pair, swapOf, result, allOld, allNew, swapBy, plainly}
 use Rattle.model.specs.History.{pairOf}
-use Rattle.model.specs.Claim.{each, contentsOf}
+use Rattle.model.specs.Claim.{contentsOf}
 use Rattle.model.proofs.Lists.{same?, replace-same, replace-other, length-replace}
 use Rattle.model.proofs.Fit.Exchange.{entryOf}
 use Rattle.model.proofs.Whole.Act.{Distinct}
