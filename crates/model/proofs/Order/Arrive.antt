@@ -1,17 +1,18 @@
 -- Releases arrive and a task is chosen: memory and clock stay, idle jobs may start; the running task is the highest with an unfinished job.
-use Prim.Native.Nat.{ℕ, suc, _+_, _<_}
+use Prim.Native.Nat.{ℕ, _<_}
 use mathlib.Core.Bool.{Bool, true, false}
-use mathlib.Core.Path.{_≡_, refl, _∙_, ap}
+use mathlib.Core.Path.{_≡_, refl, _∙_}
 use mathlib.Core.List.{List, [], _∷_}
 use native.Mathlib.Omega.{arith}
 use lib.Dec.{eqb, ltb}
 use lib.ListN.{length}
-use borrow.Author.Tests.{ltb-true, ltb-false, lt-ltb}
+use borrow.Author.Tests.{ltb-true, ltb-false}
 use Rattle.model.specs.Lists.{at, replace}
 use Rattle.model.specs.Command.{Release}
 use Rattle.model.specs.Job.{Phase, idle, plain, reading, exchanging, transacting, Task, started}
-use Rattle.model.specs.Machine.{Machine, noTask, taskAt, unfinished, Running, nobody, running, candidate, runningFrom, runningOf, releaseBy, arriveBy, arrive}
-use Rattle.model.proofs.Lists.{same?, test?, replace-same, replace-other, length-replace, replace-past, at-past}
+use Rattle.model.specs.Machine.{Machine, noTask, taskAt, unfinished, nobody, running, runningOf, releaseBy, arriveBy, arrive}
+use Rattle.model.proofs.Fit.Running.{running-highest, nobody-none}
+use Rattle.model.proofs.Lists.{same?, test?, replace-same, replace-other, length-replace, replace-past}
 
 pub idle-phase : (f : Phase) → unfinished f ≡ false → f ≡ idle
 idle-phase idle e = refl
@@ -62,53 +63,14 @@ unfolding arrive
 arrived [] m = record { memory = refl; now = refl; size = refl; task = λ q. waits refl }
 arrived (r ∷ l) m = arrive-by (eqb (r .tick) (m .now)) (arrive l) r l m (arrived l)
 
--- THE TASK THAT RUNS
--- the best of the tasks with numbers below i, f telling whose job is unfinished
-abbrev BestBelow : (ℕ → Bool) → ℕ → Running → Type 0
-BestBelow f i nobody = (q : ℕ) → q < i → f q ≡ false
-BestBelow f i (running p) = (p < i) × (f p ≡ true) × ((q : ℕ) → p < q → q < i → f q ≡ false)
-
-one-more : (f : ℕ → Bool) (ts : List Task) (i : ℕ) (b : Bool) (best : Running) → f i ≡ b → BestBelow f i best → BestBelow f (suc i) (candidate b ts i best)
-unfolding candidate
-one-more f ts i true nobody e h = (omega arith, e, λ q l k. absurd (omega arith))
-one-more f ts i true (running p) e h =
-    let l = h .0 in
-    rw (lt-ltb p i l) (omega arith, e, λ q k n. absurd (omega arith))
-one-more f ts i false nobody e h = λ q l. same? q i (λ z. rw z e) (λ ne. h q (omega arith))
-one-more f ts i false (running p) e h = (omega (arith, h .0), h .1, λ q l k. same? q i (λ z. rw z e) (λ ne. h .2 q l (omega arith)))
-
-best-of-all : (f : ℕ → Bool) (ts : List Task) (i n : ℕ) (l : List Task) (best : Running) → i + length l ≡ n → ((j : ℕ) → f (i + j) ≡ unfinished (taskAt l j .phase)) → BestBelow f i best → BestBelow f n (runningFrom ts i l best)
-unfolding runningFrom at
-best-of-all f ts i n [] best s e h = let z : i ≡ n = omega arith in rw z at h
-best-of-all f ts i n (t ∷ l) best s e h =
-    best-of-all f ts (suc i) n l (candidate (unfinished (t .phase)) ts i best) (omega arith)
-    (λ j. (let z : suc i + j ≡ i + suc j = omega arith in rw z refl) ∙ e (suc j))
-    (one-more f ts i (unfinished (t .phase)) best (let z : i ≡ i + 0 = omega arith in ap f z ∙ e 0) h)
-
-unfinished-below : (ts : List Task) → BestBelow (λ q. unfinished (taskAt ts q .phase)) (length ts) (runningOf ts)
-unfolding runningOf
-unfinished-below ts =
-    best-of-all (λ q. unfinished (taskAt ts q .phase)) ts 0 (length ts) ts nobody (omega arith)
-    (λ j. let z : 0 + j ≡ j = omega arith in rw z refl)
-    (λ q l. absurd (omega arith))
-
-past-idle : (ts : List Task) (q : ℕ) → (q < length ts → unfinished (taskAt ts q .phase) ≡ false) → taskAt ts q .phase ≡ idle
-past-idle ts q f = test? (ltb q (length ts))
-    (λ l. idle-phase _ (f (ltb-true q (length ts) l)))
-    (λ l. rw (at-past noTask ts q (ltb-false q (length ts) l)) refl)
-
--- task p runs: no higher one has an unfinished job
+-- THE TASK THAT RUNS: no higher one has an unfinished job
 pub record Runs (ts : List Task) (p : ℕ) : Type 0 where
   pub below : p < length ts
   pub unfinished : unfinished (taskAt ts p .phase) ≡ true
   pub highest : (q : ℕ) → p < q → taskAt ts q .phase ≡ idle
 
 pub runs : (ts : List Task) (p : ℕ) → runningOf ts ≡ running p → Runs ts p
-runs ts p e =
-    let h : BestBelow (λ q. unfinished (taskAt ts q .phase)) (length ts) (running p) = rw e at (unfinished-below ts) in
-    record { below = h .0; unfinished = h .1; highest = λ q l. past-idle ts q (λ k. h .2 q l k) }
+runs ts p e = let h = running-highest e in record { below = h .below; unfinished = h .unfinished; highest = λ q l. idle-phase (taskAt ts q .phase) (h .above q l) }
 
 pub none-runs : (ts : List Task) → runningOf ts ≡ nobody → (q : ℕ) → taskAt ts q .phase ≡ idle
-none-runs ts e q =
-    let h : BestBelow (λ q. unfinished (taskAt ts q .phase)) (length ts) nobody = rw e at (unfinished-below ts) in
-    past-idle ts q (λ k. h q k)
+none-runs ts e q = idle-phase (taskAt ts q .phase) (nobody-none ts e q)

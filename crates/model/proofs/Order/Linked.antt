@@ -83,6 +83,7 @@ pub record Next (u p : ℕ) (h h′ : History) (g g′ : Option Arguments) (yes?
   pub own : (latestOf h′ p ≡ latestOf h p) ⊎ (latestOf h′ p ≡ u)
   pub stays : Inside g → latestOf h′ p ≡ latestOf h p
   pub since : Inside g′ → Inside g ⊎ (latestOf h′ p ≡ u)
+  pub none-begun : Inside g → operationAt h′ u ≡ none
   pub else : (b : ℕ) → b ≢ u → (Inside g → b ≢ latestOf h p) → operationAt h′ b ≡ operationAt h b
 
 module _ (u p : ℕ) (h : History) (size : length (h .began) ≡ u) (latest : length (h .latest) ≡ 8) (below : p < 8) where
@@ -97,6 +98,7 @@ module _ (u p : ℕ) (h : History) (size : length (h .began) ≡ u) (latest : le
     own = inl (latest-nothing u p h size p);
     stays = λ i. latest-nothing u p h size p;
     since = λ i. inl i;
+    none-begun = λ i. noted-nothing u p h size u ∙ at-past none (h .began) u (omega arith);
     else = λ b ne na. noted-nothing u p h size b;
   }
     where
@@ -128,6 +130,7 @@ module _ (u p : ℕ) (h : History) (size : length (h .began) ≡ u) (latest : le
         own = inr since;
         stays = λ i. absurd i;
         since = λ i. inr since;
+        none-begun = λ i. absurd i;
         else = λ b ne na. c .else b ne;
       }
 
@@ -145,6 +148,7 @@ module _ (u p : ℕ) (h : History) (size : length (h .began) ≡ u) (latest : le
           own = inl (latest-amends u p h size f p);
           stays = λ i. latest-amends u p h size f p;
           since = λ i. inl tt;
+          none-begun = λ i. let b = number-below h (latestOf h p) (o .is) in c .else u (omega arith) ∙ at-past none (h .began) u (omega arith);
           else = λ b ne na. c .else b (na tt);
         }
 

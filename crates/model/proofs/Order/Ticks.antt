@@ -77,6 +77,10 @@ module _ {u p : ℕ} {ts : List Task} {h h′ : History} (r : Runs ts p) (l : Li
       go (yes lt) = λ e. omega (arith, l .nested q p lt i j)
       go (no gt) = absurd (above-outside q (omega arith) i)
 
+  -- and stays as it is
+  pub other-operation : (q : ℕ) → q ≢ p → Inside (givenTo ts q) → operationAt h′ (latestOf h′ q) ≡ operationAt h (latestOf h q)
+  other-operation q ne i = rw (n .other q ne) (n .else (latestOf h q) (let k = latest-below l q i in omega arith) (lower-apart q ne i))
+
   other-given : (q : ℕ) → q ≢ p → givenTo ts′ q ≡ givenTo ts q
   other-given q ne = rw (replace-other noTask ts p q t′ ne) refl
 

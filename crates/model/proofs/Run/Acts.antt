@@ -1,11 +1,10 @@
 -- What each task does to the cells, by its phase, and what each statement does to them: nothing, a Load, a tick of a reading, a tick of an exchange.
 use Prim.Native.Nat.{ℕ, suc}
 use mathlib.Core.Bool.{Bool, true, false}
-use mathlib.Core.Path.{_≡_, refl, sym, _∙_, ap, subst}
+use mathlib.Core.Path.{_≡_, refl, _∙_, subst}
 use mathlib.Core.List.{List, [], _∷_, map}
 use lib.Dec.{eqb}
-use lib.ListN.{length, length-map}
-use Rattle.model.specs.Lists.{at, replace}
+use Rattle.model.specs.Lists.{replace}
 use Rattle.model.specs.Command.{Access, GET, PUT, Command, WORD, BLOCK, TASK, RELEASE, END, LOAD, ADD, READ, PAIR, SWAP, BEGIN, access, COMMIT}
 use Rattle.model.specs.Word.{Word, Memory, memory, cellOf, own, lookBy, Reading, loading, looking, fetching, Read, reads, gives, readTick}
 use Rattle.model.specs.Exchange.{Entry, Exchange, exchangeOf, Exchanged, goes, ends, exchangeTick}
@@ -15,7 +14,6 @@ use Rattle.model.specs.Transaction.{bank, blockOf, versionOf, remembered
 use Rattle.model.specs.Machine.{answer, noTask, taskAt, readBy, swapBy, plainTick, statement}
 use Rattle.model.proofs.Lists.{at-map}
 use Rattle.model.proofs.Whole.Act.{Act, free, reading, actAt, actOf, actAfter, memoryAfter}
-use Rattle.model.proofs.Whole.Act.{exchanging as exchangingAct}
 use Rattle.model.proofs.Whole.Kept.{actRead}
 
 -- a reading that has loaded nothing yet does nothing to the cells

@@ -1,9 +1,9 @@
 -- The exchange layer at a statement of the task that runs: the invariant stays, current values stay but for a Commit that says yes, and so does what others have loaded.
-use Prim.Native.Nat.{ℕ, suc, _+_, _<_, _≤_}
+use Prim.Native.Nat.{ℕ, _+_, _<_, _≤_}
 use mathlib.Core.Bool.{Bool, true, false, true≢false}
 use mathlib.Core.Path.{_≡_, refl, sym, _∙_, ap, subst}
 use mathlib.Core.Logic.{_≢_}
-use mathlib.Core.List.{List, [], _∷_, map}
+use mathlib.Core.List.{List, _∷_}
 use mathlib.Core.Option.{Option, none, some}
 use native.Mathlib.Decide.{decLt}
 use native.Mathlib.Omega.{arith}
@@ -12,18 +12,18 @@ use lib.ListN.{length, length-map}
 use borrow.Author.Tests.{eqb-true, eqb-false}
 use Rattle.model.specs.Lists.{at, replace}
 use Rattle.model.specs.Command.{Command, SWAP}
-use Rattle.model.specs.Word.{Word, Memory, memory, statusOf, setStatus, current, currentOf, Reading, loading, looking, fetching}
-use Rattle.model.specs.Exchange.{Entry, entry, Step, start, test, load, look, fetch, save, fail, mark, install, commit, clean, cleanMark, Exchange, exchangeOf, Exchanged, commitBy, cleanBy, exchangeTick}
-use Rattle.model.specs.Job.{Inner, between, first, copying, again, committing, Phase, idle, plain, exchanging, transacting, Task}
+use Rattle.model.specs.Word.{Word, Memory, statusOf, setStatus, currentOf, Reading, loading, looking, fetching}
+use Rattle.model.specs.Exchange.{Entry, Step, start, test, load, look, fetch, save, fail, mark, install, commit, clean, cleanMark, Exchange, commitBy, cleanBy, exchangeTick}
+use Rattle.model.specs.Job.{between, first, copying, again, committing, Phase, idle, plain, exchanging, transacting, Task}
 use Rattle.model.specs.Job.{reading as readingPhase}
 use Rattle.model.specs.Transaction.{bank, blockOf}
 use Rattle.model.specs.Machine.{taskAt}
 use Rattle.model.proofs.Lists.{test?}
 use Rattle.model.proofs.Fit.Memory.{MemoryFit}
-use Rattle.model.proofs.Fit.Exchange.{EntriesFit, ExchangeFit, exchange-start}
-use Rattle.model.proofs.Fit.Machine.{OutsideFit, PhaseFit, PlainFit}
+use Rattle.model.proofs.Fit.Exchange.{ExchangeFit, exchange-start}
+use Rattle.model.proofs.Fit.Machine.{OutsideFit, PhaseFit}
 use Rattle.model.proofs.Fit.Outside.{first-fits, some-pairs}
-use Rattle.model.proofs.Whole.Act.{Act, free, reading, actAt, actOf, actAfter, memoryAfter, started?, Distinct}
+use Rattle.model.proofs.Whole.Act.{Act, free, actOf, memoryAfter, started?, Distinct}
 use Rattle.model.proofs.Whole.Act.{exchanging as exchangingAct}
 use Rattle.model.proofs.Whole.Invariant.{WellFormed, Knows, Invariant, Order, Rank, itself, lower, Situation, Room}
 use Rattle.model.proofs.Whole.Invariant.{idle as idleRank}
@@ -32,12 +32,12 @@ use Rattle.model.proofs.Whole.Outcome.{outcome}
 use Rattle.model.proofs.Whole.Kept.{exchange-moved}
 use Rattle.model.proofs.Whole.Preserve.{stores-kept, free-kept, load-kept, reading-kept, exchange-kept}
 use Rattle.model.proofs.Whole.Current.{start-current, current-kept, commit-all, commit-old, commit-new, commit-others}
-use Rattle.model.proofs.Transactions.Given.{exchangeIn, SaysYes, Swapped, Cells, swapped, loadedBy, readingIn, SameContent, Given}
+use Rattle.model.proofs.Transactions.Given.{exchangeIn, SaysYes, Cells, swapped, loadedBy, readingIn, SameContent, Given}
 use Rattle.model.proofs.Transactions.Given.{same as sameCells}
 use Rattle.model.proofs.Transactions.Statement.{JobFit}
 use Rattle.model.proofs.Order.Exchange.{saysYes}
 use Rattle.model.proofs.Order.Arrive.{Runs}
-use Rattle.model.proofs.Run.Acts.{readAct, innerAct, actIn, taskAct, actsOf, act-at, SameCells, ExchangeIn, begins, goes-on, commits, Touches, nothing, loads, looks, exchanges}
+use Rattle.model.proofs.Run.Acts.{readAct, actIn, taskAct, actsOf, act-at, ExchangeIn, begins, goes-on, commits, Touches, nothing, loads, looks, exchanges}
 
 -- THE ORDER OF URGENCY, now by task number
 abbrev pub below : ℕ → ℕ → Type 0
@@ -55,7 +55,7 @@ pub record Work (x : Exchange) : Type 0 where
   pub most : high ≤ 48
 
 module _ {words blocks : ℕ} (fewWords : words ≤ 32) (fewBlocks : blocks ≤ 16) (t : Task) (f : JobFit words blocks t) where
-  fit-as : (g : Phase) → t .phase ≡ g → PhaseFit words blocks (t .copies) (t .commands) (t .pairs) g
+  pub fit-as : (g : Phase) → t .phase ≡ g → PhaseFit words blocks (t .copies) (t .commands) (t .pairs) g
   fit-as g e = subst (λ (g : Phase). PhaseFit words blocks (t .copies) (t .commands) (t .pairs) g) e f
 
   pub work : {x : Exchange} → ExchangeIn t x → Work x
