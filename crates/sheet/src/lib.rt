@@ -1,0 +1,2 @@
+// The run sheet: its commands and the check.
+pub mod commands;
