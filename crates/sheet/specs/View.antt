@@ -1,8 +1,11 @@
 -- The model's values that the crate's types stand for.
 use Prim.Native.Nat.{ℕ}
 use mathlib.Core.List.{List}
+use mathlib.Core.Option.{Option, none, some}
+use lib.ListN.{take}
 use Rattle.model.specs.Refusal as R
 use Rattle.model.specs.Command as M
+use Rattle.model.specs.Fault as F
 use Rattle.sheet.specs.declared.commands.Refusal.{Refusal}
 use Rattle.sheet.specs.declared.commands.Refusal.the-variants.{NoCommand, CutShort, ByteAfterEnd, Misplaced, CeilingPassed, OutOfRange, WordRepeated, ReleasesNotRising, LimitTooHigh, BufferTooShort}
 use Rattle.sheet.specs.declared.commands.Release.{Release}
@@ -12,6 +15,14 @@ use Rattle.sheet.specs.declared.commands.Command.{Command}
 use Rattle.sheet.specs.declared.commands.Command.the-variants as C
 use Rattle.sheet.specs.declared.commands.Decoded.{Decoded}
 use Rattle.sheet.specs.declared.commands.Decoded.the-variants.{Got, Refused}
+use Rattle.sheet.specs.declared.known.Section.{Section}
+use Rattle.sheet.specs.declared.known.Section.the-variants.{Words, Blocks, Bodies, Releases}
+use Rattle.sheet.specs.declared.known.Counts.{Counts}
+use Rattle.sheet.specs.declared.known.Numbers.{Numbers}
+use Rattle.sheet.specs.declared.known.Task.{Task}
+use Rattle.sheet.specs.declared.known.Known.{Known}
+use Rattle.sheet.specs.declared.rules.Flaw.{Flaw}
+use Rattle.sheet.specs.declared.rules.Flaw.the-variants.{None, Some}
 
 abbrev pub viewRefusal : Refusal → R.Refusal
 viewRefusal NoCommand = R.noCommand
@@ -51,3 +62,34 @@ viewCommand vs C.Commit = M.COMMIT
 abbrev pub viewDecoded : List ℕ → Decoded → M.Found
 viewDecoded vs (Got c next) = M.found (viewCommand vs c) next
 viewDecoded vs (Refused f) = M.refused (viewRefusal (f .refusal)) (f .place)
+
+-- WHAT IS KNOWN
+abbrev pub viewSection : Section → F.Section
+viewSection Words = F.wordSection
+viewSection Blocks = F.blockSection
+viewSection Bodies = F.bodySection
+viewSection Releases = F.releaseSection
+
+abbrev pub viewCounts : Counts → F.Counts
+viewCounts n = record { words = n .words; blocks = n .blocks; tasks = n .tasks; commands = n .commands; releases = n .releases }
+
+abbrev pub viewNumbers : Numbers → List ℕ
+viewNumbers n = take (n .count) (n .values)
+
+abbrev pub viewBody : Task → F.Body
+viewBody b =
+    record {
+      empty = b .empty;
+      pairs = viewNumbers (b .pairs);
+      inside = b .inside;
+      touched = viewNumbers (b .touched);
+      puts = viewNumbers (b .puts);
+    }
+
+abbrev pub viewKnown : Known → F.Known
+viewKnown k = record { section = viewSection (k .section); counts = viewCounts (k .counts); body = viewBody (k .body); last = viewRelease (k .last) }
+
+-- the first rule that a command breaks
+abbrev pub viewFlaw : Flaw → Option R.Refusal
+viewFlaw None = none
+viewFlaw (Some f) = some (viewRefusal f)

@@ -1,2 +1,5 @@
-// The run sheet: its commands and the check.
+// The run sheet: its commands, and the check that gives the first fault in byte order.
 pub mod commands;
+pub mod index;
+pub mod known;
+pub mod rules;
