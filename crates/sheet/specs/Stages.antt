@@ -1,4 +1,5 @@
--- The stages of decoding, each a part of the model's `commandAt`: the row of a byte, the byte at a place, the operands of a byte.
+-- The stages of the reading, each a part of the model's: the row of a byte, the byte at a place, the operands of a byte, the
+-- judgement of a command.
 use Prim.Native.Nat.{ℕ, suc, _+_, _-_, _<_}
 use mathlib.Core.Path.{_≡_}
 use mathlib.Core.Bool.{Bool, true, false}
@@ -7,13 +8,17 @@ use mathlib.Core.Option.{Option, none, some}
 use lib.Dec.{ltb, leb}
 use lib.ListN.{length, getD, replicate}
 use Rattle.model.specs.Refusal.{noCommand}
-use Rattle.model.specs.Command.{Block, blockOf, Row, table, rowOf, total, operand, Found, found, refused, commandAt}
-use Rattle.sheet.specs.View.{viewRefusal}
+use Rattle.model.specs.Command.{Command, Block, blockOf, Row, table, rowOf, total, operand, Found, found, refused, commandAt}
+use Rattle.model.specs.Fault.{Known, faultOf}
+use Rattle.model.specs.Sheet.{Verdict, end?, judgeFault}
+use Rattle.sheet.specs.View.{viewRefusal, viewVerdict}
 use Rattle.sheet.specs.declared.commands.Entry.{Entry}
 use Rattle.sheet.specs.declared.commands.Index.{Index}
 use Rattle.sheet.specs.declared.commands.Index.the-variants.{At, Unknown}
 use Rattle.sheet.specs.declared.commands.Opcode.{Opcode}
-use Rattle.sheet.specs.declared.commands.Opcode.the-variants.{Known, Refused}
+use Rattle.sheet.specs.declared.commands.Opcode.the-variants as opcode
+use Rattle.sheet.specs.declared.check.Judged.{Judged}
+use Rattle.sheet.specs.declared.check.Judged.the-variants.{Stops, Goes}
 
 abbrev pub pick : {A : Type 0} → Bool → A → A → A
 pick true a b = a
@@ -71,5 +76,10 @@ operandsOf s p b = rowFrom s p (rowOf b table)
 
 -- what the byte at a place says of the command there
 abbrev pub ByteSays : List ℕ → ℕ → Opcode → Type 0
-ByteSays s at (Refused f) = commandAt s at ≡ refused (viewRefusal (f .refusal)) (f .place)
-ByteSays s at (Known b) = (at < length s) × (commandAt s at ≡ operandsOf s (suc at) b)
+ByteSays s at (opcode.Refused f) = commandAt s at ≡ refused (viewRefusal (f .refusal)) (f .place)
+ByteSays s at (opcode.Known b) = (at < length s) × (commandAt s at ≡ operandsOf s (suc at) b)
+
+-- what is said of a command at a place: the reading stops with a verdict whatever follows, or the command is good and not END
+abbrev pub JudgedSays : List ℕ → ℕ → Known → Command → ℕ → Judged → Type 0
+JudgedSays s at k c next (Stops v) = (go : ℕ → Known → Verdict) → judgeFault go s at k c next (faultOf k c) ≡ viewVerdict v
+JudgedSays s at k c next Goes = (faultOf k c ≡ none) × (end? c ≡ false)

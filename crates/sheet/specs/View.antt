@@ -6,6 +6,8 @@ use lib.ListN.{take}
 use Rattle.model.specs.Refusal as R
 use Rattle.model.specs.Command as M
 use Rattle.model.specs.Fault as F
+use Rattle.model.specs.Sheet as S
+use Rattle.model.specs.Answer.{Checked}
 use Rattle.sheet.specs.declared.commands.Refusal.{Refusal}
 use Rattle.sheet.specs.declared.commands.Refusal.the-variants.{NoCommand, CutShort, ByteAfterEnd, Misplaced, CeilingPassed, OutOfRange, WordRepeated, ReleasesNotRising, LimitTooHigh, BufferTooShort}
 use Rattle.sheet.specs.declared.commands.Release.{Release}
@@ -23,6 +25,8 @@ use Rattle.sheet.specs.declared.known.Task.{Task}
 use Rattle.sheet.specs.declared.known.Known.{Known}
 use Rattle.sheet.specs.declared.rules.Flaw.{Flaw}
 use Rattle.sheet.specs.declared.rules.Flaw.the-variants.{None, Some}
+use Rattle.sheet.specs.declared.check.Verdict.{Verdict}
+use Rattle.sheet.specs.declared.check.Verdict.the-variants.{Accepted, TurnedDown}
 
 abbrev pub viewRefusal : Refusal → R.Refusal
 viewRefusal NoCommand = R.noCommand
@@ -93,3 +97,13 @@ viewKnown k = record { section = viewSection (k .section); counts = viewCounts (
 abbrev pub viewFlaw : Flaw → Option R.Refusal
 viewFlaw None = none
 viewFlaw (Some f) = some (viewRefusal f)
+
+-- THE CHECK'S ANSWER
+abbrev pub viewVerdict : Verdict → S.Verdict
+viewVerdict Accepted = S.accepted
+viewVerdict (TurnedDown f) = S.turnedDown (viewRefusal (f .refusal)) (f .place)
+
+-- document 01's number and place of each answer; an accepted sheet has 0 and 0
+abbrev pub checkedOf : Verdict → Checked
+checkedOf Accepted = record { number = 0; place = 0 }
+checkedOf (TurnedDown f) = record { number = R.number (viewRefusal (f .refusal)); place = f .place }
