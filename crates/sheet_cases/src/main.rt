@@ -3,7 +3,6 @@
 // answered, from no byte on.
 ghost use Prim.Native.Nat.{_≤_, _<_};
 ghost use lib.ListN.{length};
-
 use libc::STDIN_FILENO;
 use libc::STDOUT_FILENO;
 use sheet::check::Verdict;
@@ -29,12 +28,12 @@ fn pair(line: &[u8], at: usize) -> u8 {
 }
 
 // The bytes of a line, from its place `at` on; answers how many.
-fn parse(line: &[u8], start: usize, bytes: &mut [u8; 8192]) -> usize
-    ensures { λ r. ⌜ r ≤ 8192 ⌝ }
+fn parse(line: &[u8], start: usize, bytes: &mut [u8]) -> usize
+    ensures { λ r. ⌜ r ≤ length (now (bytes .exit)) ⌝ }
 {
     let mut n = 0;
     let mut at = start;
-    while n < 8192 {
+    while n < bytes.len() {
         if line.len() <= at {
             return n;
         }
@@ -64,13 +63,11 @@ fn answer(sheet: &[u8]) {
     io::write_all(STDOUT_FILENO, b"\n");
 }
 
-// Each shorter start of the first n bytes.
-fn answer_starts(bytes: &[u8; 8192], n: usize)
-    requires { ⌜ n ≤ 8192 ⌝ }
-{
+// Each shorter start of a sheet.
+fn answer_starts(sheet: &[u8]) {
     let mut k = 0;
-    while k < n {
-        answer(&bytes[..k]);
+    while k < sheet.len() {
+        answer(&sheet[..k]);
         k += 1;
     }
 }
@@ -88,7 +85,7 @@ fn answer_line(line: &[u8]) {
     }
     if line[0] == b'%' {
         let n = parse(line, 1, &mut bytes);
-        answer_starts(&bytes, n);
+        answer_starts(&bytes[..n]);
         return;
     }
     let n = parse(line, 0, &mut bytes);
