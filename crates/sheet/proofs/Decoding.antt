@@ -1,0 +1,179 @@
+-- The ranges of command bytes against the model's table, and the cases of `commandAt`.
+use Prim.Native.Nat.{ℕ, zero, suc, _+_, _-_, _<_, _≤_}
+use mathlib.Core.Path.{_≡_, refl, sym, _∙_, ap, subst}
+use mathlib.Core.Bool.{Bool, true, false, _&&_, and-eq-true-iff, false≢true}
+use mathlib.Core.List.{List, [], _∷_}
+use mathlib.Core.Option.{Option, none, some}
+use native.Mathlib.Omega.{arith}
+use native.Mathlib.Nat.{add-zero, zero-add, add-assoc}
+use borrow.Author.Tests.{ltb-true, eqb-true, eqb-false, lt-ltb, le-ltb, le-leb, lt-leb}
+use lib.Dec.{ltb, leb, eqb}
+use lib.ListN.{length, getD}
+use Rattle.model.specs.Refusal.{cutShort, noCommand}
+use Rattle.model.specs.Command.{GET, PUT, Release, Block, WORD, BLOCK, TASK, RELEASE, END, LOAD, ADD, READ, PAIR, SWAP, BEGIN, access, COMMIT, Row, table, rowOf, total, bigEndian, Found, found, refused, commandAt}
+use Rattle.sheet.specs.Stages.{indexOf, widthAt, valuesFrom, rowFrom, operandsOf}
+use Rattle.sheet.specs.declared.commands.Index.{Index}
+use Rattle.sheet.specs.declared.commands.Index.the-variants.{At, Unknown}
+
+-- THE TABLE
+-- the byte has a row, and its operands take that many bytes
+pub record RowOf (b width : ℕ) : Type 0 where
+  pub row : Row
+  pub is : rowOf b table ≡ some row
+  pub wide : total (row .widths) ≡ width
+
+-- what the place in the table says of the byte's row
+abbrev pub IndexSays : ℕ → Index → Type 0
+IndexSays b Unknown = rowOf b table ≡ none
+IndexSays b (At i) = (i < 14) × RowOf b (widthAt i)
+
+hasWidth : Option Row → ℕ → Bool
+unfolding total
+hasWidth none w = false
+hasWidth (some r) w = eqb (total (r .widths)) w
+
+hasNone : Option Row → Bool
+hasNone none = true
+hasNone (some r) = false
+
+agrees : ℕ → Index → Bool
+unfolding hasNone hasWidth rowOf table
+agrees b Unknown = hasNone (rowOf b table)
+agrees b (At i) = ltb i 14 && hasWidth (rowOf b table) (widthAt i)
+
+-- every byte below n
+allAgree : ℕ → Bool
+unfolding agrees indexOf
+allAgree zero = true
+allAgree (suc n) = agrees n (indexOf n) && allAgree n
+
+-- a test, with what it said in each case
+pub cases : {A : Type 0} (t : Bool) → (t ≡ true → A) → (t ≡ false → A) → A
+cases true f g = f refl
+cases false f g = g refl
+
+below : (n b : ℕ) → allAgree n ≡ true → b < n → agrees b (indexOf b) ≡ true
+unfolding allAgree
+below zero b all h = absurd (omega arith)
+below (suc n) b all h =
+    let parts = and-eq-true-iff (agrees n (indexOf n)) (allAgree n) .0 all in
+    cases (eqb b n)
+    (λ e. subst (λ (m : ℕ). agrees m (indexOf m) ≡ true) (sym (eqb-true b n e)) (parts .0))
+    (λ e. let ne : b ≡ n → ⊥ = eqb-false b n e in below n b (parts .1) (omega arith))
+
+isNone : (o : Option Row) → hasNone o ≡ true → o ≡ none
+unfolding hasNone
+isNone none e = refl
+isNone (some r) e = absurd (false≢true e)
+
+isRow : (b : ℕ) (o : Option Row) (w : ℕ) → rowOf b table ≡ o → hasWidth o w ≡ true → RowOf b w
+unfolding hasWidth
+isRow b none w e h = absurd (false≢true h)
+isRow b (some r) w e h = record { row = r; is = e; wide = eqb-true (total (r .widths)) w h }
+
+says : (b : ℕ) (i : Index) → agrees b i ≡ true → IndexSays b i
+unfolding agrees
+says b Unknown e = isNone (rowOf b table) e
+says b (At i) e =
+    let parts = and-eq-true-iff (ltb i 14) (hasWidth (rowOf b table) (widthAt i)) .0 e in
+    (ltb-true i 14 (parts .0), isRow b (rowOf b table) (widthAt i) refl (parts .1))
+
+-- all 256 bytes, by one computed test
+pub index-says : (b : ℕ) → b < 256 → IndexSays b (indexOf b)
+unfolding allAgree
+index-says b h = says b (indexOf b) (below 256 b refl h)
+
+-- THE COMMAND AT A PLACE
+module _ (s : List ℕ) (at : ℕ) where
+  pub past-the-end : length s ≤ at → commandAt s at ≡ refused cutShort (length s)
+  unfolding commandAt
+  past-the-end h = simp (le-ltb at (length s) h)
+
+  pub no-row : at < length s → rowOf (getD s at 0) table ≡ none → commandAt s at ≡ refused noCommand at
+  unfolding commandAt
+  no-row h e = simp (lt-ltb at (length s) h, e)
+
+  pub cut : {w : ℕ} → at < length s → RowOf (getD s at 0) w → length s < suc at + w → commandAt s at ≡ refused cutShort at
+  unfolding commandAt
+  cut h r l =
+      let past : length s < suc at + total (r .row .widths) = omega (arith, r .wide) in
+      simp (lt-ltb at (length s) h, r .is) (simp (lt-leb (suc at + total (r .row .widths)) (length s) past))
+
+  pub whole : {w : ℕ} → at < length s → RowOf (getD s at 0) w → suc at + w ≤ length s → commandAt s at ≡ operandsOf s (suc at) (getD s at 0)
+  unfolding commandAt operandsOf
+  whole h r l =
+      let within : suc at + total (r .row .widths) ≤ length s = omega (arith, r .wide) in
+      simp (lt-ltb at (length s) h, r .is) (simp (le-leb (suc at + total (r .row .widths)) (length s) within))
+
+-- THE OPERANDS OF EACH ROW
+module _ (s : List ℕ) (p : ℕ) where
+  pub one-byte : bigEndian s p 1 ≡ getD s p 0
+  unfolding bigEndian
+  one-byte = simp (add-zero, zero-add)
+
+  pub block-values :
+      valuesFrom s p
+      ≡ (bigEndian s (p + 4) 4 ∷ bigEndian s (p + 8) 4 ∷ bigEndian s (p + 12) 4 ∷ bigEndian s (p + 16) 4
+      ∷ bigEndian s (p + 20) 4 ∷ bigEndian s (p + 24) 4 ∷ bigEndian s (p + 28) 4 ∷ bigEndian s (p + 32) 4 ∷ [])
+  unfolding valuesFrom
+  block-values = simp add-assoc
+
+  pub word-operands : operandsOf s p 0x01 ≡ found (WORD (bigEndian s p 4)) (p + 4)
+  unfolding operandsOf
+  word-operands = refl
+
+  pub block-operands : operandsOf s p 0x02 ≡ found (BLOCK (record { version = bigEndian s p 4; values = valuesFrom s p })) (p + 36)
+  unfolding operandsOf valuesFrom
+  block-operands = refl
+
+  pub task-operands : operandsOf s p 0x03 ≡ found TASK p
+  unfolding operandsOf
+  task-operands = simp add-zero
+
+  pub release-operands : operandsOf s p 0x04 ≡ found (RELEASE (record { tick = bigEndian s p 2; task = getD s (p + 2) 0 })) (p + 3)
+  unfolding operandsOf
+  release-operands = simp (add-zero, zero-add)
+
+  pub end-operands : operandsOf s p 0x05 ≡ found END p
+  unfolding operandsOf
+  end-operands = simp add-zero
+
+  pub load-operands : operandsOf s p 0x10 ≡ found (LOAD (getD s p 0) (bigEndian s (p + 1) 4)) (p + 5)
+  unfolding operandsOf
+  load-operands = simp (add-zero, zero-add)
+
+  pub sum-operands : operandsOf s p 0x11 ≡ found (ADD (getD s p 0) (getD s (p + 1) 0)) (p + 2)
+  unfolding operandsOf
+  sum-operands = simp (add-zero, zero-add)
+
+  pub read-operands : operandsOf s p 0x12 ≡ found (READ (getD s p 0) (getD s (p + 1) 0)) (p + 2)
+  unfolding operandsOf
+  read-operands = simp (add-zero, zero-add)
+
+  pub pair-operands : operandsOf s p 0x13 ≡ found (PAIR (getD s p 0) (getD s (p + 1) 0) (getD s (p + 2) 0)) (p + 3)
+  unfolding operandsOf
+  pair-operands = simp (add-zero, zero-add, add-assoc)
+
+  pub swap-operands : operandsOf s p 0x14 ≡ found (SWAP (getD s p 0)) (p + 1)
+  unfolding operandsOf
+  swap-operands = simp (add-zero, zero-add)
+
+  pub begin-operands : operandsOf s p 0x20 ≡ found BEGIN p
+  unfolding operandsOf
+  begin-operands = simp add-zero
+
+  pub get-operands : operandsOf s p 0x21 ≡ found (access (GET (getD s p 0) (getD s (p + 1) 0) (getD s (p + 2) 0))) (p + 3)
+  unfolding operandsOf
+  get-operands = simp (add-zero, zero-add, add-assoc)
+
+  pub put-operands : operandsOf s p 0x22 ≡ found (access (PUT (getD s p 0) (getD s (p + 1) 0) (getD s (p + 2) 0))) (p + 3)
+  unfolding operandsOf
+  put-operands = simp (add-zero, zero-add, add-assoc)
+
+  pub commit-operands : operandsOf s p 0x23 ≡ found COMMIT p
+  unfolding operandsOf
+  commit-operands = simp add-zero
+
+  pub no-operands : (b : ℕ) → rowOf b table ≡ none → operandsOf s p b ≡ refused noCommand p
+  unfolding operandsOf
+  no-operands b e = simp e

@@ -1,0 +1,5 @@
+pub mod Decoding
+pub mod Membership
+pub mod Faults
+pub mod Reading
+pub mod Values

@@ -1,0 +1,60 @@
+-- `decode` meets its contract.
+use Rattle.sheet.specs.declared.commands.Opcode.the-variants.{Known, Refused}
+use mathlib.Core.Path.{_∙_, _≡_, sym}
+use native.Mathlib.Numerals.{add-one}
+use native.Mathlib.Omega.{arith}
+use borrow.Author.Needs.{needs}
+use Rattle.sheet.proofs.commands.decode.Statement.{statement}
+use Rattle.sheet.proofs.commands.decode.Tie as tie
+
+command-byte-requires : tie.Need-command-byte-requires
+command-byte-requires c κs = search needs
+
+enum-known-o : tie.Need-enum-known-o
+enum-known-o c = search needs
+
+enum-known-o-2 : tie.Need-enum-known-o-2
+enum-known-o-2 c = search needs
+
+enum-known-o-3 : tie.Need-enum-known-o-3
+enum-known-o-3 c = search needs
+
+enum-told : tie.Need-enum-told
+enum-told c = search needs
+
+returns : tie.Need-returns
+returns c = let e : c .before .before .before .before .before .before .command-byte .result ≡ Refused (c .before .o3 .given .0 .0) = cc in
+    sym (rw e at (c .before .before .before .before .before .before .command-byte .ensures))
+
+returns-2 : tie.Need-returns-2
+returns-2 c = search needs
+
+add-operands : tie.Need-add-operands
+add-operands c = let e : c .before .before .before .command-byte .result ≡ Known (c .before .o .given .0 .0) = cc in
+    let says = rw e at (c .before .before .before .command-byte .ensures) in
+    omega (arith, says .0)
+
+operands-requires : tie.Need-operands-requires
+operands-requires c κs = let e : c .before .before .before .command-byte .result ≡ Known (c .before .o .given .0 .0) = cc in
+    let says = rw e at (c .before .before .before .command-byte .ensures) in
+    omega (arith, says .0)
+
+returns-3 : tie.Need-returns-3
+returns-3 c = let e : c .before .before .before .before .command-byte .result ≡ Known (c .before .before .o .given .0 .0) = cc in
+    let says = rw e at (c .before .before .before .before .command-byte .ensures) in
+    rw add-one at (c .operands .ensures) ∙ sym (says .1)
+
+pub decode-spec : {M : Type 1} → statement M
+decode-spec =
+    tie.close
+    (tie.spec
+    command-byte-requires
+    enum-known-o
+    enum-known-o-2
+    enum-known-o-3
+    enum-told
+    returns
+    returns-2
+    add-operands
+    operands-requires
+    returns-3)

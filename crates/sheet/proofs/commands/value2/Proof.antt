@@ -1,0 +1,45 @@
+-- `value2` meets its contract.
+use Rattle.model.specs.Command.{bigEndian}
+use native.Mathlib.Nat.{add-zero}
+use native.Mathlib.Omega.{arith}
+use borrow.Author.Needs.{needs}
+use Rattle.sheet.proofs.commands.value2.Statement.{statement}
+use Rattle.sheet.proofs.commands.value2.Tie as tie
+
+byte-requires : tie.Need-byte-requires
+byte-requires c κs = search needs
+
+half-requires : tie.Need-half-requires
+half-requires c κs = search needs
+
+mul-result : tie.Need-mul-result
+mul-result c = search needs
+
+add-byte : tie.Need-add-byte
+add-byte c = search needs
+
+byte-requires-2 : tie.Need-byte-requires-2
+byte-requires-2 c κs = search needs
+
+half-requires-2 : tie.Need-half-requires-2
+half-requires-2 c κs = search needs
+
+add-result : tie.Need-add-result
+add-result c = search needs
+
+returns : tie.Need-returns
+unfolding bigEndian
+returns c = simp add-zero (omega arith)
+
+pub value2-spec : {M : Type 1} → statement M
+value2-spec =
+    tie.close
+    (tie.spec
+    byte-requires
+    half-requires
+    mul-result
+    add-byte
+    byte-requires-2
+    half-requires-2
+    add-result
+    returns)

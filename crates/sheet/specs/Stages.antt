@@ -1,0 +1,85 @@
+-- The stages of the reading, each a part of the model's: the row of a byte, the byte at a place, the operands of a byte, the
+-- judgement of a command.
+use Prim.Native.Nat.{ℕ, suc, _+_, _-_, _<_}
+use mathlib.Core.Path.{_≡_}
+use mathlib.Core.Bool.{Bool, true, false}
+use mathlib.Core.List.{List, [], _∷_}
+use mathlib.Core.Option.{Option, none, some}
+use lib.Dec.{ltb, leb}
+use lib.ListN.{length, getD, replicate}
+use Rattle.model.specs.Refusal.{noCommand}
+use Rattle.model.specs.Command.{Command, Block, blockOf, Row, table, rowOf, total, operand, Found, found, refused, commandAt}
+use Rattle.model.specs.Fault.{Known, faultOf}
+use Rattle.model.specs.Sheet.{Verdict, end?, judgeFault}
+use Rattle.sheet.specs.View.{viewRefusal, viewVerdict}
+use Rattle.sheet.specs.declared.commands.Entry.{Entry}
+use Rattle.sheet.specs.declared.commands.Index.{Index}
+use Rattle.sheet.specs.declared.commands.Index.the-variants.{At, Unknown}
+use Rattle.sheet.specs.declared.commands.Opcode.{Opcode}
+use Rattle.sheet.specs.declared.commands.Opcode.the-variants as opcode
+use Rattle.sheet.specs.declared.check.Judged.{Judged}
+use Rattle.sheet.specs.declared.check.Judged.the-variants.{Stops, Goes}
+
+abbrev pub pick : {A : Type 0} → Bool → A → A → A
+pick true a b = a
+pick false a b = b
+
+-- where a byte stands in the table, by the ranges of command bytes
+unfoldable pub indexOf : ℕ → Index
+indexOf b =
+    pick (ltb b 1) Unknown
+    (pick (leb b 5) (At (b - 1))
+    (pick (ltb b 16) Unknown
+    (pick (leb b 20) (At (b - 11))
+    (pick (ltb b 32) Unknown
+    (pick (leb b 35) (At (b - 22)) Unknown)))))
+
+-- the code's table: each command byte, and how many operand bytes follow it
+abbrev entry : ℕ → ℕ → Entry
+entry b w = record { byte = b; width = w }
+
+abbrev pub entries : List Entry
+entries =
+    entry 0x01 4
+    ∷ entry 0x02 36
+    ∷ entry 0x03 0
+    ∷ entry 0x04 3
+    ∷ entry 0x05 0
+    ∷ entry 0x10 5
+    ∷ entry 0x11 2
+    ∷ entry 0x12 2
+    ∷ entry 0x13 3
+    ∷ entry 0x14 1
+    ∷ entry 0x20 0
+    ∷ entry 0x21 3
+    ∷ entry 0x22 3
+    ∷ entry 0x23 0
+    ∷ []
+
+abbrev pub widthAt : ℕ → ℕ
+widthAt i = getD entries i (entry 0 0) .width
+
+-- the eight values of a BLOCK whose operands start at p
+unfoldable pub valuesFrom : List ℕ → ℕ → List ℕ
+unfolding operand
+valuesFrom s p = blockOf (operand s p (4 ∷ 4 ∷ 4 ∷ 4 ∷ 4 ∷ 4 ∷ 4 ∷ 4 ∷ 4 ∷ [])) .values
+
+-- the command of a row whose operands start at p
+unfoldable pub rowFrom : List ℕ → ℕ → Option Row → Found
+unfolding operand total
+rowFrom s p none = refused noCommand p
+rowFrom s p (some r) = found (r .command (λ n. operand s p (r .widths) n)) (p + total (r .widths))
+
+unfoldable pub operandsOf : List ℕ → ℕ → ℕ → Found
+unfolding rowFrom rowOf table
+operandsOf s p b = rowFrom s p (rowOf b table)
+
+-- what the byte at a place says of the command there
+abbrev pub ByteSays : List ℕ → ℕ → Opcode → Type 0
+ByteSays s at (opcode.Refused f) = commandAt s at ≡ refused (viewRefusal (f .refusal)) (f .place)
+ByteSays s at (opcode.Known b) = (at < length s) × (commandAt s at ≡ operandsOf s (suc at) b)
+
+-- what is said of a command at a place: the reading stops with a verdict whatever follows, or the command is good and not END
+abbrev pub JudgedSays : List ℕ → ℕ → Known → Command → ℕ → Judged → Type 0
+JudgedSays s at k c next (Stops v) = (go : ℕ → Known → Verdict) → judgeFault go s at k c next (faultOf k c) ≡ viewVerdict v
+JudgedSays s at k c next Goes = (faultOf k c ≡ none) × (end? c ≡ false)

@@ -1,0 +1,347 @@
+// The commands of the run sheet, the table of their bytes, and the command at a place of a lent sheet.
+ghost use mathlib.Core.Path.{_≡_};
+ghost use Prim.Native.Nat.{suc, _+_, _≤_, _<_};
+ghost use lib.ListN.{length, getD};
+ghost use Rattle.model.specs.Command.{bigEndian, commandAt};
+ghost use Rattle.model.specs.Refusal.{number};
+ghost use Rattle.sheet.specs.View.{viewRefusal, viewDecoded};
+ghost use Rattle.sheet.specs.Stages.{indexOf, widthAt, ByteSays, operandsOf, valuesFrom};
+
+pub struct Release {
+    pub tick: u16,
+    pub task: u8,
+}
+
+pub enum Access {
+    Get { register: u8, block: u8, offset: u8 },
+    Put { block: u8, offset: u8, register: u8 },
+}
+
+// BLOCK carries its version; `values` gives its eight values in an array beside it.
+pub enum Command {
+    Word(u32),
+    Block(u32),
+    Task,
+    Release(Release),
+    End,
+    Load { register: u8, value: u32 },
+    Add { register: u8, other: u8 },
+    Read { register: u8, word: u8 },
+    Pair { word: u8, old: u8, new: u8 },
+    Swap(u8),
+    Begin,
+    Access(Access),
+    Commit,
+}
+
+pub enum Refusal {
+    NoCommand,
+    CutShort,
+    ByteAfterEnd,
+    Misplaced,
+    CeilingPassed,
+    OutOfRange,
+    WordRepeated,
+    ReleasesNotRising,
+    LimitTooHigh,
+    BufferTooShort,
+}
+
+pub struct Fault {
+    pub refusal: Refusal,
+    pub place: usize,
+}
+
+// An entry of the table: a command byte, and how many operand bytes follow it.
+pub struct Entry {
+    pub byte: u8,
+    pub width: u8,
+}
+
+pub const TABLE: [Entry; 14] = [
+    Entry {
+        byte: 0x01,
+        width: 4,
+    },
+    Entry {
+        byte: 0x02,
+        width: 36,
+    },
+    Entry {
+        byte: 0x03,
+        width: 0,
+    },
+    Entry {
+        byte: 0x04,
+        width: 3,
+    },
+    Entry {
+        byte: 0x05,
+        width: 0,
+    },
+    Entry {
+        byte: 0x10,
+        width: 5,
+    },
+    Entry {
+        byte: 0x11,
+        width: 2,
+    },
+    Entry {
+        byte: 0x12,
+        width: 2,
+    },
+    Entry {
+        byte: 0x13,
+        width: 3,
+    },
+    Entry {
+        byte: 0x14,
+        width: 1,
+    },
+    Entry {
+        byte: 0x20,
+        width: 0,
+    },
+    Entry {
+        byte: 0x21,
+        width: 3,
+    },
+    Entry {
+        byte: 0x22,
+        width: 3,
+    },
+    Entry {
+        byte: 0x23,
+        width: 0,
+    },
+];
+
+// Where a command byte stands in the table.
+pub enum Index {
+    At(usize),
+    Unknown,
+}
+
+// A command byte whose operands all lie within the sheet, or the fault.
+pub enum Opcode {
+    Known(u8),
+    Refused(Fault),
+}
+
+// A command and the place after it, or the fault.
+pub enum Decoded {
+    Got(Command, usize),
+    Refused(Fault),
+}
+
+// Document 01's number of a refusal.
+pub fn number(f: Refusal) -> u8
+    ensures { λ r. ⌜ r ≡ number (viewRefusal f) ⌝ }
+{
+    match f {
+        Refusal::NoCommand => 1,
+        Refusal::CutShort => 2,
+        Refusal::ByteAfterEnd => 3,
+        Refusal::Misplaced => 4,
+        Refusal::CeilingPassed => 5,
+        Refusal::OutOfRange => 6,
+        Refusal::WordRepeated => 7,
+        Refusal::ReleasesNotRising => 8,
+        Refusal::LimitTooHigh => 9,
+        Refusal::BufferTooShort => 10,
+    }
+}
+
+pub fn index_of(b: u8) -> Index
+    ensures { λ r. ⌜ r ≡ indexOf b ⌝ }
+{
+    match b {
+        0x01..=0x05 => Index::At((b - 1) as usize),
+        0x10..=0x14 => Index::At((b - 11) as usize),
+        0x20..=0x23 => Index::At((b - 22) as usize),
+        _ => Index::Unknown,
+    }
+}
+
+fn size(x: u8) -> usize
+    ensures { λ r. ⌜ (r ≡ x) × (r < 256) ⌝ }
+{
+    x as usize
+}
+
+fn wide(x: u8) -> u32
+    ensures { λ r. ⌜ (r ≡ x) × (r < 256) ⌝ }
+{
+    x as u32
+}
+
+fn half(x: u8) -> u16
+    ensures { λ r. ⌜ (r ≡ x) × (r < 256) ⌝ }
+{
+    x as u16
+}
+
+// The operand bytes of an entry.
+pub fn width(i: usize) -> usize
+    requires { ⌜ i < 14 ⌝ }
+    ensures { λ r. ⌜ r ≡ widthAt i ⌝ }
+{
+    let entry = TABLE[i];
+    size(entry.width)
+}
+
+// The byte at a place, 0 past the end.
+fn byte(s: &[u8], at: usize) -> u8
+    ensures { λ r. ⌜ r ≡ getD (now (s .entry)) at 0 ⌝ }
+{
+    if at < s.len() { s[at] } else { 0 }
+}
+
+// The big-endian number in two bytes, and in four.
+fn value2(s: &[u8], at: usize) -> u16
+    requires { ⌜ at ≤ length (now s) + 36 ⌝ }
+    ensures { λ r. ⌜ r ≡ bigEndian (now (s .entry)) at 2 ⌝ }
+{
+    half(byte(s, at)) * 256 + half(byte(s, at + 1))
+}
+
+fn value4(s: &[u8], at: usize) -> u32
+    requires { ⌜ at ≤ length (now s) + 36 ⌝ }
+    ensures { λ r. ⌜ r ≡ bigEndian (now (s .entry)) at 4 ⌝ }
+{
+    ((wide(byte(s, at)) * 256 + wide(byte(s, at + 1))) * 256 + wide(byte(s, at + 2))) * 256
+        + wide(byte(s, at + 3))
+}
+
+// The eight values of a BLOCK whose operands start at p.
+pub fn values(s: &[u8], p: usize) -> [u32; 8]
+    requires { ⌜ p ≤ length (now s) ⌝ }
+    ensures { λ r. ⌜ r ≡ valuesFrom (now (s .entry)) p ⌝ }
+{
+    [
+        value4(s, p + 4),
+        value4(s, p + 8),
+        value4(s, p + 12),
+        value4(s, p + 16),
+        value4(s, p + 20),
+        value4(s, p + 24),
+        value4(s, p + 28),
+        value4(s, p + 32),
+    ]
+}
+
+// The command byte at a place: 1 for no command, 2 for an end before or inside the command.
+pub fn command_byte(s: &[u8], at: usize) -> Opcode
+    ensures { λ r. ⌜ ByteSays (now (s .entry)) at r ⌝ }
+{
+    if s.len() <= at {
+        return Opcode::Refused(Fault {
+            refusal: Refusal::CutShort,
+            place: s.len(),
+        });
+    }
+    let b = s[at];
+    let Index::At(i) = index_of(b) else {
+        return Opcode::Refused(Fault {
+            refusal: Refusal::NoCommand,
+            place: at,
+        });
+    };
+    if s.len() - (at + 1) < width(i) {
+        return Opcode::Refused(Fault {
+            refusal: Refusal::CutShort,
+            place: at,
+        });
+    }
+    Opcode::Known(b)
+}
+
+// The command of a byte, its operands starting at p.
+pub fn operands(s: &[u8], p: usize, b: u8) -> Decoded
+    requires { ⌜ p ≤ length (now s) ⌝ }
+    ensures { λ r. ⌜ viewDecoded (valuesFrom (now (s .entry)) p) r ≡ operandsOf (now (s .entry)) p b ⌝ }
+{
+    match b {
+        0x01 => Decoded::Got(Command::Word(value4(s, p)), p + 4),
+        0x02 => Decoded::Got(Command::Block(value4(s, p)), p + 36),
+        0x03 => Decoded::Got(Command::Task, p),
+        0x04 => Decoded::Got(
+            Command::Release(Release {
+                tick: value2(s, p),
+                task: byte(s, p + 2),
+            }),
+            p + 3,
+        ),
+        0x05 => Decoded::Got(Command::End, p),
+        0x10 => Decoded::Got(
+            Command::Load {
+                register: byte(s, p),
+                value: value4(s, p + 1),
+            },
+            p + 5,
+        ),
+        0x11 => Decoded::Got(
+            Command::Add {
+                register: byte(s, p),
+                other: byte(s, p + 1),
+            },
+            p + 2,
+        ),
+        0x12 => Decoded::Got(
+            Command::Read {
+                register: byte(s, p),
+                word: byte(s, p + 1),
+            },
+            p + 2,
+        ),
+        0x13 => Decoded::Got(
+            Command::Pair {
+                word: byte(s, p),
+                old: byte(s, p + 1),
+                new: byte(s, p + 2),
+            },
+            p + 3,
+        ),
+        0x14 => Decoded::Got(Command::Swap(byte(s, p)), p + 1),
+        0x20 => Decoded::Got(Command::Begin, p),
+        0x21 => Decoded::Got(
+            Command::Access(Access::Get {
+                register: byte(s, p),
+                block: byte(s, p + 1),
+                offset: byte(s, p + 2),
+            }),
+            p + 3,
+        ),
+        0x22 => Decoded::Got(
+            Command::Access(Access::Put {
+                block: byte(s, p),
+                offset: byte(s, p + 1),
+                register: byte(s, p + 2),
+            }),
+            p + 3,
+        ),
+        0x23 => Decoded::Got(Command::Commit, p),
+        _ => Decoded::Refused(Fault {
+            refusal: Refusal::NoCommand,
+            place: p,
+        }),
+    }
+}
+
+// The command at a place of the sheet.
+pub fn decode(s: &[u8], at: usize) -> Decoded
+    ensures { λ r. ⌜ viewDecoded (valuesFrom (now (s .entry)) (suc at)) r ≡ commandAt (now (s .entry)) at ⌝ }
+{
+    let o = command_byte(s, at);
+    let Opcode::Known(b) = o else {
+        return match o {
+            Opcode::Refused(f) => Decoded::Refused(f),
+            Opcode::Known(_) => Decoded::Refused(Fault {
+                refusal: Refusal::NoCommand,
+                place: at,
+            }),
+        };
+    };
+    operands(s, at + 1, b)
+}

@@ -1,0 +1,373 @@
+// The fault of a command, by what is known when it is read: one function for each rule, and the lowest number of those broken.
+ghost use mathlib.Core.Path.{_≡_};
+ghost use mathlib.Core.Bool.{_&&_, _||_};
+ghost use mathlib.Core.List.{[]};
+ghost use Prim.Native.Nat.{_≤_};
+ghost use Rattle.model.specs.Command.{access};
+ghost use Rattle.model.specs.Fault as rule;
+ghost use Rattle.sheet.specs.View.{viewRelease, viewAccess, viewCommand, viewSection, viewCounts, viewNumbers, viewBody, viewKnown, viewFlaw};
+use crate::commands::Access;
+use crate::commands::Command;
+use crate::commands::Refusal;
+use crate::commands::Release;
+use crate::index::Sheet;
+use crate::known::Counts;
+use crate::known::Known;
+use crate::known::Numbers;
+use crate::known::Section;
+use crate::known::Task;
+
+// The first rule that a command breaks.
+pub enum Flaw {
+    None,
+    Some(Refusal),
+}
+
+fn both(a: bool, b: bool) -> bool
+    ensures { λ r. ⌜ r ≡ (a && b) ⌝ }
+{
+    if a { b } else { false }
+}
+
+fn either(a: bool, b: bool) -> bool
+    ensures { λ r. ⌜ r ≡ (a || b) ⌝ }
+{
+    if a { true } else { b }
+}
+
+fn words(s: Section) -> bool
+    ensures { λ r. ⌜ r ≡ rule.words? (viewSection s) ⌝ }
+{
+    match s {
+        Section::Words => true,
+        Section::Blocks => false,
+        Section::Bodies => false,
+        Section::Releases => false,
+    }
+}
+
+fn blocks(s: Section) -> bool
+    ensures { λ r. ⌜ r ≡ rule.blocks? (viewSection s) ⌝ }
+{
+    match s {
+        Section::Words => false,
+        Section::Blocks => true,
+        Section::Bodies => false,
+        Section::Releases => false,
+    }
+}
+
+fn bodies(s: Section) -> bool
+    ensures { λ r. ⌜ r ≡ rule.body? (viewSection s) ⌝ }
+{
+    match s {
+        Section::Words => false,
+        Section::Blocks => false,
+        Section::Bodies => true,
+        Section::Releases => false,
+    }
+}
+
+fn releases(s: Section) -> bool
+    ensures { λ r. ⌜ r ≡ rule.releases? (viewSection s) ⌝ }
+{
+    match s {
+        Section::Words => false,
+        Section::Blocks => false,
+        Section::Bodies => false,
+        Section::Releases => true,
+    }
+}
+
+// The open body may end here.
+fn may_end(b: Task) -> bool
+    ensures { λ r. ⌜ r ≡ rule.mayEnd (viewBody b) ⌝ }
+{
+    let pairs = b.pairs;
+    both(both(!b.empty, pairs.is_none()), !b.inside)
+}
+
+// A body is open here, and no transaction in it.
+fn outside(k: Known) -> bool
+    ensures { λ r. ⌜ r ≡ rule.outside (viewKnown k) ⌝ }
+{
+    let section = k.section;
+    let body = k.body;
+    both(bodies(section), !body.inside)
+}
+
+// A transaction is open here.
+fn within(k: Known) -> bool
+    ensures { λ r. ⌜ r ≡ rule.within (viewKnown k) ⌝ }
+{
+    let section = k.section;
+    let body = k.body;
+    both(bodies(section), body.inside)
+}
+
+// The bodies are over, or the last one may end here.
+fn bodies_over(k: Known) -> bool
+    ensures { λ r. ⌜ r ≡ rule.bodiesOver (viewKnown k) ⌝ }
+{
+    let section = k.section;
+    let body = k.body;
+    either(releases(section), both(bodies(section), may_end(body)))
+}
+
+// 4
+fn in_place(k: Known, c: Command) -> bool
+    ensures { λ r. ⌜ r ≡ rule.inPlace (viewKnown k) (viewCommand [] c) ⌝ }
+{
+    let section = k.section;
+    let body = k.body;
+    let pairs = body.pairs;
+    match c {
+        Command::Word(_) => words(section),
+        Command::Block(_) => either(words(section), blocks(section)),
+        Command::Task => either(
+            either(words(section), blocks(section)),
+            both(bodies(section), may_end(body)),
+        ),
+        Command::Release(_) => bodies_over(k),
+        Command::End => bodies_over(k),
+        Command::Load {
+            register: _,
+            value: _,
+        } => bodies(section),
+        Command::Add {
+            register: _,
+            other: _,
+        } => bodies(section),
+        Command::Read {
+            register: _,
+            word: _,
+        } => outside(k),
+        Command::Pair {
+            word: _,
+            old: _,
+            new: _,
+        } => outside(k),
+        Command::Swap(_) => both(outside(k), !pairs.is_none()),
+        Command::Begin => both(outside(k), pairs.is_none()),
+        Command::Access(_) => within(k),
+        Command::Commit => within(k),
+    }
+}
+
+// Room for x among the different numbers.
+fn room(ceiling: usize, x: u8, l: Numbers) -> bool
+    requires { ⌜ ceiling ≤ 8 ⌝ }
+    ensures { λ r. ⌜ r ≡ rule.room ceiling x (viewNumbers l) ⌝ }
+{
+    either(l.has(x), l.below(ceiling))
+}
+
+fn room_for_block(b: Task, a: Access) -> bool
+    ensures { λ r. ⌜ r ≡ rule.roomForBlock (viewBody b) (viewAccess a) ⌝ }
+{
+    let touched = b.touched;
+    let puts = b.puts;
+    match a {
+        Access::Get {
+            register: _,
+            block,
+            offset: _,
+        } => room(Task::TOUCHED, block, touched),
+        Access::Put {
+            block,
+            offset: _,
+            register: _,
+        } => both(
+            room(Task::TOUCHED, block, touched),
+            room(Task::PUTS, block, puts),
+        ),
+    }
+}
+
+// 5
+fn under_ceiling(k: Known, c: Command) -> bool
+    ensures { λ r. ⌜ r ≡ rule.underCeiling (viewKnown k) (viewCommand [] c) ⌝ }
+{
+    let n = k.counts;
+    let body = k.body;
+    let pairs = body.pairs;
+    match c {
+        Command::Word(_) => n.words < Sheet::WORDS,
+        Command::Block(_) => n.blocks < Sheet::BLOCKS,
+        Command::Task => n.tasks < Sheet::TASKS,
+        Command::Release(_) => n.releases < Sheet::RELEASES,
+        Command::End => true,
+        Command::Load {
+            register: _,
+            value: _,
+        } => n.commands < Sheet::COMMANDS,
+        Command::Add {
+            register: _,
+            other: _,
+        } => n.commands < Sheet::COMMANDS,
+        Command::Read {
+            register: _,
+            word: _,
+        } => n.commands < Sheet::COMMANDS,
+        Command::Pair {
+            word: _,
+            old: _,
+            new: _,
+        } => both(n.commands < Sheet::COMMANDS, pairs.below(Task::PAIRS)),
+        Command::Swap(_) => n.commands < Sheet::COMMANDS,
+        Command::Begin => n.commands < Sheet::COMMANDS,
+        Command::Access(a) => both(n.commands < Sheet::COMMANDS, room_for_block(body, a)),
+        Command::Commit => n.commands < Sheet::COMMANDS,
+    }
+}
+
+fn access_in_range(n: Counts, a: Access) -> bool
+    ensures { λ r. ⌜ r ≡ rule.inRange (viewCounts n) (access (viewAccess a)) ⌝ }
+{
+    match a {
+        Access::Get {
+            register,
+            block,
+            offset,
+        } => both(
+            both(register <= Task::LAST_REGISTER, block < n.blocks),
+            offset <= Task::LAST_OFFSET,
+        ),
+        Access::Put {
+            block,
+            offset,
+            register,
+        } => both(
+            both(block < n.blocks, offset <= Task::LAST_OFFSET),
+            register <= Task::LAST_REGISTER,
+        ),
+    }
+}
+
+// 6
+fn in_range(n: Counts, c: Command) -> bool
+    ensures { λ r. ⌜ r ≡ rule.inRange (viewCounts n) (viewCommand [] c) ⌝ }
+{
+    match c {
+        Command::Word(_) => true,
+        Command::Block(version) => version <= Sheet::LAST_VERSION,
+        Command::Task => true,
+        Command::Release(r) => r.task < n.tasks,
+        Command::End => true,
+        Command::Load { register, value: _ } => register <= Task::LAST_REGISTER,
+        Command::Add { register, other } => both(
+            register <= Task::LAST_REGISTER,
+            other <= Task::LAST_REGISTER,
+        ),
+        Command::Read { register, word } => both(register <= Task::LAST_REGISTER, word < n.words),
+        Command::Pair { word, old, new } => both(
+            both(word < n.words, old <= Task::LAST_REGISTER),
+            new <= Task::LAST_REGISTER,
+        ),
+        Command::Swap(register) => register <= Task::LAST_REGISTER,
+        Command::Begin => true,
+        Command::Access(a) => access_in_range(n, a),
+        Command::Commit => true,
+    }
+}
+
+// 7
+fn new_word(b: Task, c: Command) -> bool
+    ensures { λ r. ⌜ r ≡ rule.newWord (viewBody b) (viewCommand [] c) ⌝ }
+{
+    let pairs = b.pairs;
+    match c {
+        Command::Pair {
+            word,
+            old: _,
+            new: _,
+        } => !pairs.has(word),
+        Command::Word(_) => true,
+        Command::Block(_) => true,
+        Command::Task => true,
+        Command::Release(_) => true,
+        Command::End => true,
+        Command::Load {
+            register: _,
+            value: _,
+        } => true,
+        Command::Add {
+            register: _,
+            other: _,
+        } => true,
+        Command::Read {
+            register: _,
+            word: _,
+        } => true,
+        Command::Swap(_) => true,
+        Command::Begin => true,
+        Command::Access(_) => true,
+        Command::Commit => true,
+    }
+}
+
+fn before(a: Release, b: Release) -> bool
+    ensures { λ r. ⌜ r ≡ rule.before (viewRelease a) (viewRelease b) ⌝ }
+{
+    either(a.tick < b.tick, both(a.tick == b.tick, a.task < b.task))
+}
+
+// 8
+fn rising(k: Known, c: Command) -> bool
+    ensures { λ r. ⌜ r ≡ rule.rising (viewKnown k) (viewCommand [] c) ⌝ }
+{
+    let n = k.counts;
+    let last = k.last;
+    match c {
+        Command::Release(r) => either(n.releases == 0, before(last, r)),
+        Command::Word(_) => true,
+        Command::Block(_) => true,
+        Command::Task => true,
+        Command::End => true,
+        Command::Load {
+            register: _,
+            value: _,
+        } => true,
+        Command::Add {
+            register: _,
+            other: _,
+        } => true,
+        Command::Read {
+            register: _,
+            word: _,
+        } => true,
+        Command::Pair {
+            word: _,
+            old: _,
+            new: _,
+        } => true,
+        Command::Swap(_) => true,
+        Command::Begin => true,
+        Command::Access(_) => true,
+        Command::Commit => true,
+    }
+}
+
+// At one command the lowest number wins.
+pub fn fault(k: Known, c: Command) -> Flaw
+    ensures { λ r. ⌜ viewFlaw r ≡ rule.faultOf (viewKnown k) (viewCommand [] c) ⌝ }
+{
+    let counts = k.counts;
+    let body = k.body;
+    if !in_place(k, c) {
+        return Flaw::Some(Refusal::Misplaced);
+    }
+    if !under_ceiling(k, c) {
+        return Flaw::Some(Refusal::CeilingPassed);
+    }
+    if !in_range(counts, c) {
+        return Flaw::Some(Refusal::OutOfRange);
+    }
+    if !new_word(body, c) {
+        return Flaw::Some(Refusal::WordRepeated);
+    }
+    if !rising(k, c) {
+        return Flaw::Some(Refusal::ReleasesNotRising);
+    }
+    Flaw::None
+}
