@@ -1,5 +1,5 @@
 // The report of a finished run, in the caller's buffer. The same code first finds the report's length and then writes it.
-pub mod text;
+mod text;
 
 ghost use mathlib.Core.Path.{_≡_};
 ghost use mathlib.Core.List.{[]};
@@ -52,14 +52,14 @@ fn word_lines(
     saves: &[u32; 64],
     words: usize,
 ) -> usize
-    requires { ⌜ (words ≤ 32) × (place + 768 ≤ farthest) ⌝ }
+    requires { ⌜ (words ≤ 32) × (place + 24 * words ≤ farthest) ⌝ }
     ensures { λ r. ⌜ Written (24 * words) (lines words 0 (wordLine (memoryOf (now (cells .entry)) (now (status .entry)) (now (saves .entry)) []))) (now (buffer .entry)) (now (buffer .exit)) place r ⌝ }
 {
     let mut next = place;
     let mut w = 0;
     while w < words {
         let value = contents(cells, status, saves, w);
-        next = text::pair_line(&mut *buffer, next, 0x57, w as u32, value);
+        next = text::pair_line(&mut *buffer, next, b'W', w as u32, value);
         w += 1;
     }
     next
@@ -71,9 +71,9 @@ fn store_fields(buffer: &mut [u8], place: usize, stores: &[u32; 384], store: usi
     ensures { λ r. ⌜ Written 89 (fields (at [] (rows 8 48 (now (stores .entry))) store)) (now (buffer .entry)) (now (buffer .exit)) place r ⌝ }
 {
     if store < 48 {
-        return text::rest_of_line(&mut *buffer, place, stores, 8 * store, 8);
+        return text::fields(&mut *buffer, place, stores, 8 * store, 8);
     }
-    text::put(&mut *buffer, place, 0x0A)
+    text::put(&mut *buffer, place, b'\n')
 }
 
 // Version and values by the bank word's current value.
@@ -90,7 +90,7 @@ fn block_line(
     ensures { λ r. ⌜ Written 112 (blockLine (memoryOf (now (cells .entry)) (now (status .entry)) (now (saves .entry)) (now (stores .entry))) block) (now (buffer .entry)) (now (buffer .exit)) place r ⌝ }
 {
     let bank = contents(cells, status, saves, 32 + block);
-    let middle = text::head(&mut *buffer, place, 0x42, block as u32);
+    let middle = text::head(&mut *buffer, place, b'B', block as u32);
     let next = text::field(&mut *buffer, middle, bank / 256);
     store_fields(&mut *buffer, next, stores, (bank % 256) as usize)
 }
@@ -104,7 +104,7 @@ fn block_lines(
     stores: &[u32; 384],
     blocks: usize,
 ) -> usize
-    requires { ⌜ (blocks ≤ 16) × (place + 1792 ≤ farthest) ⌝ }
+    requires { ⌜ (blocks ≤ 16) × (place + 112 * blocks ≤ farthest) ⌝ }
     ensures { λ r. ⌜ Written (112 * blocks) (lines blocks 0 (blockLine (memoryOf (now (cells .entry)) (now (status .entry)) (now (saves .entry)) (now (stores .entry))))) (now (buffer .entry)) (now (buffer .exit)) place r ⌝ }
 {
     let mut next = place;
@@ -127,11 +127,11 @@ fn task_line(
     requires { ⌜ (task < 8) × (place + 158 ≤ farthest) ⌝ }
     ensures { λ r. ⌜ Written 158 (taskLinesOf (now (registers .entry)) (now (counts .entry)) task) (now (buffer .entry)) (now (buffer .exit)) place r ⌝ }
 {
-    let next = text::row_line(&mut *buffer, place, 0x54, task as u32, counts, 4 * task, 4);
+    let next = text::row_line(&mut *buffer, place, b'T', task as u32, counts, 4 * task, 4);
     text::row_line(
         &mut *buffer,
         next,
-        0x52,
+        b'R',
         task as u32,
         registers,
         8 * task,
@@ -146,7 +146,7 @@ fn task_lines(
     counts: &[u32; 32],
     tasks: usize,
 ) -> usize
-    requires { ⌜ (tasks ≤ 8) × (place + 1264 ≤ farthest) ⌝ }
+    requires { ⌜ (tasks ≤ 8) × (place + 158 * tasks ≤ farthest) ⌝ }
     ensures { λ r. ⌜ Written (158 * tasks) (lines tasks 0 (taskLinesOf (now (registers .entry)) (now (counts .entry)))) (now (buffer .entry)) (now (buffer .exit)) place r ⌝ }
 {
     let mut next = place;
@@ -194,7 +194,7 @@ fn write(
         blocks,
     );
     let after_tasks = task_lines(&mut *buffer, after_blocks, registers, counts, tasks);
-    text::pair_line(&mut *buffer, after_tasks, 0x45, totals.now, totals.dropped)
+    text::pair_line(&mut *buffer, after_tasks, b'E', totals.now, totals.dropped)
 }
 
 // The report's length. If the buffer is as long, the report stands at its start, and nothing else in it is changed; if not, nothing is.

@@ -15,7 +15,7 @@ pub fn put(buffer: &mut [u8], place: usize, byte: u8) -> usize
     place + 1
 }
 
-// The decimal digits at the end of the text, and where they begin.
+// The decimal digits, at the end of the text, and where they begin there.
 pub fn digits(text: &mut [u8], value: u32) -> usize
     requires { ⌜ length (now text) ≡ 10 ⌝ }
     ensures { λ r. ⌜ (r < 10) × (drop r (now (text .exit)) ≡ decimal value) ⌝ }
@@ -23,16 +23,16 @@ pub fn digits(text: &mut [u8], value: u32) -> usize
     let mut rest = value;
     let mut first: usize = 9;
     while rest >= 10 {
-        text[first] = 48 + ((rest % 10) as u8);
+        text[first] = b'0' + ((rest % 10) as u8);
         rest = rest / 10;
         first -= 1;
     }
-    text[first] = 48 + (rest as u8);
+    text[first] = b'0' + (rest as u8);
     first
 }
 
 pub fn copy(buffer: &mut [u8], place: usize, text: &[u8]) -> usize
-    requires { ⌜ (length (now text) ≤ 10) × (place + 10 ≤ farthest) ⌝ }
+    requires { ⌜ place + length (now text) ≤ farthest ⌝ }
     ensures { λ r. ⌜ Written (length (now (text .entry))) (now (text .entry)) (now (buffer .entry)) (now (buffer .exit)) place r ⌝ }
 {
     let mut next = place;
@@ -44,7 +44,7 @@ pub fn copy(buffer: &mut [u8], place: usize, text: &[u8]) -> usize
     next
 }
 
-pub fn number(buffer: &mut [u8], place: usize, value: u32) -> usize
+pub fn decimal(buffer: &mut [u8], place: usize, value: u32) -> usize
     requires { ⌜ place + 10 ≤ farthest ⌝ }
     ensures { λ r. ⌜ Written 10 (decimal value) (now (buffer .entry)) (now (buffer .exit)) place r ⌝ }
 {
@@ -58,19 +58,13 @@ pub fn field(buffer: &mut [u8], place: usize, value: u32) -> usize
     requires { ⌜ place + 11 ≤ farthest ⌝ }
     ensures { λ r. ⌜ Written 11 (0x20 ∷ decimal value) (now (buffer .entry)) (now (buffer .exit)) place r ⌝ }
 {
-    let next = put(&mut *buffer, place, 0x20);
-    number(&mut *buffer, next, value)
+    let next = put(&mut *buffer, place, b' ');
+    decimal(&mut *buffer, next, value)
 }
 
-// The numbers from a place on, and the line's end.
-pub fn rest_of_line(
-    buffer: &mut [u8],
-    place: usize,
-    values: &[u32],
-    start: usize,
-    count: usize,
-) -> usize
-    requires { ⌜ (count ≤ 8) × (start + count ≤ length (now values)) × (place + 89 ≤ farthest) ⌝ }
+// The numbers of a line, `count` of the values from `start` on, and the line's end.
+pub fn fields(buffer: &mut [u8], place: usize, values: &[u32], start: usize, count: usize) -> usize
+    requires { ⌜ (start + count ≤ length (now values)) × (place + (11 * count + 1) ≤ farthest) ⌝ }
     ensures { λ r. ⌜ Written (11 * count + 1) (fields (take count (drop start (now (values .entry))))) (now (buffer .entry)) (now (buffer .exit)) place r ⌝ }
 {
     let mut next = place;
@@ -79,7 +73,7 @@ pub fn rest_of_line(
         next = field(&mut *buffer, next, memory::u32_at(values, start + i));
         i += 1;
     }
-    put(&mut *buffer, next, 0x0A)
+    put(&mut *buffer, next, b'\n')
 }
 
 // The letter of a line and its first number.
@@ -98,10 +92,10 @@ pub fn pair_line(buffer: &mut [u8], place: usize, letter: u8, first: u32, second
 {
     let middle = head(&mut *buffer, place, letter, first);
     let next = field(&mut *buffer, middle, second);
-    put(&mut *buffer, next, 0x0A)
+    put(&mut *buffer, next, b'\n')
 }
 
-// A line of a number and those from a place on.
+// A line of a number and `count` of the values from `start` on.
 pub fn row_line(
     buffer: &mut [u8],
     place: usize,
@@ -111,9 +105,9 @@ pub fn row_line(
     start: usize,
     count: usize,
 ) -> usize
-    requires { ⌜ (count ≤ 8) × (start + count ≤ length (now values)) × (place + 101 ≤ farthest) ⌝ }
+    requires { ⌜ (start + count ≤ length (now values)) × (place + (11 * count + 13) ≤ farthest) ⌝ }
     ensures { λ r. ⌜ Written (11 * count + 13) (line letter (first ∷ take count (drop start (now (values .entry))))) (now (buffer .entry)) (now (buffer .exit)) place r ⌝ }
 {
     let next = head(&mut *buffer, place, letter, first);
-    rest_of_line(&mut *buffer, next, values, start, count)
+    fields(&mut *buffer, next, values, start, count)
 }

@@ -1,16 +1,18 @@
-use borrow.Author.Needs.{needs}
-use Rattle.report.proofs.Writing.{no-lines, line-more, all-lines, same-size}
-use Rattle.report.specs.Writing.{Written}
-use Rattle.report.specs.Text.{memoryOf}
-use Rattle.model.specs.Report.{lines, blockLine}
+-- The B lines. The invariant: those of the blocks below `b` are written.
 use Prim.Native.Nat.{_*_, _≤_, _-_}
 use mathlib.Core.Path.{refl}
 use native.Mathlib.Omega.{arith}
+use borrow.Author.Needs.{needs}
+use Rattle.report.specs.Writing.{Written}
+use Rattle.report.specs.Text.{memoryOf}
+use Rattle.model.specs.Report.{lines, blockLine}
+use Rattle.report.proofs.Writing.{no-lines, line-more, all-lines, same-size}
 use Rattle.report.proofs.block_lines.Statement.{statement}
 use Rattle.report.proofs.block_lines.Tie as tie
 
 abbrev Inv-loop : tie.InvT-loop
-Inv-loop buffer₀ place cells status saves stores blocks next₀ b₀ buffer next b = (b ≤ blocks) × Written (112 * b) (lines b 0 (blockLine (memoryOf cells status saves stores))) buffer₀ buffer place next
+Inv-loop buffer₀ place cells status saves stores blocks next₀ b₀ buffer next b =
+    (b ≤ blocks) × Written (112 * b) (lines b 0 (blockLine (memoryOf cells status saves stores))) buffer₀ buffer place next
 
 abbrev μ-loop : tie.MeasureT-loop
 μ-loop buffer₀ place cells status saves stores blocks next₀ b₀ buffer next b = blocks - b
@@ -28,7 +30,9 @@ loop-less : tie.Need-loop-less Inv-loop μ-loop
 loop-less c = search needs
 
 loop-again : tie.Need-loop-again Inv-loop μ-loop
-loop-again c = (search needs, line-more (blockLine (memoryOf (c .before .before .before .before .before .before .before .args .cells .now) (c .before .before .before .before .before .before .before .args .status .now) (c .before .before .before .before .before .before .before .args .saves .now) (c .before .before .before .before .before .before .before .args .stores .now))) refl (c .before .before .before .before .before .loop .inv .1) (c .before .before .block-line .ensures))
+loop-again c =
+    let a = c .before .before .before .before .before .before .before .args in
+    (search needs, line-more (blockLine (memoryOf (a .cells .now) (a .status .now) (a .saves .now) (a .stores .now))) refl (c .before .before .before .before .before .loop .inv .1) (c .before .before .block-line .ensures))
 
 same-length : tie.Need-same-length Inv-loop μ-loop
 same-length c = same-size (c .before .loop .inv .1)

@@ -1,5 +1,6 @@
-use Rattle.report.proofs.Views.{current-of}
+-- A cell that there is unpacks to the model's word.
 use borrow.Author.Needs.{needs}
+use Rattle.report.proofs.Views.{current-of}
 use Rattle.report.proofs.contents.Statement.{statement}
 use Rattle.report.proofs.contents.Tie as tie
 

@@ -1,6 +1,7 @@
-use Rattle.report.proofs.Views.{current-valid, current-committed, current-saved}
+-- The three ways to a current value are those of the model.
 use mathlib.Core.Path.{_∙_, sym}
 use borrow.Author.Needs.{needs}
+use Rattle.report.proofs.Views.{current-valid, current-committed, current-saved}
 use Rattle.report.proofs.current.Statement.{statement}
 use Rattle.report.proofs.current.Tie as tie
 
@@ -26,7 +27,8 @@ value-of-requires-2 : tie.Need-value-of-requires-2
 value-of-requires-2 c κs = search needs
 
 returns-2 : tie.Need-returns-2
-returns-2 c = c .value-of2 .ensures ∙ current-committed _ _ _ (sym (c .before .before .before .before .before .before .valid-of .ensures) ∙ c .before .before .before .before .before .if1 .left) (c .before .before .before .before .task-of .ensures) (c .before .before .u8-at .ensures) (c .before .if2 .taken)
+returns-2 c =
+    c .value-of2 .ensures ∙ current-committed _ _ _ (sym (c .before .before .before .before .before .before .valid-of .ensures) ∙ c .before .before .before .before .before .if1 .left) (c .before .before .before .before .task-of .ensures) (c .before .before .u8-at .ensures) (c .before .if2 .taken)
 
 mul-place : tie.Need-mul-place
 mul-place c = search needs
@@ -44,7 +46,8 @@ u32-at-requires : tie.Need-u32-at-requires
 u32-at-requires c κs = search needs
 
 returns-3 : tie.Need-returns-3
-returns-3 c = c .u32-at .ensures ∙ current-saved _ _ _ (sym (c .before .before .before .before .before .before .before .before .valid-of .ensures) ∙ c .before .before .before .before .before .before .before .if1 .left) (c .before .before .before .before .before .before .task-of .ensures) (c .before .before .count-of .ensures) (c .before .before .before .before .u8-at .ensures) (c .before .before .before .if2 .left) (search needs)
+returns-3 c =
+    c .u32-at .ensures ∙ current-saved _ _ _ (sym (c .before .before .before .before .before .before .before .before .valid-of .ensures) ∙ c .before .before .before .before .before .before .before .if1 .left) (c .before .before .before .before .before .before .task-of .ensures) (c .before .before .count-of .ensures) (c .before .before .before .before .u8-at .ensures) (c .before .before .before .if2 .left) (search needs)
 
 pub current-spec : {M : Type 1} → statement M
 current-spec =

@@ -1,5 +1,6 @@
-use Rattle.report.proofs.Whole.{long-enough, too-short}
+-- The first round changes nothing and finds the length; the second writes only where the report fits.
 use borrow.Author.Needs.{needs}
+use Rattle.report.proofs.Whole.{long-enough, too-short}
 use Rattle.report.proofs.report.Statement.{statement}
 use Rattle.report.proofs.report.Tie as tie
 
@@ -19,7 +20,8 @@ same-length : tie.Need-same-length
 same-length c = search needs
 
 returns : tie.Need-returns
-returns c = long-enough _ (c .before .before .before .before .before .before .before .write .ensures) (c .before .before .before .before .if1 .taken) (c .before .before .write2 .ensures)
+returns c =
+    long-enough _ (c .before .before .before .before .before .before .before .write .ensures) (c .before .before .before .before .if1 .taken) (c .before .before .write2 .ensures)
 
 same-length-2 : tie.Need-same-length-2
 same-length-2 c = search needs

@@ -1,6 +1,7 @@
-use Rattle.report.proofs.Writing.{then}
-use Rattle.memory.specs.Rows.{row}
+-- A T line with a row of counts, then an R line with a row of registers.
 use borrow.Author.Needs.{needs}
+use Rattle.memory.specs.Rows.{row}
+use Rattle.report.proofs.Writing.{then}
 use Rattle.report.proofs.task_line.Statement.{statement}
 use Rattle.report.proofs.task_line.Tie as tie
 

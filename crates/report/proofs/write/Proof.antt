@@ -1,5 +1,6 @@
-use Rattle.report.proofs.Whole.{whole}
+-- All lines in their order, with no more of them than the ceilings allow.
 use borrow.Author.Needs.{needs}
+use Rattle.report.proofs.Whole.{whole}
 use Rattle.report.proofs.write.Statement.{statement}
 use Rattle.report.proofs.write.Tie as tie
 
@@ -28,7 +29,8 @@ same-length : tie.Need-same-length
 same-length c = search needs
 
 returns : tie.Need-returns
-returns c = whole _ _ _ _ _ _ _ (c .before .before .before .before .before .before .before .before .before .before .before .before .before .before .before .before .before .before .at-most .ensures) (c .before .before .before .before .before .before .before .before .before .before .before .before .before .before .before .before .before .at-most2 .ensures) (c .before .before .before .before .before .before .before .before .before .before .before .before .before .before .before .before .at-most3 .ensures) (c .before .before .before .before .before .before .before .before .before .before .before .before .before .before .word-lines .ensures) (c .before .before .before .before .before .before .before .before .before .before .block-lines .ensures) (c .before .before .before .before .before .before .task-lines .ensures) (c .before .before .pair-line .ensures)
+returns c =
+    whole _ _ _ _ _ _ _ (c .before .before .before .before .before .before .before .before .before .before .before .before .before .before .before .before .before .before .at-most .ensures) (c .before .before .before .before .before .before .before .before .before .before .before .before .before .before .before .before .before .at-most2 .ensures) (c .before .before .before .before .before .before .before .before .before .before .before .before .before .before .before .before .at-most3 .ensures) (c .before .before .before .before .before .before .before .before .before .before .before .before .before .before .word-lines .ensures) (c .before .before .before .before .before .before .before .before .before .before .block-lines .ensures) (c .before .before .before .before .before .before .task-lines .ensures) (c .before .before .pair-line .ensures)
 
 pub write-spec : {M : Type 1} → statement M
 write-spec =

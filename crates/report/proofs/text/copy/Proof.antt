@@ -1,11 +1,12 @@
-use borrow.Author.Needs.{needs}
-use Rattle.report.proofs.Writing.{all-bytes, same-size}
-use Rattle.report.proofs.Writing.{nothing, byte-more}
-use Rattle.report.specs.Writing.{Written}
-use lib.Seq.{take-length}
-use lib.ListN.{length, take}
+-- The bytes of a text, one after another. The invariant: the first `i` are written.
 use Prim.Native.Nat.{_≤_, _-_}
 use native.Mathlib.Omega.{arith}
+use lib.Seq.{take-length}
+use lib.ListN.{length, take}
+use borrow.Author.Needs.{needs}
+use Rattle.report.specs.Writing.{Written}
+use Rattle.report.proofs.Writing.{all-bytes, same-size}
+use Rattle.report.proofs.Writing.{nothing, byte-more}
 use Rattle.report.proofs.text.copy.Statement.{statement}
 use Rattle.report.proofs.text.copy.Tie as tie
 
@@ -31,7 +32,8 @@ loop-less : tie.Need-loop-less Inv-loop μ-loop
 loop-less c = search needs
 
 loop-again : tie.Need-loop-again Inv-loop μ-loop
-loop-again c = (search needs, byte-more _ _ (c .before .before .before .before .before .loop-test .taken) (c .before .before .before .before .before .before .loop .inv .1) (c .before .before .put .ensures))
+loop-again c =
+    (search needs, byte-more _ _ (c .before .before .before .before .before .loop-test .taken) (c .before .before .before .before .before .before .loop .inv .1) (c .before .before .put .ensures))
 
 same-length : tie.Need-same-length Inv-loop μ-loop
 same-length c = same-size (c .before .loop .inv .1)

@@ -1,7 +1,8 @@
-use borrow.Author.Needs.{needs}
-use lib.ListN.{length-set}
-use Rattle.report.proofs.Numerals.{Left, whole-number, further, stored-next, stored-first}
+-- The digits are stored from the last to the first. The invariant: those of `rest` are left; the measure is `rest`.
 use native.Mathlib.Omega.{arith}
+use lib.ListN.{length-set}
+use borrow.Author.Needs.{needs}
+use Rattle.report.proofs.Numerals.{Left, whole-number, further, stored-next, stored-first}
 use Rattle.report.proofs.text.digits.Statement.{statement}
 use Rattle.report.proofs.text.digits.Tie as tie
 

@@ -1,5 +1,6 @@
-use Rattle.report.proofs.Writing.{then}
+-- A letter, then the first number.
 use borrow.Author.Needs.{needs}
+use Rattle.report.proofs.Writing.{then}
 use Rattle.report.proofs.text.head.Statement.{statement}
 use Rattle.report.proofs.text.head.Tie as tie
 

@@ -1,18 +1,20 @@
-use borrow.Author.Needs.{needs}
-use mathlib.Core.Path.{_∙_}
-use Rattle.report.proofs.Writing.{no-lines, line-more, all-fields, same-size}
-use Rattle.report.proofs.Lines.{fieldOf}
-use Rattle.report.specs.Writing.{Written}
-use Rattle.model.specs.Report.{decimal, lines}
+-- The numbers of a line and its end. The invariant: the first `i` are written.
 use Prim.Native.Nat.{ℕ, _*_, _≤_, _-_}
+use mathlib.Core.Path.{_∙_}
 use mathlib.Core.List.{_∷_}
 use mathlib.Core.Path.{_≡_, ap}
 use native.Mathlib.Omega.{arith}
-use Rattle.report.proofs.text.rest_of_line.Statement.{statement}
-use Rattle.report.proofs.text.rest_of_line.Tie as tie
+use borrow.Author.Needs.{needs}
+use Rattle.report.specs.Writing.{Written}
+use Rattle.model.specs.Report.{decimal, lines}
+use Rattle.report.proofs.Writing.{no-lines, line-more, all-fields, same-size}
+use Rattle.report.proofs.Lines.{fieldOf}
+use Rattle.report.proofs.text.fields.Statement.{statement}
+use Rattle.report.proofs.text.fields.Tie as tie
 
 abbrev Inv-loop : tie.InvT-loop
-Inv-loop buffer₀ place values start count next₀ i₀ buffer next i = (i ≤ count) × Written (11 * i) (lines i 0 (fieldOf values start)) buffer₀ buffer place next
+Inv-loop buffer₀ place values start count next₀ i₀ buffer next i =
+    (i ≤ count) × Written (11 * i) (lines i 0 (fieldOf values start)) buffer₀ buffer place next
 
 abbrev μ-loop : tie.MeasureT-loop
 μ-loop buffer₀ place values start count next₀ i₀ buffer next i = count - i
@@ -36,7 +38,8 @@ loop-less : tie.Need-loop-less Inv-loop μ-loop
 loop-less c = search needs
 
 loop-again : tie.Need-loop-again Inv-loop μ-loop
-loop-again c = (search needs, line-more (fieldOf _ _) (ap (λ (v : ℕ). 0x20 ∷ decimal v) (c .before .before .before .u32-at .ensures)) (c .before .before .before .before .before .before .loop .inv .1) (c .before .before .field .ensures))
+loop-again c =
+    (search needs, line-more (fieldOf _ _) (ap (λ (v : ℕ). 0x20 ∷ decimal v) (c .before .before .before .u32-at .ensures)) (c .before .before .before .before .before .before .loop .inv .1) (c .before .before .field .ensures))
 
 put-requires : tie.Need-put-requires Inv-loop μ-loop
 put-requires c κs = omega (arith, c .before .before .loop .inv .1 .room, c .before .before .before .before .before .pre)
@@ -45,10 +48,11 @@ same-length : tie.Need-same-length Inv-loop μ-loop
 same-length c = same-size (c .before .before .put .ensures) ∙ same-size (c .before .before .before .before .before .loop .inv .1)
 
 returns : tie.Need-returns Inv-loop μ-loop
-returns c = all-fields _ _ _ _ (c .before .before .before .before .before .loop .inv .0) (c .before .before .before .before .loop-test .left) (search needs) (c .before .before .before .before .before .loop .inv .1) (c .before .before .put .ensures)
+returns c =
+    all-fields _ _ _ _ (c .before .before .before .before .before .loop .inv .0) (c .before .before .before .before .loop-test .left) (search needs) (c .before .before .before .before .before .loop .inv .1) (c .before .before .put .ensures)
 
-pub rest-of-line-spec : {M : Type 1} → statement M
-rest-of-line-spec =
+pub fields-spec : {M : Type 1} → statement M
+fields-spec =
     tie.close
     (tie.spec
     Inv-loop

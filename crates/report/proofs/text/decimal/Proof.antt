@@ -1,7 +1,8 @@
-use Rattle.report.proofs.Writing.{to-the-end}
+-- The digits found are all that the number has.
 use borrow.Author.Needs.{needs}
-use Rattle.report.proofs.text.number.Statement.{statement}
-use Rattle.report.proofs.text.number.Tie as tie
+use Rattle.report.proofs.Writing.{to-the-end}
+use Rattle.report.proofs.text.decimal.Statement.{statement}
+use Rattle.report.proofs.text.decimal.Tie as tie
 
 slice-aggregate-digits : tie.Need-slice-aggregate-digits
 slice-aggregate-digits c = search needs
@@ -25,10 +26,11 @@ same-length : tie.Need-same-length
 same-length c = search needs
 
 returns : tie.Need-returns
-returns c = to-the-end (c .before .before .before .before .before .before .before .digits .last .0) (c .before .before .before .before .before .before .before .digits .result) 10 (c .before .before .copy .ensures) (c .before .before .before .before .before .before .before .digits .ensures .1) (search needs) (search needs)
+returns c =
+    to-the-end (c .before .before .before .before .before .before .before .digits .last .0) (c .before .before .before .before .before .before .before .digits .result) 10 (c .before .before .copy .ensures) (c .before .before .before .before .before .before .before .digits .ensures .1) (search needs) (search needs)
 
-pub number-spec : {M : Type 1} → statement M
-number-spec =
+pub decimal-spec : {M : Type 1} → statement M
+decimal-spec =
     tie.close
     (tie.spec
     slice-aggregate-digits
