@@ -1,7 +1,7 @@
 -- The text read off the arrays is the model's report of the machine that they hold, and a call's result the model's answer.
 use Prim.Native.Nat.{ℕ, _+_, min, _≤_, _<_}
-use mathlib.Core.Path.{_≡_, refl, sym, ap, _∙_}
-use mathlib.Core.List.{List, [], _∷_, _++_}
+use mathlib.Core.Path.{_≡_, sym, ap, _∙_}
+use mathlib.Core.List.{List, _∷_, _++_}
 use mathlib.Core.Bool.{true, false}
 use native.Mathlib.Omega.{arith}
 use lib.Dec.{leb}
@@ -9,14 +9,12 @@ use lib.ListN.{length}
 use borrow.Author.Tests.{le-leb, lt-leb}
 use Rattle.model.specs.Ceilings.{maxWords, maxBlocks, maxTasks}
 use Rattle.model.specs.Sheet.{Sheet}
-use Rattle.model.specs.Word.{Memory}
-use Rattle.model.specs.Job.{Task}
 use Rattle.model.specs.Machine.{Machine, taskAt}
-use Rattle.model.specs.Report.{line, lines, wordLine, blockLine, taskLine, registerLine, taskLines, endLine, report}
+use Rattle.model.specs.Report.{line, taskLine, taskLines, report}
 use Rattle.model.specs.Answer.{Answer, written}
 use Rattle.memory.specs.Rows.{row}
 use Rattle.report.specs.declared.Totals.{Totals}
-use Rattle.report.specs.Text.{memoryOf, taskLinesOf, reportText, Reported, countsOf, Holds, Within}
+use Rattle.report.specs.Text.{taskLinesOf, reportText, Reported, Holds, Within}
 use Rattle.report.proofs.Lines.{lines-equal}
 
 least : (n k c : ℕ) → n ≡ k → k ≤ c → min n c ≡ k

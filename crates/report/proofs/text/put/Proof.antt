@@ -1,7 +1,5 @@
 -- A byte is stored where the buffer has that place, and the next place is one further.
-use mathlib.Core.Path.{_≡_, refl, sym, ap, _∙_}
 use borrow.Author.Needs.{needs}
-use Rattle.report.specs.Writing.{Written}
 use Rattle.model.specs.Lists.{replace}
 use Rattle.report.proofs.text.put.Statement.{statement}
 use Rattle.report.proofs.text.put.Tie as tie
