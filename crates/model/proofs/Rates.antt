@@ -4,3 +4,4 @@ pub mod Own
 pub mod Status
 pub mod Timely
 pub mod Ended
+pub mod Run
