@@ -5,3 +5,5 @@ pub mod Status
 pub mod Timely
 pub mod Ended
 pub mod Run
+pub mod Commit
+pub mod Theorem
