@@ -7,3 +7,4 @@ pub mod Ended
 pub mod Run
 pub mod Commit
 pub mod Theorem
+pub mod Example
