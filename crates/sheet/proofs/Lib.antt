@@ -3,3 +3,4 @@ pub mod Membership
 pub mod Faults
 pub mod Reading
 pub mod Values
+pub mod Accepted
