@@ -4,3 +4,4 @@ pub mod Faults
 pub mod Reading
 pub mod Values
 pub mod Accepted
+pub mod Places
