@@ -5,3 +5,4 @@ pub mod Reading
 pub mod Values
 pub mod Accepted
 pub mod Places
+pub mod Sections

@@ -68,7 +68,7 @@ declared-is : (s : List ℕ) (p : ℕ) → declaredAt s p ≡ declared (commands
 unfolding declaredAt
 declared-is s p = refl
 
-declared-cons : (c : Command) (l : List Command) → declared (c ∷ l) ≡ declare c (declared l)
+pub declared-cons : (c : Command) (l : List Command) → declared (c ∷ l) ≡ declare c (declared l)
 unfolding declared
 declared-cons c l = refl
 
@@ -89,7 +89,7 @@ unfolding sheetOf declaredAt
 sheet-is s = refl
 
 -- A BODY
-declare-body : (c : Command) (d : Declared) → ofBody c ≡ true → declare c d ≡ inOpenBody c d
+pub declare-body : (c : Command) (d : Declared) → ofBody c ≡ true → declare c d ≡ inOpenBody c d
 unfolding declare
 declare-body (LOAD r v) d e = refl
 declare-body (ADD r q) d e = refl
@@ -105,7 +105,7 @@ declare-body TASK d e = absurd (false≢true e)
 declare-body (RELEASE r) d e = absurd (false≢true e)
 declare-body END d e = absurd (false≢true e)
 
-declare-other : (c : Command) (d : Declared) → ofBody c ≡ false → declare c d .body ≡ []
+pub declare-other : (c : Command) (d : Declared) → ofBody c ≡ false → declare c d .body ≡ []
 unfolding declare
 declare-other (WORD v) d e = refl
 declare-other (BLOCK b) d e = refl
