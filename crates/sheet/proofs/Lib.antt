@@ -6,3 +6,4 @@ pub mod Values
 pub mod Accepted
 pub mod Places
 pub mod Sections
+pub mod Declared

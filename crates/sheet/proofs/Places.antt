@@ -64,7 +64,7 @@ commands-stand nothing = refl
 commands-stand {s} {o} (first {c = c} e r) = commands-found s o e ∙ ap (λ (l : List Command). c ∷ l) (commands-stand r)
 
 -- WHAT THEY DECLARE
-declared-is : (s : List ℕ) (p : ℕ) → declaredAt s p ≡ declared (commandsAt s p)
+pub declared-is : (s : List ℕ) (p : ℕ) → declaredAt s p ≡ declared (commandsAt s p)
 unfolding declaredAt
 declared-is s p = refl
 

@@ -1,4 +1,4 @@
--- Where the words and blocks of an accepted sheet stand: the words first, five bytes each, then the blocks, 37 bytes each.
+-- The byte and operands of a command that is found at a place, and the sections that each command may stand in.
 use Prim.Native.Nat.{ℕ, zero, suc, _+_, _*_, _<_, _≤_}
 use mathlib.Core.Path.{_≡_, refl, sym, _∙_, ap, subst}
 use mathlib.Core.Bool.{Bool, true, false, _&&_, _||_, false≢true}
@@ -102,14 +102,14 @@ module _ (s : List ℕ) (p : ℕ) where
       (cc, cc)
 
 -- THE ORDER OF SECTIONS
-abbrev rank : Section → ℕ
+abbrev pub rank : Section → ℕ
 rank wordSection = 0
 rank blockSection = 1
 rank bodySection = 2
 rank releaseSection = 3
 
 -- where each command may stand
-data Kind (k : Known) : Command → Type 0 where
+pub data Kind (k : Known) : Command → Type 0 where
   isWord : {v : ℕ} → rank (k .section) ≡ 0 → Kind k (WORD v)
   isBlock : {b : Block} → rank (k .section) ≤ 1 → Kind k (BLOCK b)
   isTask : rank (k .section) ≤ 2 → Kind k TASK
@@ -150,7 +150,7 @@ left-of : (a b : Bool) → a && b ≡ true → a ≡ true
 left-of true b e = refl
 left-of false b e = e
 
-kind : (k : Known) (c : Command) → inPlace k c ≡ true → end? c ≡ false → Kind k c
+pub kind : (k : Known) (c : Command) → inPlace k c ≡ true → end? c ≡ false → Kind k c
 unfolding inPlace
 kind k (WORD v) p e = isWord (for-word (k .section) p)
 kind k (BLOCK b) p e = isBlock (for-block (k .section) p)
