@@ -8,3 +8,4 @@ pub mod Places
 pub mod Sections
 pub mod Declared
 pub mod Indexing
+pub mod Gaps
