@@ -25,35 +25,10 @@ use Rattle.sheet.proofs.Decoding.{past-the-end, cases}
 use Rattle.sheet.proofs.Accepted.{accepted-when-well-formed}
 use Rattle.sheet.proofs.Faults.{keeps}
 use Rattle.sheet.proofs.Reading.{next-after}
+use Rattle.sheet.proofs.Passing.{Passed, passed-all, passed-here, passed-one, none-passed}
 use Rattle.sheet.proofs.Places.{declared-is, commands-found, commands-refused, commands-stand}
 use Rattle.sheet.proofs.Sections.{Kind, isWord, isBlock, isTask, isRelease, isBody, kind}
 use Rattle.sheet.proofs.Declared.{whole, whole-body, whole-sheet}
-
--- A LIST PASSED ONE BY ONE
--- n are passed, and these are to come
-pub record Passed {A : Type 0} (all : List A) (n : ℕ) (rest : List A) : Type 0 where
-  pub within : n ≤ length all
-  pub left : drop n all ≡ rest
-
-passed-all : {A : Type 0} {all : List A} {n : ℕ} → Passed all n [] → n ≡ length all
-passed-all {all = all} {n = n} p = omega (arith, p .within, length-drop n all, ap length (p .left))
-
-module _ {A : Type 0} {all rest : List A} {n : ℕ} where
-  module _ {v : A} (p : Passed all n (v ∷ rest)) where
-    less : n < length all
-    less = omega (arith, p .within, length-drop n all, ap length (p .left))
-
-    passed-here : (d : A) → getD all n d ≡ v
-    passed-here d =
-        let split : drop n all ≡ getD all n d ∷ drop (suc n) all = drop-cons all n d less in
-        let e : drop n all ≡ v ∷ rest = p .left in
-        cc
-
-    passed-one : Passed all (n + 1) rest
-    passed-one =
-        let split : drop n all ≡ getD all n v ∷ drop (suc n) all = drop-cons all n v less in
-        let e : drop n all ≡ v ∷ rest = p .left in
-        record { within = omega (arith, less); left = rw add-one (cc) }
 
 -- WHAT IS COUNTED
 pub record Left (all : M.Sheet) (x : Sheet) (rest : M.Sheet) : Type 0 where
@@ -87,9 +62,6 @@ pub record Going (s : List ℕ) (x : Sheet) (at : ℕ) : Type 0 where
 pub data Walk (s : List ℕ) (x : Sheet) : ℕ → Type 0 where
   going : {at : ℕ} → Going s x at → Walk s x at
   over : Indexed s x → Walk s x (length s)
-
-none-passed : {A : Type 0} (all rest : List A) → all ≡ rest → Passed all 0 rest
-none-passed all rest e = record { within = omega arith; left = e }
 
 pub begin : (s : List ℕ) (x : Sheet) → x ≡ emptyIndex → verdict s ≡ accepted → Walk s x 0
 begin s x is e =
@@ -355,36 +327,3 @@ module _ {s : List ℕ} {x : Sheet} {at : ℕ} (h : Here s x at) where
       let a : commandAt s at ≡ found (h .command) (h .next) = h .found-here in
       let z : _≡_ {A = ℕ} 0 1 = cc in
       absurd (omega arith)
-
--- the values beside a BLOCK play no part
-module _ (vs : List ℕ) (x : Sheet) where
-  pub room-values : (c : coding.Command) → Room x (viewCommand vs c) → Room x (viewCommand [] c)
-  room-values (coded.Word v) h = h
-  room-values (coded.Block v) h = h
-  room-values coded.Task h = h
-  room-values (coded.Release r) h = h
-  room-values coded.End h = h
-  room-values (coded.Load r v) h = h
-  room-values (coded.Add r q) h = h
-  room-values (coded.Read r w) h = h
-  room-values (coded.Pair w o n) h = h
-  room-values (coded.Swap r) h = h
-  room-values coded.Begin h = h
-  room-values (coded.Access a) h = h
-  room-values coded.Commit h = h
-
-  pub counted-values : (c : coding.Command) (at next : ℕ) → counted x (viewCommand vs c) at next ≡ counted x (viewCommand [] c) at next
-  unfolding counted
-  counted-values (coded.Word v) at next = refl
-  counted-values (coded.Block v) at next = refl
-  counted-values coded.Task at next = refl
-  counted-values (coded.Release r) at next = refl
-  counted-values coded.End at next = refl
-  counted-values (coded.Load r v) at next = refl
-  counted-values (coded.Add r q) at next = refl
-  counted-values (coded.Read r w) at next = refl
-  counted-values (coded.Pair w o n) at next = refl
-  counted-values (coded.Swap r) at next = refl
-  counted-values coded.Begin at next = refl
-  counted-values (coded.Access a) at next = refl
-  counted-values coded.Commit at next = refl

@@ -9,3 +9,4 @@ pub mod Sections
 pub mod Declared
 pub mod Indexing
 pub mod Gaps
+pub mod Passing
