@@ -1,25 +1,21 @@
 -- The index of an accepted sheet, command by command: what it has counted, and what the commands to come declare.
-use Prim.Native.Nat.{ℕ, zero, suc, _+_, _-_, _<_, _≤_}
+use Prim.Native.Nat.{ℕ, _+_, _<_, _≤_}
 use mathlib.Core.Path.{_≡_, refl, sym, _∙_, ap, subst}
 use mathlib.Core.Bool.{Bool, true, false, false≢true}
 use mathlib.Core.List.{List, [], _∷_, _++_}
 use native.Mathlib.Omega.{arith}
-use native.Mathlib.Numerals.{add-one}
-use borrow.Author.Tests.{eqb-true, eqb-false, ltb-true, eq-eqb, ne-eqb}
-use lib.Dec.{eqb, ltb}
-use lib.ListN.{length, getD, set, drop, length-drop, length-set}
-use lib.Seq.{drop-cons, getD-set-same, getD-set-other}
+use borrow.Author.Tests.{eqb-true, eqb-false, ltb-true}
+use lib.Dec.{eqb}
+use lib.ListN.{length, getD, set, length-set}
+use lib.Seq.{getD-set-same, getD-set-other}
 use Rattle.model.specs.Refusal.{Refusal}
-use Rattle.model.specs.Command.{Block, Release, Command, WORD, BLOCK, TASK, RELEASE, END, LOAD, ADD, READ, PAIR, SWAP, BEGIN, access, COMMIT, Found, found, refused, commandAt}
+use Rattle.model.specs.Command.{Block, Release, Command, WORD, BLOCK, TASK, RELEASE, END, LOAD, ADD, READ, PAIR, SWAP, BEGIN, access, COMMIT, found, refused, commandAt}
 use Rattle.model.specs.Fault.{Counts, Known, nothingKnown, underCeiling}
 use Rattle.model.specs.Sheet as M
-use Rattle.model.specs.Sheet.{Declared, after, oneCommand, declare, declared, verdict, accepted, sheetOf}
+use Rattle.model.specs.Sheet.{Declared, after, oneCommand, declared, verdict, accepted, sheetOf}
 use Rattle.sheet.specs.Places.{ofBody, declaredAt, bodyAt, releasesAt, commandsAt}
 use Rattle.sheet.specs.WellFormed.{Stand, nothing, first, Faultless, unread, good, WellFormed}
-use Rattle.sheet.specs.Indexed.{Indexed, index, emptyIndex, placeOr, counted, Room}
-use Rattle.sheet.specs.View.{viewCommand}
-use Rattle.sheet.specs.declared.commands.Command as coding
-use Rattle.sheet.specs.declared.commands.Command.the-variants as coded
+use Rattle.sheet.specs.Indexed.{Indexed, emptyIndex, placeOr, counted, Room}
 use Rattle.sheet.specs.declared.index.Sheet.{Sheet}
 use Rattle.sheet.proofs.Decoding.{past-the-end, cases}
 use Rattle.sheet.proofs.Accepted.{accepted-when-well-formed}

@@ -1,4 +1,5 @@
 pub mod Decoding
+pub mod Gaps
 pub mod Membership
 pub mod Faults
 pub mod Reading
@@ -7,6 +8,5 @@ pub mod Accepted
 pub mod Places
 pub mod Sections
 pub mod Declared
-pub mod Indexing
-pub mod Gaps
 pub mod Passing
+pub mod Indexing
