@@ -77,23 +77,10 @@ fn count(x: Sheet, c: Command, at: usize, next: usize) -> Sheet
             y.released = first_place(x, at);
             y
         }
-        Command::Load {
-            register: _,
-            value: _,
-        } => y,
-        Command::Add {
-            register: _,
-            other: _,
-        } => y,
-        Command::Read {
-            register: _,
-            word: _,
-        } => y,
-        Command::Pair {
-            word: _,
-            old: _,
-            new: _,
-        } => y,
+        Command::Load { .. } => y,
+        Command::Add { .. } => y,
+        Command::Read { .. } => y,
+        Command::Pair { .. } => y,
         Command::Swap(_) => y,
         Command::Begin => y,
         Command::Access(_) => y,
