@@ -10,3 +10,4 @@ pub mod Sections
 pub mod Declared
 pub mod Passing
 pub mod Indexing
+pub mod Releases
