@@ -164,7 +164,8 @@ pub fn index_of(b: u8) -> Index
     }
 }
 
-fn size(x: u8) -> usize
+// A byte at three widths.
+pub fn size(x: u8) -> usize
     ensures { λ r. ⌜ (r ≡ x) × (r < 256) ⌝ }
 {
     x as usize

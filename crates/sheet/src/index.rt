@@ -63,7 +63,7 @@ fn count(x: Sheet, c: Command, at: usize, next: usize) -> Sheet
             y
         }
         Command::Task => {
-            let t = size(x.tasks);
+            let t = commands::size(x.tasks);
             y.bodies[t] = next;
             y.tasks = x.tasks + 1;
             y
@@ -86,12 +86,6 @@ fn count(x: Sheet, c: Command, at: usize, next: usize) -> Sheet
         Command::Access(_) => y,
         Command::Commit => y,
     }
-}
-
-fn size(x: u8) -> usize
-    ensures { λ r. ⌜ r ≡ x ⌝ }
-{
-    x as usize
 }
 
 // The place of the first release: this one, if there was none before.
