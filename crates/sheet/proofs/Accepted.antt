@@ -10,10 +10,10 @@ use native.Mathlib.Nat.{zero-add, suc-add}
 use borrow.Author.Tests.{ltb-true, ltb-false, lt-ltb, le-ltb}
 use lib.Dec.{ltb}
 use lib.ListN.{length}
-use Rattle.model.specs.Refusal.{Refusal, cutShort, byteAfterEnd}
+use Rattle.model.specs.Refusal.{Refusal}
 use Rattle.model.specs.Command.{Command, WORD, BLOCK, TASK, RELEASE, END, LOAD, ADD, READ, PAIR, SWAP, BEGIN, access, COMMIT, Found, found, refused, commandAt}
 use Rattle.model.specs.Fault.{Known, nothingKnown, faultOf}
-use Rattle.model.specs.Sheet.{Verdict, accepted, turnedDown, end?, atEnd, judgeEnd, judgeFault, judge, verdictFrom, verdict, after}
+use Rattle.model.specs.Sheet.{Verdict, accepted, turnedDown, end?, atEnd, verdictFrom, verdict, after}
 use Rattle.sheet.specs.WellFormed.{Stand, nothing, first, Faultless, unread, good, Read, WellFormed, Wrong, missing, faulty, followed, TurnedDown}
 use Rattle.sheet.proofs.Faults.{is-fault, is-broken}
 use Rattle.sheet.proofs.Gaps.{is-missing, is-refused-there}

@@ -1,17 +1,17 @@
 -- The ranges of command bytes against the model's table, and the cases of `commandAt`.
-use Prim.Native.Nat.{ℕ, zero, suc, _+_, _-_, _<_, _≤_}
-use mathlib.Core.Path.{_≡_, refl, sym, _∙_, ap, subst}
+use Prim.Native.Nat.{ℕ, zero, suc, _+_, _<_, _≤_}
+use mathlib.Core.Path.{_≡_, refl, sym, subst}
 use mathlib.Core.Bool.{Bool, true, false, _&&_, and-eq-true-iff, false≢true}
 use mathlib.Core.List.{List, [], _∷_}
 use mathlib.Core.Option.{Option, none, some}
 use native.Mathlib.Omega.{arith}
 use native.Mathlib.Nat.{add-zero, zero-add, add-assoc}
 use borrow.Author.Tests.{ltb-true, eqb-true, eqb-false, lt-ltb, le-ltb, le-leb, lt-leb}
-use lib.Dec.{ltb, leb, eqb}
+use lib.Dec.{ltb, eqb}
 use lib.ListN.{length, getD}
 use Rattle.model.specs.Refusal.{cutShort, noCommand}
-use Rattle.model.specs.Command.{GET, PUT, Release, Block, WORD, BLOCK, TASK, RELEASE, END, LOAD, ADD, READ, PAIR, SWAP, BEGIN, access, COMMIT, Row, table, rowOf, total, bigEndian, Found, found, refused, commandAt}
-use Rattle.sheet.specs.Stages.{indexOf, byteAt, widthAt, valuesFrom, rowFrom, operandsOf}
+use Rattle.model.specs.Command.{GET, PUT, WORD, BLOCK, TASK, RELEASE, END, LOAD, ADD, READ, PAIR, SWAP, BEGIN, access, COMMIT, Row, table, rowOf, total, bigEndian, found, refused, commandAt}
+use Rattle.sheet.specs.Stages.{indexOf, byteAt, widthAt, valuesFrom, operandsOf}
 use Rattle.sheet.specs.declared.commands.Index.{Index}
 use Rattle.sheet.specs.declared.commands.Index.the-variants.{At, Unknown}
 

@@ -3,7 +3,7 @@ use Prim.Native.Nat.{ℕ}
 use native.Mathlib.Omega.{arith}
 use mathlib.Core.Path.{_≡_, refl, sym, _∙_}
 use mathlib.Core.Bool.{Bool, true, false}
-use mathlib.Core.Option.{Option, none, some}
+use mathlib.Core.Option.{none, some}
 use Rattle.model.specs.Refusal.{Refusal, misplaced, ceilingPassed, outOfRange, wordRepeated, releasesNotRising}
 use Rattle.model.specs.Command.{Command}
 use Rattle.sheet.specs.WellFormed.{Broken, place, ceiling, range, repeated, falling}

@@ -1,5 +1,5 @@
 -- No command is found at a place exactly where the byte names none, or the input ends.
-use Prim.Native.Nat.{ℕ, suc, _+_, _<_, _≤_}
+use Prim.Native.Nat.{ℕ, suc, _+_, _<_}
 use mathlib.Core.Path.{_≡_, refl}
 use mathlib.Core.Bool.{Bool, true, false}
 use mathlib.Core.List.{List}
@@ -9,7 +9,7 @@ use borrow.Author.Tests.{ltb-true, ltb-false, leb-false}
 use lib.Dec.{ltb, leb}
 use lib.ListN.{length, getD}
 use Rattle.model.specs.Refusal.{Refusal, noCommand, cutShort}
-use Rattle.model.specs.Command.{Row, table, rowOf, total, Found, refused, foundWhole, foundRow, foundByte, commandAt}
+use Rattle.model.specs.Command.{Row, table, rowOf, total, refused, foundWhole, foundRow, foundByte, commandAt}
 use Rattle.sheet.specs.WellFormed.{Missing, noRow, noByte, cut}
 use Rattle.sheet.proofs.Decoding as decoding
 

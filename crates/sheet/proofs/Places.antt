@@ -1,14 +1,14 @@
 -- The commands from a place on are the command there and those from the next place on; so are a body's commands and the releases.
 use Prim.Native.Nat.{ℕ, zero, suc, _+_, _<_, _≤_}
 use mathlib.Core.Path.{_≡_, refl, sym, _∙_, ap}
-use mathlib.Core.Bool.{Bool, true, false, false≢true}
+use mathlib.Core.Bool.{true, false, false≢true}
 use mathlib.Core.List.{List, [], _∷_, _++_}
 use native.Mathlib.Omega.{arith}
 use lib.ListN.{length}
 use Rattle.model.specs.Refusal.{Refusal}
-use Rattle.model.specs.Command.{Command, WORD, BLOCK, TASK, RELEASE, END, LOAD, ADD, READ, PAIR, SWAP, BEGIN, access, COMMIT, Release, Found, found, refused, commandAt}
-use Rattle.model.specs.Sheet.{Sheet, listed, commandsFrom, Declared, declares, inOpenBody, declare, declared, sheetOf}
-use Rattle.sheet.specs.Places.{commandsAt, declaredAt, bodyAt, releasesAt, ofBody}
+use Rattle.model.specs.Command.{Command, WORD, BLOCK, TASK, RELEASE, END, LOAD, ADD, READ, PAIR, SWAP, BEGIN, access, COMMIT, Found, found, refused, commandAt}
+use Rattle.model.specs.Sheet.{listed, commandsFrom, Declared, declares, inOpenBody, declare, declared, sheetOf}
+use Rattle.sheet.specs.Places.{commandsAt, declaredAt, bodyAt, ofBody}
 use Rattle.sheet.specs.WellFormed.{Stand, nothing, first}
 use Rattle.sheet.proofs.Decoding.{past-the-end}
 use Rattle.sheet.proofs.Reading.{next-after}
@@ -129,12 +129,5 @@ module _ (s : List ℕ) (p : ℕ) {c : Command} {next : ℕ} (e : commandAt s p 
   pub body-over : ofBody c ≡ false → bodyAt s p ≡ []
   body-over b = ap (λ (d : Declared). d .body) (declared-found s p e) ∙ declare-other c (declaredAt s next) b
 
--- THE RELEASES
-module _ (s : List ℕ) (p : ℕ) where
-  pub release-found : {r : Release} {next : ℕ} → commandAt s p ≡ found (RELEASE r) next → releasesAt s p ≡ r ∷ releasesAt s next
-  unfolding declare
-  release-found e = ap (λ (d : Declared). d .sheet .releases) (declared-found s p e)
-
-  pub releases-over : {next : ℕ} → commandAt s p ≡ found END next → releasesAt s p ≡ []
-  unfolding declare
-  releases-over e = ap (λ (d : Declared). d .sheet .releases) (declared-found s p e)
+pub body-refused : (s : List ℕ) (p : ℕ) {f : Refusal} {q : ℕ} → commandAt s p ≡ refused f q → bodyAt s p ≡ []
+body-refused s p e = ap (λ (d : Declared). d .body) (declared-refused s p e)

@@ -5,10 +5,20 @@ use mathlib.Core.Bool.{Bool, true, false}
 use mathlib.Core.List.{List, []}
 use lib.Dec.{eqb}
 use lib.ListN.{length, getD, set, replicate}
-use Rattle.model.specs.Command.{Block, Command, WORD, BLOCK, TASK, RELEASE, END, LOAD, ADD, READ, PAIR, SWAP, BEGIN, access, COMMIT}
+use Rattle.model.specs.Command.{Block, Release, found, commandAt, Command, WORD, BLOCK, TASK, RELEASE, END, LOAD, ADD, READ, PAIR, SWAP, BEGIN, access, COMMIT}
 use Rattle.model.specs.Sheet.{verdict, accepted, sheetOf}
 use Rattle.sheet.specs.Places.{bodyAt, releasesAt}
 use Rattle.sheet.specs.declared.index.Sheet.{Sheet}
+
+-- from a place on there are releases alone, and then END
+pub data Releasing (s : List ℕ) : ℕ → Type 0 where
+  end : {p next : ℕ} → commandAt s p ≡ found END next → Releasing s p
+  more : {p next : ℕ} {r : Release} → commandAt s p ≡ found (RELEASE r) next → Releasing s next → Releasing s p
+
+-- the sheet's releases are those from a place on
+pub record Released (s : List ℕ) (p : ℕ) : Type 0 where
+  pub all : sheetOf s .releases ≡ releasesAt s p
+  pub alone : Releasing s p
 
 pub record Indexed (s : List ℕ) (x : Sheet) : Type 0 where
   pub words : x .words ≡ length (sheetOf s .words)
@@ -17,8 +27,7 @@ pub record Indexed (s : List ℕ) (x : Sheet) : Type 0 where
   pub releases : x .releases ≡ length (sheetOf s .releases)
   -- the body of each task is what stands from its place on
   pub bodies : (p : ℕ) → p < x .tasks → getD (sheetOf s .bodies) p [] ≡ bodyAt s (getD (x .bodies) p 0)
-  -- the releases are those from their place on
-  pub released : sheetOf s .releases ≡ releasesAt s (x .released)
+  pub released : Released s (x .released)
 
 abbrev pub index : ℕ → ℕ → ℕ → ℕ → List ℕ → ℕ → Sheet
 index w b t r bs q = record { words = w; blocks = b; tasks = t; releases = r; bodies = bs; released = q }

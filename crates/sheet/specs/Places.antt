@@ -37,3 +37,18 @@ ofBody (SWAP r) = true
 ofBody BEGIN = true
 ofBody (access a) = true
 ofBody COMMIT = true
+
+abbrev pub release? : Command → Bool
+release? (RELEASE r) = true
+release? (WORD v) = false
+release? (BLOCK b) = false
+release? TASK = false
+release? END = false
+release? (LOAD r v) = false
+release? (ADD r q) = false
+release? (READ r w) = false
+release? (PAIR w o n) = false
+release? (SWAP r) = false
+release? BEGIN = false
+release? (access a) = false
+release? COMMIT = false

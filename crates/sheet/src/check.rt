@@ -37,23 +37,10 @@ fn is_end(c: Command) -> bool
         Command::Block(_) => false,
         Command::Task => false,
         Command::Release(_) => false,
-        Command::Load {
-            register: _,
-            value: _,
-        } => false,
-        Command::Add {
-            register: _,
-            other: _,
-        } => false,
-        Command::Read {
-            register: _,
-            word: _,
-        } => false,
-        Command::Pair {
-            word: _,
-            old: _,
-            new: _,
-        } => false,
+        Command::Load { .. } => false,
+        Command::Add { .. } => false,
+        Command::Read { .. } => false,
+        Command::Pair { .. } => false,
         Command::Swap(_) => false,
         Command::Begin => false,
         Command::Access(_) => false,

@@ -153,6 +153,7 @@ pub fn number(f: Refusal) -> u8
     }
 }
 
+// The ranges of sheet commands and of body commands; every other byte names no command.
 pub fn index_of(b: u8) -> Index
     ensures { λ r. ⌜ r ≡ indexOf b ⌝ }
 {
@@ -164,7 +165,8 @@ pub fn index_of(b: u8) -> Index
     }
 }
 
-fn size(x: u8) -> usize
+// A byte at each width that is computed with.
+pub fn size(x: u8) -> usize
     ensures { λ r. ⌜ (r ≡ x) × (r < 256) ⌝ }
 {
     x as usize

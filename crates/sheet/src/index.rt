@@ -63,7 +63,7 @@ fn count(x: Sheet, c: Command, at: usize, next: usize) -> Sheet
             y
         }
         Command::Task => {
-            let t = size(x.tasks);
+            let t = commands::size(x.tasks);
             y.bodies[t] = next;
             y.tasks = x.tasks + 1;
             y
@@ -77,34 +77,15 @@ fn count(x: Sheet, c: Command, at: usize, next: usize) -> Sheet
             y.released = first_place(x, at);
             y
         }
-        Command::Load {
-            register: _,
-            value: _,
-        } => y,
-        Command::Add {
-            register: _,
-            other: _,
-        } => y,
-        Command::Read {
-            register: _,
-            word: _,
-        } => y,
-        Command::Pair {
-            word: _,
-            old: _,
-            new: _,
-        } => y,
+        Command::Load { .. } => y,
+        Command::Add { .. } => y,
+        Command::Read { .. } => y,
+        Command::Pair { .. } => y,
         Command::Swap(_) => y,
         Command::Begin => y,
         Command::Access(_) => y,
         Command::Commit => y,
     }
-}
-
-fn size(x: u8) -> usize
-    ensures { λ r. ⌜ r ≡ x ⌝ }
-{
-    x as usize
 }
 
 // The place of the first release: this one, if there was none before.

@@ -270,16 +270,13 @@ fn named(a: Access, b: Task) -> Task
     let touched = b.touched;
     let puts = b.puts;
     match a {
-        Access::Get {
-            register: _,
-            block,
-            offset: _,
-        } => transaction(true, touched.include(block), puts, b),
-        Access::Put {
-            block,
-            offset: _,
-            register: _,
-        } => transaction(true, touched.include(block), puts.include(block), b),
+        Access::Get { block, .. } => transaction(true, touched.include(block), puts, b),
+        Access::Put { block, .. } => transaction(
+            true,
+            touched.include(block),
+            puts.include(block),
+            b,
+        ),
     }
 }
 
@@ -333,23 +330,10 @@ pub fn after(k: Known, c: Command) -> Known
             last: r,
         },
         Command::End => k,
-        Command::Load {
-            register: _,
-            value: _,
-        } => in_body(k, waiting(pairs, body)),
-        Command::Add {
-            register: _,
-            other: _,
-        } => in_body(k, waiting(pairs, body)),
-        Command::Read {
-            register: _,
-            word: _,
-        } => in_body(k, waiting(pairs, body)),
-        Command::Pair {
-            word,
-            old: _,
-            new: _,
-        } => in_body(k, waiting(pairs.with(word), body)),
+        Command::Load { .. } => in_body(k, waiting(pairs, body)),
+        Command::Add { .. } => in_body(k, waiting(pairs, body)),
+        Command::Read { .. } => in_body(k, waiting(pairs, body)),
+        Command::Pair { word, .. } => in_body(k, waiting(pairs.with(word), body)),
         Command::Swap(_) => in_body(k, waiting(Numbers::none(), body)),
         Command::Begin => in_body(k, transaction(true, Numbers::none(), Numbers::none(), body)),
         Command::Access(a) => in_body(k, named(a, body)),

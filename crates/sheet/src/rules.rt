@@ -130,23 +130,10 @@ fn in_place(k: Known, c: Command) -> bool
         ),
         Command::Release(_) => bodies_over(k),
         Command::End => bodies_over(k),
-        Command::Load {
-            register: _,
-            value: _,
-        } => bodies(section),
-        Command::Add {
-            register: _,
-            other: _,
-        } => bodies(section),
-        Command::Read {
-            register: _,
-            word: _,
-        } => outside(k),
-        Command::Pair {
-            word: _,
-            old: _,
-            new: _,
-        } => outside(k),
+        Command::Load { .. } => bodies(section),
+        Command::Add { .. } => bodies(section),
+        Command::Read { .. } => outside(k),
+        Command::Pair { .. } => outside(k),
         Command::Swap(_) => both(outside(k), !pairs.is_none()),
         Command::Begin => both(outside(k), pairs.is_none()),
         Command::Access(_) => within(k),
@@ -168,16 +155,8 @@ fn room_for_block(b: Task, a: Access) -> bool
     let touched = b.touched;
     let puts = b.puts;
     match a {
-        Access::Get {
-            register: _,
-            block,
-            offset: _,
-        } => room(Task::TOUCHED, block, touched),
-        Access::Put {
-            block,
-            offset: _,
-            register: _,
-        } => both(
+        Access::Get { block, .. } => room(Task::TOUCHED, block, touched),
+        Access::Put { block, .. } => both(
             room(Task::TOUCHED, block, touched),
             room(Task::PUTS, block, puts),
         ),
@@ -197,23 +176,10 @@ fn under_ceiling(k: Known, c: Command) -> bool
         Command::Task => n.tasks < Sheet::TASKS,
         Command::Release(_) => n.releases < Sheet::RELEASES,
         Command::End => true,
-        Command::Load {
-            register: _,
-            value: _,
-        } => n.commands < Sheet::COMMANDS,
-        Command::Add {
-            register: _,
-            other: _,
-        } => n.commands < Sheet::COMMANDS,
-        Command::Read {
-            register: _,
-            word: _,
-        } => n.commands < Sheet::COMMANDS,
-        Command::Pair {
-            word: _,
-            old: _,
-            new: _,
-        } => both(n.commands < Sheet::COMMANDS, pairs.below(Task::PAIRS)),
+        Command::Load { .. } => n.commands < Sheet::COMMANDS,
+        Command::Add { .. } => n.commands < Sheet::COMMANDS,
+        Command::Read { .. } => n.commands < Sheet::COMMANDS,
+        Command::Pair { .. } => both(n.commands < Sheet::COMMANDS, pairs.below(Task::PAIRS)),
         Command::Swap(_) => n.commands < Sheet::COMMANDS,
         Command::Begin => n.commands < Sheet::COMMANDS,
         Command::Access(a) => both(n.commands < Sheet::COMMANDS, room_for_block(body, a)),
@@ -254,7 +220,7 @@ fn in_range(n: Counts, c: Command) -> bool
         Command::Task => true,
         Command::Release(r) => r.task < n.tasks,
         Command::End => true,
-        Command::Load { register, value: _ } => register <= Task::LAST_REGISTER,
+        Command::Load { register, .. } => register <= Task::LAST_REGISTER,
         Command::Add { register, other } => both(
             register <= Task::LAST_REGISTER,
             other <= Task::LAST_REGISTER,
@@ -277,28 +243,15 @@ fn new_word(b: Task, c: Command) -> bool
 {
     let pairs = b.pairs;
     match c {
-        Command::Pair {
-            word,
-            old: _,
-            new: _,
-        } => !pairs.has(word),
+        Command::Pair { word, .. } => !pairs.has(word),
         Command::Word(_) => true,
         Command::Block(_) => true,
         Command::Task => true,
         Command::Release(_) => true,
         Command::End => true,
-        Command::Load {
-            register: _,
-            value: _,
-        } => true,
-        Command::Add {
-            register: _,
-            other: _,
-        } => true,
-        Command::Read {
-            register: _,
-            word: _,
-        } => true,
+        Command::Load { .. } => true,
+        Command::Add { .. } => true,
+        Command::Read { .. } => true,
         Command::Swap(_) => true,
         Command::Begin => true,
         Command::Access(_) => true,
@@ -324,23 +277,10 @@ fn rising(k: Known, c: Command) -> bool
         Command::Block(_) => true,
         Command::Task => true,
         Command::End => true,
-        Command::Load {
-            register: _,
-            value: _,
-        } => true,
-        Command::Add {
-            register: _,
-            other: _,
-        } => true,
-        Command::Read {
-            register: _,
-            word: _,
-        } => true,
-        Command::Pair {
-            word: _,
-            old: _,
-            new: _,
-        } => true,
+        Command::Load { .. } => true,
+        Command::Add { .. } => true,
+        Command::Read { .. } => true,
+        Command::Pair { .. } => true,
         Command::Swap(_) => true,
         Command::Begin => true,
         Command::Access(_) => true,

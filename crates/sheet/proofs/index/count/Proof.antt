@@ -83,7 +83,7 @@ returns-2 c = rw (c .before .enum-told2 .given .1)
 
 returns-3 : tie.Need-returns-3
 unfolding counted
-returns-3 c = rw (c .before .before .enum-told3 .given .1, c .before .size .ensures)
+returns-3 c = rw (c .before .before .enum-told3 .given .1, c .before .size .ensures .0)
 
 returns-4 : tie.Need-returns-4
 unfolding counted

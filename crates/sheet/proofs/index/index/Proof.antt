@@ -1,8 +1,9 @@
 -- `index` meets its contract. The loop's invariant: the index is right so far, and the commands to come declare what is left.
 use Prim.Native.Nat.{_-_, suc}
 use Rattle.model.specs.Command.{commandAt, found}
-use Rattle.sheet.proofs.Indexing.{Walk, begin, counted-values, finished, here, is-found, not-refused, room-values}
+use Rattle.sheet.proofs.Indexing.{Walk, begin, finished, here, is-found, not-refused}
 use Rattle.sheet.proofs.Reading.{next-after}
+use Rattle.sheet.proofs.Values.{counted-values, room-values}
 use Rattle.sheet.specs.Stages.{valuesFrom}
 use Rattle.sheet.specs.declared.commands.Decoded.the-variants.{Refused}
 use borrow.Author.Needs.{needs}
