@@ -1,0 +1,23 @@
+use Rattle.model.specs.Lists.{replace}
+use mathlib.Core.Path.{sym}
+use lib.Seq.{set-out}
+use borrow.Author.Needs.{needs}
+use Rattle.memory.proofs.set_u8.Statement.{statement}
+use Rattle.memory.proofs.set_u8.Tie as tie
+
+slice-write-s : tie.Need-slice-write-s
+slice-write-s c = search needs
+
+same-length : tie.Need-same-length
+same-length c = search needs
+
+returns : tie.Need-returns
+unfolding replace
+returns c = search needs
+
+returns-2 : tie.Need-returns-2
+unfolding replace
+returns-2 c = sym (set-out _ _ _ (c .if1 .left))
+
+pub set-u8-spec : {M : Type 1} → statement M
+set-u8-spec = tie.close (tie.spec slice-write-s same-length returns returns-2)
