@@ -5,20 +5,12 @@ use mathlib.Core.List.{List}
 use lib.Dec.{eqb}
 use Rattle.model.specs.Lists.{at, replace}
 use Rattle.memory.specs.Packed.{packed, valueOf, taskOf}
-use Rattle.machine.specs.Places.{if, nextOf}
+use Rattle.machine.specs.Places.{if, nextOf, Went, went}
 use Rattle.machine.specs.Reading.{owned, savedFor}
 use Rattle.machine.specs.declared.exchange.Step.{Step}
 use Rattle.machine.specs.declared.exchange.Step.the-variants.{Start, Test, Load, Look, Fetch, Save, Fail, Mark, Install, Commit, Clean, CleanMark}
 use Rattle.machine.specs.declared.exchange.Exchanged.{Exchanged}
 use Rattle.machine.specs.declared.exchange.Exchanged.the-variants.{Goes, Ends}
-
--- the next step, and the one array that a statement writes
-pub record Went (A : Type 0) : Type 0 where
-  pub next : A
-  pub array : List ℕ
-
-abbrev pub went : {A : Type 0} → A → List ℕ → Went A
-went a l = record { next = a; array = l }
 
 -- Load writes two
 pub record Noted : Type 0 where

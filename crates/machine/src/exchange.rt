@@ -1,6 +1,7 @@
 // SWAP of k words by task p, one step a tick. A step carries i; Clean and its Mark carry j and the answer too.
 ghost use mathlib.Core.Path.{_≡_};
-ghost use Rattle.machine.specs.Exchange.{went, noted, afterStart, afterTest, afterLoad, afterLook, afterFetch, afterSave, afterFail, afterMark, afterInstall, cleaning, afterCommit, onward, asNew, installedAt, afterClean, afterCleanMark, exchanged, afterExchange};
+ghost use Rattle.machine.specs.Places.{went};
+ghost use Rattle.machine.specs.Exchange.{noted, afterStart, afterTest, afterLoad, afterLook, afterFetch, afterSave, afterFail, afterMark, afterInstall, cleaning, afterCommit, onward, asNew, installedAt, afterClean, afterCleanMark, exchanged, afterExchange};
 use crate::places;
 use crate::read;
 use memory::Word;

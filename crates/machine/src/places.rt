@@ -34,3 +34,17 @@ pub fn next(n: u8) -> u8
 {
     std::num::wrapping_add_u8(n, 1)
 }
+
+// Element i of row p, in rows of four.
+pub fn quarter(p: u8, i: u8) -> usize
+    ensures { λ r. ⌜ r ≡ 4 * p + i ⌝ }
+{
+    4 * (p as usize) + (i as usize)
+}
+
+// Element i of row p, in rows of sixteen.
+pub fn block_place(p: u8, i: u8) -> usize
+    ensures { λ r. ⌜ r ≡ 16 * p + i ⌝ }
+{
+    16 * (p as usize) + (i as usize)
+}

@@ -38,15 +38,14 @@ pub fn read_tick(
     cells: &[u64; 48],
     status: &[u8; 8],
     saves: &[u32; 64],
-    cell: u8,
+    cell: usize,
     step: Reading,
 ) -> Read
     ensures { λ r. ⌜ r ≡ afterReading (now (cells .entry)) (now (status .entry)) (now (saves .entry)) cell step ⌝ }
 {
     match step {
         Reading::Load => {
-            let place = places::wide(cell);
-            return Read::Reads(Reading::Look(memory::u64_at(cells, place)));
+            return Read::Reads(Reading::Look(memory::u64_at(cells, cell)));
         }
         Reading::Look(word) => {
             return look(status, word);

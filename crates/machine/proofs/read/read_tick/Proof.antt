@@ -6,15 +6,12 @@ use Rattle.machine.proofs.read.read_tick.Tie as tie
 enum-told : tie.Need-enum-told
 enum-told c = search needs
 
-wide-requires : tie.Need-wide-requires
-wide-requires c κs = search needs
-
 u64-at-requires : tie.Need-u64-at-requires
 u64-at-requires c κs = search needs
 
 returns : tie.Need-returns
 unfolding afterReading
-returns c = rw (c .before .before .before .enum-told .given .1, ← c .before .before .wide .ensures, ← c .u64-at .ensures)
+returns c = rw (c .before .before .enum-told .given .1, ← c .u64-at .ensures)
 
 enum-known-step : tie.Need-enum-known-step
 enum-known-step c = search needs
@@ -50,7 +47,6 @@ read-tick-spec =
     tie.close
     (tie.spec
     enum-told
-    wide-requires
     u64-at-requires
     returns
     enum-known-step
