@@ -3,3 +3,4 @@ pub mod exchange;
 pub mod job;
 pub mod places;
 pub mod read;
+pub mod transaction;

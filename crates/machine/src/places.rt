@@ -1,6 +1,6 @@
 // Where the rows of a flat array lie, and small sums that do not overflow.
 ghost use mathlib.Core.Path.{_≡_};
-ghost use Prim.Native.Nat.{_+_, _*_};
+ghost use Prim.Native.Nat.{_+_, _*_, _%_, _<_};
 ghost use Rattle.machine.specs.Places.{nextOf};
 
 // Element i of row p, in rows of eight.
@@ -47,4 +47,16 @@ pub fn block_place(p: u8, i: u8) -> usize
     ensures { λ r. ⌜ r ≡ 16 * p + i ⌝ }
 {
     16 * (p as usize) + (i as usize)
+}
+
+pub fn low_byte(n: u32) -> u8
+    ensures { λ r. ⌜ r ≡ n % 256 ⌝ }
+{
+    (n % 256) as u8
+}
+
+pub fn wider(n: u8) -> u32
+    ensures { λ r. ⌜ (r ≡ n) × (r < 256) ⌝ }
+{
+    n as u32
 }
