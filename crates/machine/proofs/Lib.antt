@@ -1,0 +1,5 @@
+pub mod Decoded
+pub mod Walks
+pub mod Turns
+pub mod Mask
+pub mod Runs
