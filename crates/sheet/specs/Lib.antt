@@ -1,2 +1,4 @@
 pub mod View
 pub mod Stages
+pub mod WellFormed
+pub mod Places
