@@ -18,7 +18,7 @@ use Rattle.sheet.proofs.Sections.{rank, Kind, isWord, isBlock, isTask, 
 use Rattle.sheet.proofs.Accepted.{accepted-when-well-formed}
 
 -- what commands declare that END follows
-abbrev whole : List Command → Sheet
+abbrev pub whole : List Command → Sheet
 whole l = declared (l ++ (END ∷ [])) .sheet
 
 -- a body command keeps the section, and declares nothing beside its body
@@ -38,7 +38,7 @@ after-body k TASK e = absurd (false≢true e)
 after-body k (RELEASE r) e = absurd (false≢true e)
 after-body k END e = absurd (false≢true e)
 
-whole-body : (c : Command) (l : List Command) → ofBody c ≡ true → whole (c ∷ l) ≡ whole l
+pub whole-body : (c : Command) (l : List Command) → ofBody c ≡ true → whole (c ∷ l) ≡ whole l
 whole-body c l e = ap (λ (d : Declared). d .sheet) (declared-cons c (l ++ (END ∷ [])) ∙ declare-body c (declared (l ++ (END ∷ []))) e)
 
 -- NO WORDS after the word section, NO BLOCKS after the block section

@@ -7,3 +7,4 @@ pub mod Accepted
 pub mod Places
 pub mod Sections
 pub mod Declared
+pub mod Indexing
