@@ -13,6 +13,7 @@ use Rattle.sheet.specs.Places.{ofBody, commandsAt}
 use Rattle.sheet.specs.WellFormed.{Stand, nothing, first, Faultless, unread, good, WellFormed}
 use Rattle.sheet.proofs.Decoding.{past-the-end}
 use Rattle.sheet.proofs.Faults.{keeps}
+use Rattle.sheet.proofs.Reading.{next-after}
 use Rattle.sheet.proofs.Places.{declared-cons, declare-body, commands-found, commands-refused, commands-stand, declared-is, sheet-is}
 use Rattle.sheet.proofs.Sections.{rank, Kind, isWord, isBlock, isTask, isRelease, isBody, kind, word-at, block-at}
 use Rattle.sheet.proofs.Accepted.{accepted-when-well-formed}
@@ -148,3 +149,29 @@ module _ (s : List ℕ) (e : verdict s ≡ accepted) (i : ℕ) where
   block-of d h =
       let w : WellFormed s = accepted-when-well-formed s .0 e in
       rw (whole-sheet w) (blocks-from d (w .read .stand) (w .read .faultless) (omega arith) i (rw (whole-sheet w) at h) ∙ ap (blockFrom s) (omega arith))
+
+-- ROOM: the words and blocks lie within the sheet
+module _ (s : List ℕ) (o place : ℕ) (k : Known) (l : List Command) (next : ℕ) where
+  abbrev Fits : ℕ → Sheet → Type 0
+  Fits p x = p + 5 * length (x .words) + 37 * length (x .blocks) ≤ place
+
+  fits-by : (c : Command) → Kind k c → commandAt s o ≡ found c next → Fits next (whole l) → Fits o (whole (c ∷ l))
+  unfolding declared
+  fits-by c (isWord e) f h = omega (arith, word-at s o f .1)
+  fits-by c (isBlock e) f h = omega (arith, block-at s o f .1)
+  fits-by c (isTask e) f h = omega (arith, next-after s o f .0)
+  fits-by c (isRelease e) f h = omega (arith, next-after s o f .0)
+  fits-by c (isBody b e) f h = rw (whole-body c l b) (omega (arith, next-after s o f .0))
+
+fits-from :
+    {s : List ℕ} {o p : ℕ} {k m : Known} {l : List Command} → Stand s o l p → Faultless k l m
+    → o + 5 * length (whole l .words) + 37 * length (whole l .blocks) ≤ p
+unfolding declared
+fits-from nothing unread = omega arith
+fits-from {s} {o} {p} {k} (first {next = next} {c = c} {l = l} f r) (good g e q) =
+    fits-by s o p k l next c (kind k c (keeps k c g .place) e) f (fits-from r q)
+
+pub fits : (s : List ℕ) → verdict s ≡ accepted → 5 * length (sheetOf s .words) + 37 * length (sheetOf s .blocks) < length s
+fits s e =
+    let w : WellFormed s = accepted-when-well-formed s .0 e in
+    rw (whole-sheet w) (omega (arith, fits-from (w .read .stand) (w .read .faultless), next-after s (w .place) (w .last) .0))

@@ -5,8 +5,8 @@ use mathlib.Core.Bool.{Bool, true, false}
 use mathlib.Core.List.{List, []}
 use lib.Dec.{eqb}
 use lib.ListN.{length, getD, set, replicate}
-use Rattle.model.specs.Command.{Command, WORD, BLOCK, TASK, RELEASE, END, LOAD, ADD, READ, PAIR, SWAP, BEGIN, access, COMMIT}
-use Rattle.model.specs.Sheet.{sheetOf}
+use Rattle.model.specs.Command.{Block, Command, WORD, BLOCK, TASK, RELEASE, END, LOAD, ADD, READ, PAIR, SWAP, BEGIN, access, COMMIT}
+use Rattle.model.specs.Sheet.{verdict, accepted, sheetOf}
 use Rattle.sheet.specs.Places.{bodyAt, releasesAt}
 use Rattle.sheet.specs.declared.index.Sheet.{Sheet}
 
@@ -62,3 +62,16 @@ Room x (SWAP r) = 0 ≤ 0
 Room x BEGIN = 0 ≤ 0
 Room x (access a) = 0 ≤ 0
 Room x COMMIT = 0 ≤ 0
+
+abbrev pub noBlock : Block
+noBlock = record { version = 0; values = [] }
+
+-- a word, and a block, of an accepted sheet
+pub record IsWord (s : List ℕ) (i : ℕ) : Type 0 where
+  pub sound : verdict s ≡ accepted
+  pub declared : i < length (sheetOf s .words)
+
+pub record IsBlock (s : List ℕ) (words i : ℕ) : Type 0 where
+  pub sound : verdict s ≡ accepted
+  pub before : words ≡ length (sheetOf s .words)
+  pub declared : i < length (sheetOf s .blocks)

@@ -2,12 +2,11 @@
 // where its bodies and its releases start. The index takes 80 bytes; no byte of the sheet is copied.
 ghost use mathlib.Core.Path.{_≡_};
 ghost use mathlib.Core.List.{[]};
-ghost use Prim.Native.Nat.{ℕ, _+_, _*_, _<_};
-ghost use lib.ListN.{length, getD};
+ghost use lib.ListN.{getD};
 ghost use Rattle.model.specs.Sheet.{sheetOf, verdict, accepted};
 ghost use Rattle.sheet.specs.View.{viewCommand};
 ghost use lib.Dec.{eqb};
-ghost use Rattle.sheet.specs.Indexed.{Indexed, Room, counted, placeOr, emptyIndex};
+ghost use Rattle.sheet.specs.Indexed.{Indexed, Room, counted, placeOr, emptyIndex, IsWord, IsBlock, noBlock};
 use crate::commands;
 use crate::commands::Command;
 use crate::commands::Decoded;
@@ -134,4 +133,27 @@ pub fn index_of(sheet: &[u8]) -> Sheet
         at = next;
     }
     x
+}
+
+// The start value of a word.
+pub fn word(sheet: &[u8], i: usize) -> u32
+    requires { ⌜ IsWord (now sheet) i ⌝ }
+    ensures { λ r. ⌜ r ≡ getD (sheetOf (now (sheet .entry)) .words) i 0 ⌝ }
+{
+    commands::value4(sheet, 5 * i + 1)
+}
+
+// The version of a block, and its eight values; `words` is the number of words before the blocks.
+pub fn version(sheet: &[u8], words: usize, i: usize) -> u32
+    requires { ⌜ IsBlock (now sheet) words i ⌝ }
+    ensures { λ r. ⌜ r ≡ getD (sheetOf (now (sheet .entry)) .blocks) i noBlock .version ⌝ }
+{
+    commands::value4(sheet, 5 * words + 37 * i + 1)
+}
+
+pub fn block_values(sheet: &[u8], words: usize, i: usize) -> [u32; 8]
+    requires { ⌜ IsBlock (now sheet) words i ⌝ }
+    ensures { λ r. ⌜ r ≡ getD (sheetOf (now (sheet .entry)) .blocks) i noBlock .values ⌝ }
+{
+    commands::values(sheet, 5 * words + 37 * i + 1)
 }
