@@ -10,12 +10,13 @@ use native.Mathlib.Nat.{zero-add, suc-add}
 use borrow.Author.Tests.{ltb-true, ltb-false, lt-ltb, le-ltb}
 use lib.Dec.{ltb}
 use lib.ListN.{length}
-use Rattle.model.specs.Refusal.{Refusal, cutShort, byteAfterEnd}
+use Rattle.model.specs.Refusal.{Refusal}
 use Rattle.model.specs.Command.{Command, WORD, BLOCK, TASK, RELEASE, END, LOAD, ADD, READ, PAIR, SWAP, BEGIN, access, COMMIT, Found, found, refused, commandAt}
 use Rattle.model.specs.Fault.{Known, nothingKnown, faultOf}
-use Rattle.model.specs.Sheet.{Verdict, accepted, turnedDown, end?, atEnd, judgeEnd, judgeFault, judge, verdictFrom, verdict, after}
+use Rattle.model.specs.Sheet.{Verdict, accepted, turnedDown, end?, atEnd, verdictFrom, verdict, after}
 use Rattle.sheet.specs.WellFormed.{Stand, nothing, first, Faultless, unread, good, Read, WellFormed, Wrong, missing, faulty, followed, TurnedDown}
-use Rattle.sheet.proofs.Decoding.{past-the-end}
+use Rattle.sheet.proofs.Faults.{is-fault, is-broken}
+use Rattle.sheet.proofs.Gaps.{is-missing, is-refused-there}
 use Rattle.sheet.proofs.Reading.{stops-at-fault, stops-at-end, goes-on, judged-refused, judged-found, next-after}
 
 -- ONE MORE COMMAND AT THE END
@@ -78,10 +79,10 @@ module _ (n : ℕ) (s : List ℕ) (p : ℕ) (k : Known) (r : Read s p k) (go : (
     on-fault : (o : Option Refusal) → faultOf k c ≡ o → Outcome s (verdictFrom (suc n) s p k)
     on-fault none f = on-end f (end? c) refl
     on-fault (some x) f =
-        subst (Outcome s) (sym (judged-found n s p k e ∙ stops-at-fault (verdictFrom n s) s p k c next f)) (wrong-at s p k r (faulty e f))
+        subst (Outcome s) (sym (judged-found n s p k e ∙ stops-at-fault (verdictFrom n s) s p k c next f)) (wrong-at s p k r (faulty e (is-broken k c f)))
 
   on-found : (o : Found) → commandAt s p ≡ o → Outcome s (verdictFrom (suc n) s p k)
-  on-found (refused f q) e = subst (Outcome s) (sym (judged-refused n s p k e)) (wrong-at s p k r (missing e))
+  on-found (refused f q) e = subst (Outcome s) (sym (judged-refused n s p k e)) (wrong-at s p k r (missing (is-missing s p e)))
   on-found (found c next) e = on-fault c next e (faultOf k c) refl
 
 -- the commands advance, and stay within the sheet
@@ -137,8 +138,8 @@ module _ (s : List ℕ) (p : ℕ) (k : Known) (r : Read s p k) where
 
   turned-down : {f : Refusal} {q : ℕ} → Wrong s p k f q → verdict s ≡ turnedDown f q
   unfolding atEnd
-  turned-down (missing e) = passed ∙ judged-refused _ s p k e
-  turned-down (faulty {c = c} {next = next} e f) = passed ∙ judged-found _ s p k e ∙ stops-at-fault _ s p k c next f
+  turned-down (missing x) = passed ∙ judged-refused _ s p k (is-refused-there s p x)
+  turned-down (faulty {c = c} {next = next} e f) = passed ∙ judged-found _ s p k e ∙ stops-at-fault _ s p k c next (is-fault k c f)
   turned-down (followed {next = next} e f h) =
       passed ∙ judged-found _ s p k e ∙ stops-at-end _ s p k END next f refl ∙ ap (λ (b : Bool). atEnd b next) (lt-ltb next (length s) h)
 

@@ -1,13 +1,13 @@
 -- Where the words and blocks of an accepted sheet stand: the words first, five bytes each, then the blocks, 37 bytes each.
 use Prim.Native.Nat.{ℕ, zero, suc, _+_, _*_, _<_, _≤_}
-use mathlib.Core.Path.{_≡_, refl, sym, _∙_, ap}
-use mathlib.Core.Bool.{true, false, false≢true}
+use mathlib.Core.Path.{_≡_, refl, _∙_, ap}
+use mathlib.Core.Bool.{true, false≢true}
 use mathlib.Core.List.{List, [], _∷_, _++_}
 use native.Mathlib.Omega.{arith}
 use lib.ListN.{length, getD}
 use Rattle.model.specs.Command.{Block, Command, WORD, BLOCK, TASK, RELEASE, END, LOAD, ADD, READ, PAIR, SWAP, BEGIN, access, COMMIT, bigEndian, found, commandAt}
 use Rattle.model.specs.Fault.{Known}
-use Rattle.model.specs.Sheet.{Sheet, Declared, after, declare, declared, verdict, accepted, sheetOf}
+use Rattle.model.specs.Sheet.{Sheet, Declared, after, declared, verdict, accepted, sheetOf}
 use Rattle.sheet.specs.Stages.{valuesFrom}
 use Rattle.sheet.specs.Places.{ofBody, commandsAt}
 use Rattle.sheet.specs.WellFormed.{Stand, nothing, first, Faultless, unread, good, WellFormed}

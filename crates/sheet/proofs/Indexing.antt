@@ -1,59 +1,30 @@
 -- The index of an accepted sheet, command by command: what it has counted, and what the commands to come declare.
-use Prim.Native.Nat.{ℕ, zero, suc, _+_, _-_, _<_, _≤_}
+use Prim.Native.Nat.{ℕ, _+_, _<_, _≤_}
 use mathlib.Core.Path.{_≡_, refl, sym, _∙_, ap, subst}
 use mathlib.Core.Bool.{Bool, true, false, false≢true}
 use mathlib.Core.List.{List, [], _∷_, _++_}
 use native.Mathlib.Omega.{arith}
-use native.Mathlib.Numerals.{add-one}
-use borrow.Author.Tests.{eqb-true, eqb-false, ltb-true, eq-eqb, ne-eqb}
-use lib.Dec.{eqb, ltb}
-use lib.ListN.{length, getD, set, drop, length-drop, length-set}
-use lib.Seq.{drop-cons, getD-set-same, getD-set-other}
+use borrow.Author.Tests.{eqb-true, eqb-false, ltb-true}
+use lib.Dec.{eqb}
+use lib.ListN.{length, getD, set, length-set}
+use lib.Seq.{getD-set-same, getD-set-other}
 use Rattle.model.specs.Refusal.{Refusal}
-use Rattle.model.specs.Command.{Block, Release, Command, WORD, BLOCK, TASK, RELEASE, END, LOAD, ADD, READ, PAIR, SWAP, BEGIN, access, COMMIT, Found, found, refused, commandAt}
+use Rattle.model.specs.Command.{Block, Release, Command, WORD, BLOCK, TASK, RELEASE, END, LOAD, ADD, READ, PAIR, SWAP, BEGIN, access, COMMIT, found, refused, commandAt}
 use Rattle.model.specs.Fault.{Counts, Known, nothingKnown, underCeiling}
 use Rattle.model.specs.Sheet as M
-use Rattle.model.specs.Sheet.{Declared, after, oneCommand, declare, declared, verdict, accepted, sheetOf}
+use Rattle.model.specs.Sheet.{Declared, after, oneCommand, declared, verdict, accepted, sheetOf}
 use Rattle.sheet.specs.Places.{ofBody, declaredAt, bodyAt, releasesAt, commandsAt}
 use Rattle.sheet.specs.WellFormed.{Stand, nothing, first, Faultless, unread, good, WellFormed}
-use Rattle.sheet.specs.Indexed.{Indexed, index, emptyIndex, placeOr, counted, Room}
-use Rattle.sheet.specs.View.{viewCommand}
-use Rattle.sheet.specs.declared.commands.Command as coding
-use Rattle.sheet.specs.declared.commands.Command.the-variants as coded
+use Rattle.sheet.specs.Indexed.{OnlyReleases, ReleasesStand, Indexed, emptyIndex, placeOr, counted, Room}
 use Rattle.sheet.specs.declared.index.Sheet.{Sheet}
 use Rattle.sheet.proofs.Decoding.{past-the-end, cases}
 use Rattle.sheet.proofs.Accepted.{accepted-when-well-formed}
 use Rattle.sheet.proofs.Faults.{keeps}
 use Rattle.sheet.proofs.Reading.{next-after}
+use Rattle.sheet.proofs.Passing.{Passed, passed-all, passed-here, passed-one, none-passed}
 use Rattle.sheet.proofs.Places.{declared-is, commands-found, commands-refused, commands-stand}
-use Rattle.sheet.proofs.Sections.{Kind, isWord, isBlock, isTask, isRelease, isBody, kind}
+use Rattle.sheet.proofs.Sections.{rank, Kind, isWord, isBlock, isTask, isRelease, isBody, kind}
 use Rattle.sheet.proofs.Declared.{whole, whole-body, whole-sheet}
-
--- A LIST PASSED ONE BY ONE
--- n are passed, and these are to come
-pub record Passed {A : Type 0} (all : List A) (n : ℕ) (rest : List A) : Type 0 where
-  pub within : n ≤ length all
-  pub left : drop n all ≡ rest
-
-passed-all : {A : Type 0} {all : List A} {n : ℕ} → Passed all n [] → n ≡ length all
-passed-all {all = all} {n = n} p = omega (arith, p .within, length-drop n all, ap length (p .left))
-
-module _ {A : Type 0} {all rest : List A} {n : ℕ} where
-  module _ {v : A} (p : Passed all n (v ∷ rest)) where
-    less : n < length all
-    less = omega (arith, p .within, length-drop n all, ap length (p .left))
-
-    passed-here : (d : A) → getD all n d ≡ v
-    passed-here d =
-        let split : drop n all ≡ getD all n d ∷ drop (suc n) all = drop-cons all n d less in
-        let e : drop n all ≡ v ∷ rest = p .left in
-        cc
-
-    passed-one : Passed all (n + 1) rest
-    passed-one =
-        let split : drop n all ≡ getD all n v ∷ drop (suc n) all = drop-cons all n v less in
-        let e : drop n all ≡ v ∷ rest = p .left in
-        record { within = omega (arith, less); left = rw add-one (cc) }
 
 -- WHAT IS COUNTED
 pub record Left (all : M.Sheet) (x : Sheet) (rest : M.Sheet) : Type 0 where
@@ -81,15 +52,12 @@ pub record Going (s : List ℕ) (x : Sheet) (at : ℕ) : Type 0 where
   pub match : Match x (known .counts)
   pub full : length (x .bodies) ≡ 8
   pub bodies : (p : ℕ) → p < x .tasks → getD (sheetOf s .bodies) p [] ≡ bodyAt s (getD (x .bodies) p 0)
-  pub released : 0 < x .releases → sheetOf s .releases ≡ releasesAt s (x .released)
+  pub released : 0 < x .releases → ReleasesStand s (x .released)
 
 -- the index at a place, or at the sheet's end
 pub data Walk (s : List ℕ) (x : Sheet) : ℕ → Type 0 where
   going : {at : ℕ} → Going s x at → Walk s x at
   over : Indexed s x → Walk s x (length s)
-
-none-passed : {A : Type 0} (all rest : List A) → all ≡ rest → Passed all 0 rest
-none-passed all rest e = record { within = omega arith; left = e }
 
 pub begin : (s : List ℕ) (x : Sheet) → x ≡ emptyIndex → verdict s ≡ accepted → Walk s x 0
 begin s x is e =
@@ -124,12 +92,29 @@ rest-declared {s} {at} {place} {l} r last =
     let end : commandsAt s place ≡ END ∷ [] = commands-found s place last ∙ ap (λ (q : List Command). END ∷ q) (commands-refused s (length s) (past-the-end s (length s) (omega arith))) in
     declared-is s at ∙ ap declared (commands-stand r ∙ ap (λ (q : List Command). l ++ q) end)
 
+rest-commands : {s : List ℕ} {at place : ℕ} {l : List Command} → Stand s at l place → commandAt s place ≡ found END (length s) → commandsAt s at ≡ l ++ (END ∷ [])
+rest-commands {s} {at} {place} {l} r last =
+    commands-stand r ∙ ap (λ (q : List Command). l ++ q) (commands-found s place last ∙ ap (λ (q : List Command). END ∷ q) (commands-refused s (length s) (past-the-end s (length s) (omega arith))))
+
+-- after a release only releases come
+only-by : (k : Known) (l : List Command) (c : Command) → Kind k c → rank (k .section) ≡ 3 → (rank (after k c .section) ≡ 3 → OnlyReleases (l ++ (END ∷ []))) → OnlyReleases (c ∷ l ++ (END ∷ []))
+unfolding after
+only-by k l c (isWord e) h go = absurd (omega arith)
+only-by k l c (isBlock e) h go = absurd (omega arith)
+only-by k l c (isTask e) h go = absurd (omega arith)
+only-by k l c (isRelease e) h go = go refl
+only-by k l c (isBody b e) h go = absurd (omega arith)
+
+only-releases : {k m : Known} {l : List Command} → Faultless k l m → rank (k .section) ≡ 3 → OnlyReleases (l ++ (END ∷ []))
+only-releases unread h = refl
+only-releases {k} (good {c = c} {l = l} f e r) h = only-by k l c (kind k c (keeps k c f .place) e) h (only-releases r)
+
 -- the place of the first release is that of all of them
 first-release :
-    (s : List ℕ) (at n q : ℕ) (rest : List Release) → Passed (sheetOf s .releases) n rest → rest ≡ releasesAt s at
-    → (0 < n → sheetOf s .releases ≡ releasesAt s q) → (b : Bool) → eqb n 0 ≡ b → sheetOf s .releases ≡ releasesAt s (placeOr b at q)
-first-release s at n q rest p e before true h = (rw (eqb-true n 0 h) at (p .left)) ∙ e
-first-release s at n q rest p e before false h = before (omega (arith, eqb-false n 0 h))
+    (s : List ℕ) (at n q : ℕ) (rest : List Release) → Passed (sheetOf s .releases) n rest → rest ≡ releasesAt s at → OnlyReleases (commandsAt s at)
+    → (0 < n → ReleasesStand s q) → (b : Bool) → eqb n 0 ≡ b → ReleasesStand s (placeOr b at q)
+first-release s at n q rest p e only before true h = record { all = (rw (eqb-true n 0 h) at (p .left)) ∙ e; only = only }
+first-release s at n q rest p e only before false h = before (omega (arith, eqb-false n 0 h))
 
 -- A BODY COMMAND
 module _ (k : Known) (x : Sheet) (at next : ℕ) where
@@ -174,7 +159,7 @@ module _
     (s : List ℕ) (x : Sheet) (at : ℕ) (k m : Known) (place : ℕ)
     (last : commandAt s place ≡ found END (length s)) (match : Match x (k .counts)) (full : length (x .bodies) ≡ 8)
     (bodies : (p : ℕ) → p < x .tasks → getD (sheetOf s .bodies) p [] ≡ bodyAt s (getD (x .bodies) p 0))
-    (released : 0 < x .releases → sheetOf s .releases ≡ releasesAt s (x .released)) where
+    (released : 0 < x .releases → ReleasesStand s (x .released)) where
   ended : commandAt s at ≡ found END (length s) → Left (sheetOf s) x (whole []) → Indexed s (counted x END at (length s))
   unfolding counted declared
   ended e left =
@@ -184,7 +169,7 @@ module _
         tasks = passed-all (left .bodies);
         releases = passed-all (left .releases);
         bodies = bodies;
-        released = first-release s at (x .releases) (x .released) [] (left .releases) (sym (ap (λ (d : Declared). d .sheet .releases) (rest-declared nothing e))) released (eqb (x .releases) 0) refl;
+        released = first-release s at (x .releases) (x .released) [] (left .releases) (sym (ap (λ (d : Declared). d .sheet .releases) (rest-declared nothing e))) (subst OnlyReleases (sym (rest-commands nothing e)) refl) released (eqb (x .releases) 0) refl;
       }
 
   module _ (l : List Command) (next : ℕ) (stand : Stand s next l place) where
@@ -269,7 +254,7 @@ module _
           match = record { words = match .words; blocks = match .blocks; tasks = match .tasks; releases = omega (arith, match .releases) };
           full = full;
           bodies = bodies;
-          released = λ h. first-release s at (x .releases) (x .released) _ (left .releases) (sym (ap (λ (d : Declared). d .sheet .releases) (rest-declared (first e stand) last))) released (eqb (x .releases) 0) refl;
+          released = λ h. first-release s at (x .releases) (x .released) _ (left .releases) (sym (ap (λ (d : Declared). d .sheet .releases) (rest-declared (first e stand) last))) (subst OnlyReleases (sym (rest-commands (first e stand) last)) (only-releases faultless refl)) released (eqb (x .releases) 0) refl;
         }
 
     one-of-body : (c : Command) → ofBody c ≡ true → More c
@@ -309,7 +294,7 @@ here-by :
     (s : List ℕ) (x : Sheet) {at place : ℕ} {k m : Known} {rest : List Command} → Stand s at rest place → Faultless k rest m
     → commandAt s place ≡ found END (length s) → Left (sheetOf s) x (whole rest) → Match x (k .counts) → length (x .bodies) ≡ 8
     → ((p : ℕ) → p < x .tasks → getD (sheetOf s .bodies) p [] ≡ bodyAt s (getD (x .bodies) p 0))
-    → (0 < x .releases → sheetOf s .releases ≡ releasesAt s (x .released)) → Here s x at
+    → (0 < x .releases → ReleasesStand s (x .released)) → Here s x at
 here-by s x {at} {k = k} {m = m} nothing unread last left match full bodies released =
     record {
       command = END;
@@ -355,36 +340,3 @@ module _ {s : List ℕ} {x : Sheet} {at : ℕ} (h : Here s x at) where
       let a : commandAt s at ≡ found (h .command) (h .next) = h .found-here in
       let z : _≡_ {A = ℕ} 0 1 = cc in
       absurd (omega arith)
-
--- the values beside a BLOCK play no part
-module _ (vs : List ℕ) (x : Sheet) where
-  pub room-values : (c : coding.Command) → Room x (viewCommand vs c) → Room x (viewCommand [] c)
-  room-values (coded.Word v) h = h
-  room-values (coded.Block v) h = h
-  room-values coded.Task h = h
-  room-values (coded.Release r) h = h
-  room-values coded.End h = h
-  room-values (coded.Load r v) h = h
-  room-values (coded.Add r q) h = h
-  room-values (coded.Read r w) h = h
-  room-values (coded.Pair w o n) h = h
-  room-values (coded.Swap r) h = h
-  room-values coded.Begin h = h
-  room-values (coded.Access a) h = h
-  room-values coded.Commit h = h
-
-  pub counted-values : (c : coding.Command) (at next : ℕ) → counted x (viewCommand vs c) at next ≡ counted x (viewCommand [] c) at next
-  unfolding counted
-  counted-values (coded.Word v) at next = refl
-  counted-values (coded.Block v) at next = refl
-  counted-values coded.Task at next = refl
-  counted-values (coded.Release r) at next = refl
-  counted-values coded.End at next = refl
-  counted-values (coded.Load r v) at next = refl
-  counted-values (coded.Add r q) at next = refl
-  counted-values (coded.Read r w) at next = refl
-  counted-values (coded.Pair w o n) at next = refl
-  counted-values (coded.Swap r) at next = refl
-  counted-values coded.Begin at next = refl
-  counted-values (coded.Access a) at next = refl
-  counted-values coded.Commit at next = refl

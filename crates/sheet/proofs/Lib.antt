@@ -1,4 +1,5 @@
 pub mod Decoding
+pub mod Gaps
 pub mod Membership
 pub mod Faults
 pub mod Reading
@@ -7,4 +8,5 @@ pub mod Accepted
 pub mod Places
 pub mod Sections
 pub mod Declared
+pub mod Passing
 pub mod Indexing

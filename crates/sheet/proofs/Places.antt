@@ -1,13 +1,13 @@
 -- The commands from a place on are the command there and those from the next place on; so are a body's commands and the releases.
 use Prim.Native.Nat.{ℕ, zero, suc, _+_, _<_, _≤_}
 use mathlib.Core.Path.{_≡_, refl, sym, _∙_, ap}
-use mathlib.Core.Bool.{Bool, true, false, false≢true}
+use mathlib.Core.Bool.{true, false, false≢true}
 use mathlib.Core.List.{List, [], _∷_, _++_}
 use native.Mathlib.Omega.{arith}
 use lib.ListN.{length}
 use Rattle.model.specs.Refusal.{Refusal}
 use Rattle.model.specs.Command.{Command, WORD, BLOCK, TASK, RELEASE, END, LOAD, ADD, READ, PAIR, SWAP, BEGIN, access, COMMIT, Release, Found, found, refused, commandAt}
-use Rattle.model.specs.Sheet.{Sheet, listed, commandsFrom, Declared, declares, inOpenBody, declare, declared, sheetOf}
+use Rattle.model.specs.Sheet.{listed, commandsFrom, Declared, declares, inOpenBody, declare, declared, sheetOf}
 use Rattle.sheet.specs.Places.{commandsAt, declaredAt, bodyAt, releasesAt, ofBody}
 use Rattle.sheet.specs.WellFormed.{Stand, nothing, first}
 use Rattle.sheet.proofs.Decoding.{past-the-end}

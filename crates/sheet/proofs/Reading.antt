@@ -1,5 +1,5 @@
 -- The reading of a sheet from a place on, and what each outcome there says of the whole sheet's verdict.
-use Prim.Native.Nat.{ℕ, zero, suc, _+_, _-_, _<_, _≤_}
+use Prim.Native.Nat.{ℕ, zero, suc, _+_, _<_, _≤_}
 use mathlib.Core.Path.{_≡_, refl, sym, _∙_, ap}
 use mathlib.Core.Bool.{Bool, true, false}
 use mathlib.Core.List.{List, []}
@@ -9,9 +9,9 @@ use borrow.Author.Tests.{leb-true}
 use lib.Dec.{ltb, leb}
 use lib.ListN.{length, getD}
 use Rattle.model.specs.Refusal.{Refusal, cutShort}
-use Rattle.model.specs.Command.{Command, Row, rowOf, table, total, Found, found, refused, foundWhole, foundRow, foundByte, commandAt}
+use Rattle.model.specs.Command.{Command, Row, rowOf, table, total, found, refused, foundWhole, foundRow, foundByte, commandAt}
 use Rattle.model.specs.Fault.{Known, nothingKnown, faultOf}
-use Rattle.model.specs.Sheet.{Verdict, turnedDown, end?, atEnd, judgeEnd, judgeFault, judge, verdictFrom, verdict, after}
+use Rattle.model.specs.Sheet.{Verdict, turnedDown, end?, atEnd, judgeFault, judge, verdictFrom, verdict, after}
 use Rattle.model.specs.Answer.{checkedBy, checkAnswer}
 use Rattle.sheet.specs.View.{viewVerdict, checkedOf}
 use Rattle.sheet.specs.declared.check.Verdict as Answer

@@ -1,23 +1,19 @@
 -- The byte and operands of a command that is found at a place, and the sections that each command may stand in.
-use Prim.Native.Nat.{ℕ, zero, suc, _+_, _*_, _<_, _≤_}
-use mathlib.Core.Path.{_≡_, refl, sym, _∙_, ap, subst}
+use Prim.Native.Nat.{ℕ, suc, _+_, _≤_}
+use mathlib.Core.Path.{_≡_, refl, sym, _∙_, ap}
 use mathlib.Core.Bool.{Bool, true, false, _&&_, _||_, false≢true}
-use mathlib.Core.List.{List, [], _∷_, _++_}
+use mathlib.Core.List.{List, [], _∷_}
 use mathlib.Core.Option.{Option, none, some}
 use native.Mathlib.Omega.{arith}
 use borrow.Author.Tests.{eqb-true}
 use lib.Dec.{eqb, ltb, leb}
 use lib.ListN.{length, getD}
-use Rattle.model.specs.Refusal.{Refusal, noCommand}
-use Rattle.model.specs.Command.{Block, Release, Command, GET, PUT, WORD, BLOCK, TASK, RELEASE, END, LOAD, ADD, READ, PAIR, SWAP, BEGIN, access, COMMIT, Row, table, rowBy, rowOf, total, operand, bigEndian, Found, found, refused, foundWhole, foundRow, foundByte, commandAt}
-use Rattle.model.specs.Fault.{Section, wordSection, blockSection, bodySection, releaseSection, words?, blocks?, body?, releases?, Known, inPlace, faultOf}
-use Rattle.model.specs.Sheet.{end?, after, declare, declared}
+use Rattle.model.specs.Command.{Block, Release, Command, GET, PUT, WORD, BLOCK, TASK, RELEASE, END, LOAD, ADD, READ, PAIR, SWAP, BEGIN, access, COMMIT, Row, table, rowBy, rowOf, total, operand, bigEndian, found, foundWhole, foundRow, foundByte, commandAt}
+use Rattle.model.specs.Fault.{Section, wordSection, blockSection, bodySection, releaseSection, words?, blocks?, body?, releases?, Known, inPlace}
+use Rattle.model.specs.Sheet.{end?}
 use Rattle.sheet.specs.Stages.{valuesFrom, rowFrom, operandsOf}
 use Rattle.sheet.specs.Places.{ofBody}
-use Rattle.sheet.specs.WellFormed.{Stand, nothing, first, Faultless, unread, good}
 use Rattle.sheet.proofs.Decoding.{word-operands, block-operands}
-use Rattle.sheet.proofs.Faults.{keeps}
-use Rattle.sheet.proofs.Places.{declared-cons, declare-body}
 
 -- THE BYTE OF A COMMAND
 abbrev pub byteOf : Command → ℕ

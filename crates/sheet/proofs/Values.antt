@@ -1,14 +1,18 @@
 -- The values that lie beside a BLOCK play no part in the rules, in what is known after a command, and in the end of the reading.
 use Prim.Native.Nat.{ℕ}
 use mathlib.Core.Path.{_≡_, refl, sym, _∙_, ap, subst}
-use mathlib.Core.Bool.{Bool, true, false}
+use mathlib.Core.Bool.{Bool, true, false, false≢true}
 use mathlib.Core.Option.{Option, none, some}
-use mathlib.Core.List.{List, []}
+use mathlib.Core.List.{List, [], _∷_}
 use Rattle.model.specs.Fault.{Known, faultOf}
 use Rattle.model.specs.Refusal.{Refusal}
 use Rattle.model.specs.Command.{found, commandAt}
 use Rattle.model.specs.Command as M
 use Rattle.model.specs.Sheet.{Verdict, after, end?, judgeEnd, judgeFault, verdict}
+use Rattle.sheet.specs.Places.{ofBody, bodyAt}
+use Rattle.sheet.specs.Indexed.{counted, Room}
+use Rattle.sheet.specs.declared.index.Sheet.{Sheet}
+use Rattle.sheet.proofs.Places.{body-found, body-over}
 use Rattle.sheet.proofs.Reading.{Reached, is-judged, next-reached}
 use Rattle.sheet.specs.View.{viewCommand}
 use Rattle.sheet.specs.declared.commands.Command.{Command}
@@ -90,3 +94,76 @@ module _ (s : List ℕ) (at : ℕ) (k : Known) (r : Reached s at k) (vs : List �
   went-on {q} says is =
       subst (λ (q : Known). Reached s next q) (after-values vs k c ∙ sym is)
       (next-reached s at k r e (fault-values vs k c ∙ says .0) (end-values vs c ∙ says .1))
+
+-- THE INDEX
+module _ (vs : List ℕ) (x : Sheet) where
+  pub room-values : (c : Command) → Room x (viewCommand vs c) → Room x (viewCommand [] c)
+  room-values (Word v) h = h
+  room-values (Block v) h = h
+  room-values Task h = h
+  room-values (Release r) h = h
+  room-values End h = h
+  room-values (Load r v) h = h
+  room-values (Add r q) h = h
+  room-values (Read r w) h = h
+  room-values (Pair w o n) h = h
+  room-values (Swap r) h = h
+  room-values Begin h = h
+  room-values (Access a) h = h
+  room-values Commit h = h
+
+  pub counted-values : (c : Command) (at next : ℕ) → counted x (viewCommand vs c) at next ≡ counted x (viewCommand [] c) at next
+  unfolding counted
+  counted-values (Word v) at next = refl
+  counted-values (Block v) at next = refl
+  counted-values Task at next = refl
+  counted-values (Release r) at next = refl
+  counted-values End at next = refl
+  counted-values (Load r v) at next = refl
+  counted-values (Add r q) at next = refl
+  counted-values (Read r w) at next = refl
+  counted-values (Pair w o n) at next = refl
+  counted-values (Swap r) at next = refl
+  counted-values Begin at next = refl
+  counted-values (Access a) at next = refl
+  counted-values Commit at next = refl
+
+-- A BODY
+-- only a BLOCK has values beside it, and it stands in no body
+of-body-values : (vs : List ℕ) (c : Command) → ofBody (viewCommand vs c) ≡ ofBody (viewCommand [] c)
+of-body-values vs (Word v) = refl
+of-body-values vs (Block v) = refl
+of-body-values vs Task = refl
+of-body-values vs (Release r) = refl
+of-body-values vs End = refl
+of-body-values vs (Load r v) = refl
+of-body-values vs (Add r q) = refl
+of-body-values vs (Read r w) = refl
+of-body-values vs (Pair w o n) = refl
+of-body-values vs (Swap r) = refl
+of-body-values vs Begin = refl
+of-body-values vs (Access a) = refl
+of-body-values vs Commit = refl
+
+body-values : (vs : List ℕ) (c : Command) → ofBody (viewCommand [] c) ≡ true → viewCommand vs c ≡ viewCommand [] c
+body-values vs (Word v) e = refl
+body-values vs (Block v) e = absurd (false≢true e)
+body-values vs Task e = refl
+body-values vs (Release r) e = refl
+body-values vs End e = refl
+body-values vs (Load r v) e = refl
+body-values vs (Add r q) e = refl
+body-values vs (Read r w) e = refl
+body-values vs (Pair w o n) e = refl
+body-values vs (Swap r) e = refl
+body-values vs Begin e = refl
+body-values vs (Access a) e = refl
+body-values vs Commit e = refl
+
+-- the command that is decoded at a place is the first of the body's rest, or ends the body
+module _ (s : List ℕ) (p : ℕ) (vs : List ℕ) (c : Command) {next : ℕ} (e : commandAt s p ≡ found (viewCommand vs c) next) where
+  pub body-goes-on : ofBody (viewCommand [] c) ≡ true → bodyAt s p ≡ viewCommand [] c ∷ bodyAt s next
+  body-goes-on b = body-found s p e (of-body-values vs c ∙ b) ∙ ap (λ (d : M.Command). d ∷ bodyAt s next) (body-values vs c b)
+
+  pub body-ends : ofBody (viewCommand [] c) ≡ false → bodyAt s p ≡ []
+  body-ends b = body-over s p e (of-body-values vs c ∙ b)

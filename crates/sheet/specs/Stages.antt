@@ -6,9 +6,9 @@ use mathlib.Core.Bool.{Bool, true, false}
 use mathlib.Core.List.{List, [], _∷_}
 use mathlib.Core.Option.{Option, none, some}
 use lib.Dec.{ltb, leb}
-use lib.ListN.{length, getD, replicate}
+use lib.ListN.{length, getD}
 use Rattle.model.specs.Refusal.{noCommand}
-use Rattle.model.specs.Command.{Command, Block, blockOf, Row, table, rowOf, total, operand, Found, found, refused, commandAt}
+use Rattle.model.specs.Command.{Command, blockOf, Row, table, rowOf, total, operand, Found, found, refused, commandAt}
 use Rattle.model.specs.Fault.{Known, faultOf}
 use Rattle.model.specs.Sheet.{Verdict, end?, judgeFault}
 use Rattle.sheet.specs.View.{viewRefusal, viewVerdict}
@@ -55,6 +55,9 @@ entries =
     ∷ entry 0x22 3
     ∷ entry 0x23 0
     ∷ []
+
+abbrev pub byteAt : ℕ → ℕ
+byteAt i = getD entries i (entry 0 0) .byte
 
 abbrev pub widthAt : ℕ → ℕ
 widthAt i = getD entries i (entry 0 0) .width

@@ -118,7 +118,7 @@ fn first_place(x: Sheet, at: usize) -> usize
 }
 
 // The index of an accepted sheet, in one pass.
-pub fn index_of(sheet: &[u8]) -> Sheet
+pub fn index(sheet: &[u8]) -> Sheet
     requires { ⌜ verdict (now sheet) ≡ accepted ⌝ }
     ensures { λ r. ⌜ Indexed (now (sheet .entry)) r ⌝ }
 {

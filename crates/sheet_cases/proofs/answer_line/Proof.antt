@@ -1,7 +1,6 @@
 -- `answer_line` is safe and ends.
 use native.Mathlib.Omega.{arith}
-use lib.ListN.{length-take, length-set}
-use mathlib.Core.Path.{_≡_}
+use lib.ListN.{length-take}
 use borrow.Author.Needs.{needs}
 use Rattle.sheet_cases.proofs.answer_line.Statement.{statement}
 use Rattle.sheet_cases.proofs.answer_line.Tie as tie

@@ -1,8 +1,7 @@
 -- `answer_starts` is safe and ends.
 use native.Mathlib.Omega.{arith}
-use lib.ListN.{length-take, length-set}
-use mathlib.Core.Path.{_≡_}
-use Prim.Native.Nat.{_+_, _-_, _≤_}
+use lib.ListN.{length-take}
+use Prim.Native.Nat.{_-_, _≤_}
 use lib.ListN.{length}
 use borrow.Author.Needs.{needs}
 use Rattle.sheet_cases.proofs.answer_starts.Statement.{statement}

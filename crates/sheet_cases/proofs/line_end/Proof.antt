@@ -1,5 +1,5 @@
 -- `line_end` meets its contract.
-use Prim.Native.Nat.{_+_, _-_, _≤_}
+use Prim.Native.Nat.{_-_, _≤_}
 use lib.ListN.{length}
 use borrow.Author.Needs.{needs}
 use Rattle.sheet_cases.proofs.line_end.Statement.{statement}

@@ -1,8 +1,8 @@
 -- `parse` meets its contract.
 use native.Mathlib.Omega.{arith}
-use lib.ListN.{length-take, length-set}
+use lib.ListN.{length-set}
 use mathlib.Core.Path.{_≡_}
-use Prim.Native.Nat.{_+_, _-_, _≤_}
+use Prim.Native.Nat.{_-_, _≤_}
 use lib.ListN.{length}
 use borrow.Author.Needs.{needs}
 use Rattle.sheet_cases.proofs.parse.Statement.{statement}

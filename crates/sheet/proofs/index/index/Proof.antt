@@ -1,16 +1,17 @@
--- `index_of` meets its contract. The loop's invariant: the index is right so far, and the commands to come declare what is left.
+-- `index` meets its contract. The loop's invariant: the index is right so far, and the commands to come declare what is left.
 use Prim.Native.Nat.{_-_, suc}
 use Rattle.model.specs.Command.{commandAt, found}
-use Rattle.sheet.proofs.Indexing.{Walk, begin, counted-values, finished, here, is-found, not-refused, room-values}
+use Rattle.sheet.proofs.Indexing.{Walk, begin, finished, here, is-found, not-refused}
 use Rattle.sheet.proofs.Reading.{next-after}
+use Rattle.sheet.proofs.Values.{counted-values, room-values}
 use Rattle.sheet.specs.Stages.{valuesFrom}
 use Rattle.sheet.specs.declared.commands.Decoded.the-variants.{Refused}
 use borrow.Author.Needs.{needs}
 use lib.ListN.{length}
 use mathlib.Core.Path.{_≡_, sym}
 use native.Mathlib.Omega.{arith}
-use Rattle.sheet.proofs.index.index_of.Statement.{statement}
-use Rattle.sheet.proofs.index.index_of.Tie as tie
+use Rattle.sheet.proofs.index.index.Statement.{statement}
+use Rattle.sheet.proofs.index.index.Tie as tie
 
 abbrev Inv-loop : tie.InvT-loop
 Inv-loop sheet x₀ at₀ x at = Walk sheet x at
@@ -53,8 +54,8 @@ loop-again c = let vs = valuesFrom (c .before .before .before .before .before .b
 returns-2 : tie.Need-returns-2 Inv-loop μ-loop
 returns-2 c = finished (c .before .loop .inv) (c .loop-test .left)
 
-pub index-of-spec : {M : Type 1} → statement M
-index-of-spec =
+pub index-spec : {M : Type 1} → statement M
+index-spec =
     tie.close
     (tie.spec
     Inv-loop
