@@ -80,7 +80,9 @@ rowBy false r other = other
 unfoldable pub rowOf : ℕ → List Row → Option Row
 unfolding rowBy
 rowOf b [] = none
-rowOf b (r ∷ l) = rowBy (eqb b (r .byte)) r (rowOf b l)
+rowOf b (r ∷ l) =
+    let other : Option Row = rowOf b l in
+    rowBy (eqb b (r .byte)) r other
 
 -- how many bytes all operands take
 unfoldable pub total : List ℕ → ℕ

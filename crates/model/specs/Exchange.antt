@@ -65,7 +65,6 @@ noted x w o s = record { entries = replace (x .entries) (x .i) (loaded (entryAt 
 abbrev pub onward : Exchange → Step → Exchange
 onward x s = record { entries = x .entries; i = suc (x .i); step = s }
 
--- at i = k or status 1 go to Commit
 unfoldable pub testBy : Bool → Memory → Exchange → Exchanged
 testBy true m x = goes m (to x commit)
 testBy false m x = goes m (to x load)
@@ -116,15 +115,27 @@ cleanWordBy false false false p m x e j yes? = next m x j yes?
 
 unfoldable pub exchangeTick : ℕ → Memory → Exchange → Step → Exchanged
 unfolding at replace sameWord own testBy lookBy installBy commitBy cleanWordBy next
+-- Start: status of p becomes 0, i = 0
 exchangeTick p m x start = goes (setStatus m p 0) (record { entries = x .entries; i = 0; step = test })
+-- Test: at i = k or status 1 go to Commit
 exchangeTick p m x test = testBy (eqb (x .i) (length (x .entries)) || eqb (statusOf m p) 1) m x
+-- Load word i as init
 exchangeTick p m x load = goes m (noted x (cellOf m (entryAt x (x .i) .cell)) false look)
+-- Look: find whether its own value counts
 exchangeTick p m x look = lookBy (own (m .status) (entryAt x (x .i) .init)) m x (entryAt x (x .i))
+-- Fetch the save place if not
 exchangeTick p m x fetch = goes m (to x (save (saved (m .saves) (entryAt x (x .i) .init .task) (entryAt x (x .i) .init .count))))
+-- Save: the value found goes to save place i of p; Fail if it isn't old; Mark only if overlapped and old is not new
 exchangeTick p m x (save v) = goes (setSave m p (x .i) v) (to x (afterSave (eqb v (entryAt x (x .i) .old)) (entryAt x (x .i) .overlapped && changing (entryAt x (x .i)))))
+-- Fail sets p's status to 1
 exchangeTick p m x fail = goes (setStatus m p 1) (to x test)
+-- Mark: init's task gets status 1
 exchangeTick p m x mark = goes (setStatus m (entryAt x (x .i) .init .task) 1) (to x install)
+-- Install: if the word is still init in all four fields, it becomes (new, i, not valid, p); if not, Fail
 exchangeTick p m x install = installBy (sameWord (cellOf m (entryAt x (x .i) .cell)) (entryAt x (x .i) .init)) p m x (entryAt x (x .i))
+-- Commit: status 0 becomes 2, answer yes; else no
 exchangeTick p m x commit = commitBy (eqb (statusOf m p) 0) p m x
+-- Clean word j: on yes with old not new as new; else init again, and where it isn't as installed and was overlapped, Mark
 exchangeTick p m x (clean j yes?) = cleanWordBy (yes? && changing (entryAt x j)) (sameWord (cellOf m (entryAt x j .cell)) (installed p (entryAt x j) j)) (entryAt x j .overlapped) p m x (entryAt x j) j yes?
+-- Mark init's task, in one more tick
 exchangeTick p m x (cleanMark j yes?) = next (setStatus m (entryAt x j .init .task) 1) x j yes?

@@ -11,3 +11,6 @@ pub mod Transaction
 pub mod Machine
 pub mod Report
 pub mod Answer
+pub mod Plain
+pub mod History
+pub mod Claim

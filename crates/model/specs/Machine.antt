@@ -130,7 +130,9 @@ arriveBy false go r l m = toCome m (r ∷ l)
 unfoldable pub arrive : List Release → Machine → Machine
 unfolding arriveBy
 arrive [] m = toCome m []
-arrive (r ∷ l) m = arriveBy (eqb (r .tick) (m .now)) (arrive l) r l m
+arrive (r ∷ l) m =
+    let go : Machine → Machine = arrive l in
+    arriveBy (eqb (r .tick) (m .now)) go r l m
 
 abbrev pub afterTurn : Machine → ℕ → Turn → Machine
 afterTurn m p u = machine (u .memory) (replace (m .tasks) p (ticked (u .task))) (m .releases) (suc (m .now)) (m .dropped)
@@ -171,7 +173,9 @@ runBy false go m = go (tick m)
 unfoldable pub run : ℕ → Machine → Machine
 unfolding runBy over
 run zero m = m
-run (suc n) m = runBy (over m) (run n) m
+run (suc n) m =
+    let go : Machine → Machine = run n in
+    runBy (over m) go m
 
 -- THE START
 unfoldable pub filled : {A : Type 0} → ℕ → A → List A → List A

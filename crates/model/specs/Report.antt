@@ -19,7 +19,9 @@ digitsBy false go v follow = go (v / 10) ((0x30 + v % 10) ∷ follow)
 unfoldable pub digits : ℕ → ℕ → List ℕ → List ℕ
 unfolding digitsBy
 digits zero v follow = follow
-digits (suc n) v follow = digitsBy (ltb v 10) (digits n) v follow
+digits (suc n) v follow =
+    let go : ℕ → List ℕ → List ℕ = digits n in
+    digitsBy (ltb v 10) go v follow
 
 -- no number of a report has more than ten digits
 abbrev pub decimal : ℕ → List ℕ

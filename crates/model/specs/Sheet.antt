@@ -107,7 +107,9 @@ judge go sheet place k (found c next) = judgeFault go sheet place k c next (faul
 unfoldable pub verdictFrom : ℕ → List ℕ → ℕ → Known → Verdict
 unfolding judge commandAt
 verdictFrom zero sheet place k = turnedDown cutShort (length sheet)
-verdictFrom (suc n) sheet place k = judge (verdictFrom n sheet) sheet place k (commandAt sheet place)
+verdictFrom (suc n) sheet place k =
+    let go : ℕ → Known → Verdict = verdictFrom n sheet in
+    judge go sheet place k (commandAt sheet place)
 
 -- a command has a byte at least, so no sheet has more commands than bytes
 unfoldable pub verdict : List ℕ → Verdict
@@ -123,7 +125,9 @@ listed go (found c next) = c ∷ go next
 unfoldable pub commandsFrom : ℕ → List ℕ → ℕ → List Command
 unfolding listed commandAt
 commandsFrom zero sheet place = []
-commandsFrom (suc n) sheet place = listed (commandsFrom n sheet) (commandAt sheet place)
+commandsFrom (suc n) sheet place =
+    let go : ℕ → List Command = commandsFrom n sheet in
+    listed go (commandAt sheet place)
 
 pub record Sheet : Type 0 where
   pub words : List ℕ

@@ -1,0 +1,12 @@
+pub mod Ordered
+pub mod Log
+pub mod Advance
+pub mod Account
+pub mod Steps
+pub mod Arrive
+pub mod Exchange
+pub mod Moves
+pub mod Statement
+pub mod Noted
+pub mod Linked
+pub mod Example

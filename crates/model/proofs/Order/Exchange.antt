@@ -1,0 +1,156 @@
+-- What a tick of an exchange means for its operation: the pairs stay, and it has said yes from the Commit on that turned status 0 into 2.
+use Prim.Native.Nat.{ℕ, suc}
+use mathlib.Core.Bool.{Bool, true, false, not, _&&_, _||_, true≢false}
+use mathlib.Core.Path.{_≡_, refl, sym, _∙_, ap}
+use mathlib.Core.List.{List, [], _∷_, map}
+use lib.Dec.{eqb}
+use lib.ListN.{length}
+use lib.Seq.{map-set-same}
+use Rattle.model.specs.Lists.{at, replace}
+use Rattle.model.specs.Word.{Word, fresh, sameWord, Memory, cellOf, statusOf, saved, setCell, setStatus, setSave, own}
+use Rattle.model.specs.Exchange.{Entry, entry, Step, start, test, load, look, fetch, save, fail, mark, install, commit, clean, cleanMark, Exchange, Exchanged, goes, ends, entryAt, changing, installed, cleaned, loaded, noted, testBy, lookBy, afterSave, installBy, cleanBy, commitBy, nextBy, next, cleanWordBy, exchangeTick}
+use Rattle.model.specs.Plain.{Pair}
+use Rattle.model.specs.History.{Operation, Event, nothing, amends, pairOf, stepEvent}
+use Rattle.model.specs.History.{commitBy as eventBy}
+
+-- the exchange has said yes before this step
+abbrev pub saidYes : Step → Bool
+saidYes (clean j yes?) = yes?
+saidYes (cleanMark j yes?) = yes?
+saidYes start = false
+saidYes test = false
+saidYes load = false
+saidYes look = false
+saidYes fetch = false
+saidYes fail = false
+saidYes mark = false
+saidYes install = false
+saidYes commit = false
+saidYes (save v) = false
+
+-- this step is the Commit that says yes
+abbrev pub saysYes : ℕ → Memory → Step → Bool
+saysYes p m commit = eqb (statusOf m p) 0
+saysYes p m start = false
+saysYes p m test = false
+saysYes p m load = false
+saysYes p m look = false
+saysYes p m fetch = false
+saysYes p m fail = false
+saysYes p m mark = false
+saysYes p m install = false
+saysYes p m (save v) = false
+saysYes p m (clean j yes?) = false
+saysYes p m (cleanMark j yes?) = false
+
+pub step-event : (p : ℕ) (m : Memory) (s : Step) (f : Operation → Operation) → stepEvent p m s f ≡ eventBy (saysYes p m s) f
+unfolding stepEvent eventBy
+step-event p m commit f = refl
+step-event p m start f = refl
+step-event p m test f = refl
+step-event p m load f = refl
+step-event p m look f = refl
+step-event p m fetch f = refl
+step-event p m fail f = refl
+step-event p m mark f = refl
+step-event p m install f = refl
+step-event p m (save v) f = refl
+step-event p m (clean j yes?) f = refl
+step-event p m (cleanMark j yes?) f = refl
+
+-- it says yes but once
+pub yes-once : (p : ℕ) (m : Memory) (s : Step) → saysYes p m s ≡ true → saidYes s ≡ false
+yes-once p m commit e = refl
+yes-once p m start e = refl
+yes-once p m test e = refl
+yes-once p m load e = refl
+yes-once p m look e = refl
+yes-once p m fetch e = refl
+yes-once p m fail e = refl
+yes-once p m mark e = refl
+yes-once p m install e = refl
+yes-once p m (save v) e = refl
+yes-once p m (clean j yes?) e = absurd (true≢false (sym e))
+yes-once p m (cleanMark j yes?) e = absurd (true≢false (sym e))
+
+abbrev pub pairsOf : Exchange → List Pair
+pairsOf x = map pairOf (x .entries)
+
+pub record Goes (p : ℕ) (m : Memory) (x : Exchange) (s : Step) (x′ : Exchange) : Type 0 where
+  pub pairs : pairsOf x′ ≡ pairsOf x
+  pub yes : saidYes (x′ .step) ≡ (saidYes s || saysYes p m s)
+
+abbrev pub Follows : ℕ → Memory → Exchange → Step → Exchanged → Type 0
+Follows p m x s (goes m′ x′) = Goes p m x s x′
+Follows p m x s (ends m′ yes?) = yes? ≡ (saidYes s || saysYes p m s)
+
+pairs-noted : (x : Exchange) (w : Word) (o : Bool) → map pairOf (replace (x .entries) (x .i) (loaded (entryAt x (x .i)) w o)) ≡ pairsOf x
+unfolding at replace
+pairs-noted x w o = map-set-same pairOf (x .entries) (x .i) (loaded (entryAt x (x .i)) w o) (entry 0 0 0) refl
+
+module _ (p : ℕ) (m : Memory) (x : Exchange) where
+  test-follows : (b : Bool) → Follows p m x test (testBy b m x)
+  unfolding testBy
+  test-follows true = record { pairs = refl; yes = refl }
+  test-follows false = record { pairs = refl; yes = refl }
+
+  look-follows : (b : Bool) → Follows p m x look (lookBy b m x (entryAt x (x .i)))
+  unfolding lookBy
+  look-follows true = record { pairs = pairs-noted x (entryAt x (x .i) .init) false; yes = refl }
+  look-follows false = record { pairs = pairs-noted x (entryAt x (x .i) .init) true; yes = refl }
+
+  after-save : (a b : Bool) → saidYes (afterSave a b) ≡ false
+  after-save false b = refl
+  after-save true true = refl
+  after-save true false = refl
+
+  install-follows : (b : Bool) (e : Entry) → Follows p m x install (installBy b p m x e)
+  unfolding installBy
+  install-follows true e = record { pairs = refl; yes = refl }
+  install-follows false e = record { pairs = refl; yes = refl }
+
+  clean-begins : (b yes? : Bool) (n : Memory) → saysYes p m commit ≡ yes? → Follows p m x commit (cleanBy b n x yes?)
+  unfolding cleanBy
+  clean-begins true yes? n e = sym e
+  clean-begins false yes? n e = record { pairs = refl; yes = sym e }
+
+  commit-follows : (b : Bool) → saysYes p m commit ≡ b → Follows p m x commit (commitBy b p m x)
+  unfolding commitBy
+  commit-follows true e = clean-begins (eqb (x .i) 0) true (setStatus m p 2) e
+  commit-follows false e = clean-begins (eqb (x .i) 0) false m e
+
+  or-false : (b : Bool) → b ≡ (b || false)
+  or-false true = refl
+  or-false false = refl
+
+  next-by : (b : Bool) (n : Memory) (j : ℕ) (yes? : Bool) (s : Step) → (saidYes s || saysYes p m s) ≡ yes? → Follows p m x s (nextBy b n x j yes?)
+  unfolding nextBy
+  next-by true n j yes? s e = sym e
+  next-by false n j yes? s e = record { pairs = refl; yes = sym e }
+
+  next-follows : (n : Memory) (j : ℕ) (yes? : Bool) (s : Step) → (saidYes s || saysYes p m s) ≡ yes? → Follows p m x s (next n x j yes?)
+  unfolding next
+  next-follows n j yes? s e = next-by (eqb (suc j) (x .i)) n j yes? s e
+
+  clean-follows : (a b c : Bool) (e : Entry) (j : ℕ) (yes? : Bool) → Follows p m x (clean j yes?) (cleanWordBy a b c p m x e j yes?)
+  unfolding cleanWordBy
+  clean-follows true true c e j yes? = next-follows (setCell m (e .cell) (cleaned p e)) j yes? (clean j yes?) (sym (or-false yes?))
+  clean-follows true false c e j yes? = next-follows m j yes? (clean j yes?) (sym (or-false yes?))
+  clean-follows false true c e j yes? = next-follows (setCell m (e .cell) (e .init)) j yes? (clean j yes?) (sym (or-false yes?))
+  clean-follows false false true e j yes? = record { pairs = refl; yes = or-false yes? }
+  clean-follows false false false e j yes? = next-follows m j yes? (clean j yes?) (sym (or-false yes?))
+
+  pub follows : (s : Step) → Follows p m x s (exchangeTick p m x s)
+  unfolding exchangeTick
+  follows start = record { pairs = refl; yes = refl }
+  follows test = test-follows (eqb (x .i) (length (x .entries)) || eqb (statusOf m p) 1)
+  follows load = record { pairs = pairs-noted x (cellOf m (entryAt x (x .i) .cell)) false; yes = refl }
+  follows look = look-follows (own (m .status) (entryAt x (x .i) .init))
+  follows fetch = record { pairs = refl; yes = refl }
+  follows (save v) = record { pairs = refl; yes = after-save (eqb v (entryAt x (x .i) .old)) (entryAt x (x .i) .overlapped && changing (entryAt x (x .i))) }
+  follows fail = record { pairs = refl; yes = refl }
+  follows mark = record { pairs = refl; yes = refl }
+  follows install = install-follows (sameWord (cellOf m (entryAt x (x .i) .cell)) (entryAt x (x .i) .init)) (entryAt x (x .i))
+  follows commit = commit-follows (eqb (statusOf m p) 0) refl
+  follows (clean j yes?) = clean-follows (yes? && changing (entryAt x j)) (sameWord (cellOf m (entryAt x j .cell)) (installed p (entryAt x j) j)) (entryAt x j .overlapped) (entryAt x j) j yes?
+  follows (cleanMark j yes?) = next-follows (setStatus m (entryAt x j .init .task) 1) j yes? (cleanMark j yes?) (sym (or-false yes?))

@@ -1,0 +1,38 @@
+-- The claim of demand 3 about any history between two contents, and how it gives the claim about a run.
+use Prim.Native.Nat.{ℕ, zero, suc, _+_, _<_}
+use mathlib.Core.Bool.{Bool, true, false}
+use mathlib.Core.Path.{_≡_, refl, sym, ap}
+use mathlib.Core.Logic.{_⊎_, inl, inr}
+use mathlib.Core.List.{List, [], _∷_}
+use mathlib.Core.Option.{Option, none, some}
+use native.Mathlib.Omega.{arith}
+use Rattle.model.specs.Sheet.{sheetOf}
+use Rattle.model.specs.Word.{current}
+use Rattle.model.specs.Machine.{run, startMachine}
+use Rattle.model.specs.Plain.{Contents}
+use Rattle.model.specs.History.{Operation, History, operationAt, historyOf}
+use Rattle.model.specs.Claim.{contentsOf, each, declaredContents, countedBy, Counts, Sequence, In, Once, EndedBefore, RespectsTime, WholeOperations}
+
+-- a history from the contents c to the contents c′ with the order of its operations
+pub record Ordered (h : History) (c c′ : Contents) : Type 0 where
+  pub order : List ℕ
+  pub once : Once order
+  pub all : (a : ℕ) → Counts h a → In a order
+  pub only : (a : ℕ) → In a order → Counts h a
+  pub timely : RespectsTime h order
+  pub replay : Sequence h order c c′
+
+pub whole-operations : (sheet : List ℕ) (limit : ℕ) {h : History} {c c′ : Contents} → historyOf limit (startMachine (sheetOf sheet)) ≡ h → declaredContents (sheetOf sheet) ≡ c → contentsOf (sheetOf sheet) (run limit (startMachine (sheetOf sheet)) .memory) ≡ c′ → Ordered h c c′
+    → WholeOperations sheet limit
+whole-operations sheet limit eh e e′ w = record {
+  order = w .order;
+  once = w .once;
+  all = rw eh (w .all);
+  only = rw eh (w .only);
+  timely = rw eh (w .timely);
+  replay = rw (eh, e, e′) (w .replay);
+}
+
+-- the last tick of an operation that ended before another began
+pub ended-before : {h : History} {b a t : ℕ} {o : Operation} → operationAt h b ≡ some o → o .last ≡ some t → EndedBefore h b a → t < a
+ended-before {t = t} is lasts e = let z : e .last ≡ t = cc in omega arith

@@ -1,0 +1,211 @@
+-- Every statement of a transaction outside its exchange keeps what is said of its pass, leaves every current value and writes only copy slots.
+use Prim.Native.Nat.{ℕ, zero, suc, _+_, _<_, _≤_}
+use mathlib.Core.Bool.{Bool, true, false, true≢false}
+use mathlib.Core.Path.{_≡_, refl, sym, _∙_, ap, subst}
+use mathlib.Core.Logic.{_≢_}
+use mathlib.Core.List.{List, [], _∷_, _++_}
+use mathlib.Core.Option.{Option, none, some}
+use native.Mathlib.Omega.{arith}
+use lib.Dec.{eqb}
+use lib.ListN.{length}
+use borrow.Author.Tests.{eqb-true, eqb-false}
+use Rattle.model.specs.Lists.{at, replace}
+use Rattle.model.specs.Command.{Access, GET, PUT, Block, Command, WORD, BLOCK, TASK, RELEASE, END, LOAD, ADD, READ, PAIR, SWAP, BEGIN, access, COMMIT}
+use Rattle.model.specs.Word.{Word, Memory, cellOf, stored, saved, setStored, own, current, currentBy, currentOf, Reading, loading, looking, fetching, Read, reads, gives, lookBy, readTick}
+use Rattle.model.specs.Exchange.{Entry, exchangeOf}
+use Rattle.model.specs.Job.{Touched, untouched, remembered, copied, Transaction, Inner, between, first, copying, again, committing, Phase, idle, plain, transacting, Task, Turn, turn, rest, done, doneBy, ended}
+use Rattle.model.specs.Transaction.{bank, versionOf, storeOf, blockOf, rememberedOf, touchedOf, fresh, touch, stays, goesOn, restarted, loaded, added, firstRead, copyBy, copyTick, accessTick, checkBy, againRead, nothing?, spent?, gather, commitBy, commandTick, transactionTick}
+use Rattle.model.specs.Plain.{Arguments, transactionOf, computes, passBy}
+use Rattle.model.specs.Plain.{Pass as Plain}
+use Rattle.model.specs.History.{Operation, Event, nothing, begins, amends, answering, untilCommit, commitEvent, commandEvent, checkEvent, againEvent, transactionEvent}
+use Rattle.model.proofs.Lists.{replace-other}
+use Rattle.model.proofs.Fit.Memory.{MemoryFit}
+use Rattle.model.proofs.Fit.Transaction.{touched?, AgainFit, TransactionFit}
+use Rattle.model.proofs.Transactions.Facts.{bankIn, Past, saidYes, slotsOf, PutAtWork, InReading, CopiedTo, Fetched, Ready, AtInner, PassFacts, TransactionFacts, PhaseFacts, TaskFacts}
+use Rattle.model.proofs.Transactions.Versions.{now-past}
+use Rattle.model.proofs.Transactions.Frame.{Blocks, blocks-fit}
+use Rattle.model.proofs.Transactions.Steps.{SlotsApart, inner-step, computed, got-done}
+use Rattle.model.proofs.Transactions.Steps.{begins as begins-pass}
+use Rattle.model.proofs.Transactions.Puts.{remembers, copies-all, copies-one, writes}
+
+-- the task's latest operation after what a statement meant for it
+abbrev pub operationAfter : ℕ → Event → Operation → Operation
+operationAfter p nothing o = o
+operationAfter p (begins given) o = record { task = p; arguments = given; last = none; committed = false; spent = false; answers = [] }
+operationAfter p (amends f) o = f o
+
+-- what a statement of task t leaves, its latest operation being o afterwards
+pub record Turned (blocks : ℕ) (m : Memory) (t : Task) (u : Turn) (o : Operation) : Type 0 where
+  pub facts : TaskFacts blocks (u .memory) (u .task) o
+  pub cells : (c : ℕ) → currentOf (u .memory) c ≡ currentOf m c
+  pub slots : slotsOf (u .task) ≡ t .copies
+  pub stores : (i : ℕ) → ((k : ℕ) → k < 4 → i ≢ at 0 (t .copies) k) → at [] (u .memory .stores) i ≡ at [] (m .stores) i
+
+pub same-memory : {blocks : ℕ} {m : Memory} {t t′ : Task} {o : Operation} → TaskFacts blocks m t′ o → slotsOf t′ ≡ t .copies → Turned blocks m t (turn m t′) o
+same-memory F e = record { facts = F; cells = λ c. refl; slots = e; stores = λ i n. refl }
+
+-- a command that ends outside a transaction
+pub done-facts : (blocks : ℕ) (m : Memory) (l : List Command) (t : Task) (rs : List ℕ) (ps : List Entry) (cs : List ℕ) (o : Operation) → TaskFacts blocks m (doneBy l t rs ps cs) o
+unfolding doneBy
+done-facts blocks m [] t rs ps cs o = tt
+done-facts blocks m (c ∷ l) t rs ps cs o = tt
+
+pub done-slots : (l : List Command) (t : Task) (rs : List ℕ) (ps : List Entry) (cs : List ℕ) → slotsOf (doneBy l t rs ps cs) ≡ cs
+unfolding doneBy
+done-slots [] t rs ps cs = refl
+done-slots (c ∷ l) t rs ps cs = refl
+
+-- the first copy tick of a PUT finds a copy slot left
+abbrev pub PutRoom : Transaction → List Command → Type 0
+PutRoom x l = (b o r v : ℕ) (others : List Command) → l ≡ access (PUT b o r) ∷ others → touchedOf x b ≡ remembered v → x .used < 4
+
+own-value : (status : List ℕ) (saves : List (List ℕ)) (w : Word) → own status w ≡ true → current status saves w ≡ w .value
+unfolding current currentBy
+own-value status saves w e = rw e
+
+saved-value : (status : List ℕ) (saves : List (List ℕ)) (w : Word) → own status w ≡ false → current status saves w ≡ saved saves (w .task) (w .count)
+unfolding current currentBy
+saved-value status saves w e = rw e
+
+-- THE SITUATION of a statement of task t in a pass
+pub record Situation (words blocks : ℕ) (m : Memory) (t : Task) (x : Transaction) (s : Inner) (o : Operation) : Type 0 where
+  pub most : blocks ≤ 16
+  pub memory : MemoryFit m
+  pub apart : SlotsApart blocks m (t .copies)
+  pub phase : t .phase ≡ transacting x s
+  pub fit : TransactionFit words blocks (t .copies) (t .commands) (t .pairs) x s
+  pub arguments : o .arguments ≡ transactionOf (x .kept) (untilCommit (x .commands))
+  pub pass : PassFacts blocks m (t .copies) (t .registers) (t .commands) x s (o .answers)
+
+module _ {words blocks : ℕ} {m : Memory} {t : Task} {x : Transaction} {s : Inner} {o : Operation} (S : Situation words blocks m t x s o) where
+  -- another inner step of the same command
+  stays-turned : (s′ : Inner) → saidYes s′ ≡ false → AtInner m (t .copies) x s′ → Turned blocks m t (turn m (stays t x s′)) o
+  stays-turned s′ e h = same-memory (record { arguments = S .arguments; pass = λ _. inner-step s′ h (S .pass) }) (rw e)
+
+  restart-turned : Turned blocks m t (turn m (restarted t x)) (answering [] o)
+  restart-turned = same-memory (record { arguments = S .arguments; pass = λ _. begins-pass blocks m (t .copies) (x .kept) (x .commands) }) refl
+
+  -- a bank word read for the first time
+  remembers-turned : (a : Access) (v : ℕ) → touchedOf x (blockOf a) ≡ untouched → blockOf a < blocks → Past (bankIn m (blockOf a)) v → Turned blocks m t (firstRead m t x a (gives v)) o
+  unfolding firstRead
+  remembers-turned a v u lt h =
+      same-memory (record { arguments = S .arguments; pass = λ _. remembers (blockOf a) (rw (S .fit .touched .size) (omega (arith, S .most))) (S .pass) v u h }) refl
+
+  -- a value is copied into the next copy slot
+  copy-turned : (b c r n : ℕ) → touched? (touchedOf x b) ≡ true → x .used < 4 → n < 8 → CopiedTo m (t .copies) x b n → Turned blocks m t (copyTick m t x (PUT b c r) n) o
+  unfolding copyTick copyBy
+  copy-turned b c r n u left lt h = go (eqb (suc n) 8) refl
+    where
+      v : ℕ
+      v = stored (m .stores) (storeOf (rememberedOf (touchedOf x b))) n
+
+      goes-on : (s′ : Inner) → saidYes s′ ≡ false
+          → (CopiedTo (setStored m (at 0 (t .copies) (x .used)) n (stored (m .stores) (storeOf (rememberedOf (touchedOf x b))) n)) (t .copies) x b (suc n) → AtInner (setStored m (at 0 (t .copies) (x .used)) n (stored (m .stores) (storeOf (rememberedOf (touchedOf x b))) n)) (t .copies) x s′)
+          → Turned blocks m t (turn (setStored m (at 0 (t .copies) (x .used)) n (stored (m .stores) (storeOf (rememberedOf (touchedOf x b))) n)) (stays t x s′)) o
+      goes-on s′ e f =
+          record {
+            facts = record { arguments = S .arguments; pass = λ _. copies-one x (S .memory) (S .apart) (blocks-fit (S .fit)) b n s′ u left lt h f (S .pass) };
+            cells = λ i. refl;
+            slots = rw e;
+            stores = λ i ne. replace-other [] (m .stores) (at 0 (t .copies) (x .used)) i _ (ne (x .used) left);
+          }
+
+      go : (z : Bool) → eqb (suc n) 8 ≡ z → Turned blocks m t (copyBy z (setStored m (at 0 (t .copies) (x .used)) n (stored (m .stores) (storeOf (rememberedOf (touchedOf x b))) n)) t x (PUT b c r) n) o
+      go true e = goes-on (again (PUT b c r) 0 loading) refl (λ f q i l. f q i (omega (arith, eqb-true (suc n) 8 e)))
+      go false e = goes-on (copying (PUT b c r) (suc n)) refl (λ f. f)
+
+  -- the second reading has ended: GET or PUT goes on, or the transaction restarts
+  check-turned : (p : ℕ) (a : Access) (v : ℕ) {others : List Command} → t .commands ≡ access a ∷ others → Ready m (t .copies) x a v → AgainFit a x → (z : Bool)
+      → Turned blocks m t (checkBy z m t x a v) (operationAfter p (checkEvent z a v) o)
+  unfolding checkBy checkEvent
+  check-turned p (GET r b c) v {others} l h A true =
+      same-memory (record { arguments = S .arguments; pass = λ _. rw l (got-done r b c v others h (subst (λ (y : List Command). PassFacts blocks m (t .copies) (t .registers) y x s (o .answers)) l (S .pass))) }) refl
+  check-turned p (PUT b c r) v {others} l h A true =
+      let e : rememberedOf (touchedOf x b) ≡ A .value = rw (A .read) in
+      let below : b < blocks = S .fit .touched .below b (rw (A .read)) in
+      same-memory (record { arguments = S .arguments; pass = λ _. rw e (copies-all b (rw (S .fit .touched .size) (omega (arith, S .most))) (S .pass) (S .memory) (S .apart) (A .value) (A .read) below (A .left) h (record { offset = c; register = r; others = others; commands = l })) }) refl
+  check-turned p a v l h A false = restart-turned
+
+  again-turned : (p : ℕ) (a : Access) (v : ℕ) {others : List Command} → t .commands ≡ access a ∷ others → Ready m (t .copies) x a v → AgainFit a x → (y : Read)
+      → Turned blocks m t (againRead m t x a v y) (operationAfter p (againEvent x a v y) o)
+  unfolding againRead againEvent
+  again-turned p a v l h A (reads r) = stays-turned (again a v r) refl h
+  again-turned p a v l h A (gives w) = check-turned p a v l h A (eqb (versionOf w) (versionOf (rememberedOf (touchedOf x (blockOf a)))))
+
+  -- a tick of the first reading
+  first-turned : (a : Access) (r : Reading) → touchedOf x (blockOf a) ≡ untouched → blockOf a < blocks → InReading m (blockOf a) r → Turned blocks m t (firstRead m t x a (readTick m (bank (blockOf a)) r)) o
+  unfolding readTick firstRead lookBy
+  first-turned a loading u lt h = stays-turned (first a (looking (cellOf m (bank (blockOf a))))) refl (now-past (bankIn m (blockOf a)))
+  first-turned a (looking w) u lt h = go (own (m .status) w) refl
+    where
+      go : (z : Bool) → own (m .status) w ≡ z → Turned blocks m t (firstRead m t x a (lookBy z w)) o
+      go true e = remembers-turned a (w .value) u lt (rw (own-value (m .status) (m .saves) w e) at h)
+      go false e = stays-turned (first a (fetching w)) refl (h, e)
+  first-turned a (fetching w) u lt h = remembers-turned a (saved (m .saves) (w .task) (w .count)) u lt (rw (saved-value (m .status) (m .saves) w (h .1)) at (h .0))
+
+  -- GET and PUT, by what the block is so far
+  access-turned : (a : Access) {others : List Command} → t .commands ≡ access a ∷ others → PutRoom x (t .commands) → (y : Touched) → touchedOf x (blockOf a) ≡ y → Turned blocks m t (accessTick m t x a y) o
+  unfolding accessTick firstRead readTick
+  access-turned a l room untouched e = stays-turned (first a (looking (cellOf m (bank (blockOf a))))) refl (now-past (bankIn m (blockOf a)))
+  access-turned (GET r b c) l room (remembered v) e = stays-turned (again (GET r b c) (stored (m .stores) (storeOf v) c) loading) refl (rw e (λ _. refl))
+  access-turned (GET r b c) l room (copied v k) e = stays-turned (again (GET r b c) (stored (m .stores) (at 0 (t .copies) k) c) loading) refl (rw e refl)
+  access-turned (PUT b c r) {others} l room (remembered v) e = copy-turned b c r 0 (rw e) (room b c r v others l e) (omega arith) (λ q i (z : i < 0). absurd (omega arith))
+  access-turned (PUT b c r) {others} l room (copied v k) e =
+      let B = blocks-fit (S .fit) in
+      record {
+        facts = record { arguments = S .arguments; pass = λ _. rw l (writes x (S .memory) (S .apart) B b c r v k (B .below b (rw e)) e (subst (λ (y : List Command). PassFacts blocks m (t .copies) (t .registers) y x s (o .answers)) l (S .pass))) };
+        cells = λ i. refl;
+        slots = refl;
+        stores = λ i ne. replace-other [] (m .stores) (at 0 (t .copies) k) i _ (ne k (omega (arith, B .slot b v k e, B .most)));
+      }
+
+  -- COMMIT: nothing touched, spent, or the exchange is to start
+  commit-turned : (p now : ℕ) (y z : Bool) → Turned blocks m t (commitBy y z m t x) (operationAfter p (commitEvent now y z) o)
+  unfolding commitBy commitEvent
+  commit-turned p now true z = same-memory (done-facts blocks m (rest (t .commands)) t (t .registers) [] (t .copies) _) (done-slots (rest (t .commands)) t (t .registers) [] (t .copies))
+  commit-turned p now false true = same-memory tt refl
+  commit-turned p now false false = stays-turned (committing (exchangeOf (gather (t .copies) 0 (x .blocks)))) refl tt
+
+  -- a command that no transaction has
+  nothing-turned : saidYes s ≡ false → Turned blocks m t (turn m t) o
+  nothing-turned y = same-memory (rw (S .phase) (record { arguments = S .arguments; pass = λ _. S .pass })) (rw (S .phase, y))
+
+  computed-turned : (c : Command) (rs : List ℕ) (l : List Command) → t .commands ≡ c ∷ l → ((b : ℕ) → PutAtWork b (c ∷ l) → ⊥) → untilCommit (c ∷ l) ≡ c ∷ untilCommit l
+      → ((bs : List Block) (q : Plain) → q .registers ≡ t .registers → passBy bs q c ≡ computes q rs) → Turned blocks m t (turn m (goesOn t rs x)) o
+  computed-turned c rs l e np u f =
+      same-memory (record { arguments = S .arguments; pass = λ _. rw e (computed c l rs np u f (subst (λ (y : List Command). PassFacts blocks m (t .copies) (t .registers) y x s (o .answers)) e (S .pass))) }) refl
+
+  command-turned : (p now : ℕ) (l : List Command) → saidYes s ≡ false → t .commands ≡ l → PutRoom x (t .commands) → Turned blocks m t (commandTick m t x l) (operationAfter p (commandEvent now x l) o)
+  unfolding commandTick commandEvent passBy untilCommit
+  command-turned p now [] y e room = nothing-turned y
+  command-turned p now (LOAD r v ∷ l) y e room = computed-turned (LOAD r v) (loaded (t .registers) r v) l e (λ b w. let z : _≡_ {A = ℕ} 0 1 = cc (w .commands) in omega arith) refl (λ bs q h. rw h)
+  command-turned p now (ADD r k ∷ l) y e room = computed-turned (ADD r k) (added (t .registers) r k) l e (λ b w. let z : _≡_ {A = ℕ} 0 1 = cc (w .commands) in omega arith) refl (λ bs q h. rw h)
+  command-turned p now (access a ∷ l) y e room = access-turned a e room (touchedOf x (blockOf a)) refl
+  command-turned p now (COMMIT ∷ l) y e room = commit-turned p now (nothing? (x .blocks)) (spent? (x .blocks))
+  command-turned p now (READ r w ∷ l) y e room = nothing-turned y
+  command-turned p now (PAIR w a b ∷ l) y e room = nothing-turned y
+  command-turned p now (SWAP r ∷ l) y e room = nothing-turned y
+  command-turned p now (BEGIN ∷ l) y e room = nothing-turned y
+  command-turned p now (WORD v ∷ l) y e room = nothing-turned y
+  command-turned p now (BLOCK b ∷ l) y e room = nothing-turned y
+  command-turned p now (TASK ∷ l) y e room = nothing-turned y
+  command-turned p now (RELEASE r ∷ l) y e room = nothing-turned y
+  command-turned p now (END ∷ l) y e room = nothing-turned y
+
+-- EVERY STATEMENT OUTSIDE THE EXCHANGE
+abbrev pub Outside : Inner → Type 0
+Outside between = Unit {0}
+Outside (first a r) = Unit {0}
+Outside (copying a n) = Unit {0}
+Outside (again a v r) = Unit {0}
+Outside (committing e) = ⊥
+
+pub pass-turned : {words blocks : ℕ} {m : Memory} {t : Task} {x : Transaction} {o : Operation} (p now : ℕ) (s : Inner) → Outside s → PutRoom x (t .commands) → Situation words blocks m t x s o
+    → Turned blocks m t (transactionTick p m t x s) (operationAfter p (transactionEvent now p m t x s) o)
+unfolding transactionTick transactionEvent
+pass-turned {t = t} p now between out room S = command-turned S p now (t .commands) refl refl room
+pass-turned p now (first a r) out room S = first-turned S a r (S .fit .inner .notYet) (S .fit .inner .atWork .block) (S .pass .inner)
+pass-turned p now (copying (GET r b c) n) out room S = absurd (true≢false (sym (S .fit .inner .put)))
+pass-turned p now (copying (PUT b c r) n) out room S = let F = S .fit .inner in copy-turned S b c r n (rw (F .first .read)) (F .first .left) (F .most) (S .pass .inner)
+pass-turned {m = m} p now (again a v r) out room S = let F = S .fit .inner in again-turned S p a v (F .atWork .commands) (S .pass .inner) (F .again) (readTick m (bank (blockOf a)) r)
+pass-turned p now (committing e) out room S = absurd out

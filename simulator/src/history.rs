@@ -1,0 +1,237 @@
+//! The history of a run: its operations with their arguments, ticks and answers.
+
+use crate::machine::Pair;
+use crate::observer::{Event, Observer, Statement};
+use crate::sheet::{MAX_TASKS, REGISTERS};
+
+/// A READ, a SWAP or a transaction with its arguments as recorded.
+#[derive(Clone, Debug)]
+pub enum Kind {
+    Read {
+        word: u8,
+        answer: Option<u32>,
+    },
+    Swap {
+        answer: Option<bool>,
+    },
+    Transaction {
+        registers: [u32; REGISTERS],
+        /// The command after BEGIN.
+        first_command: usize,
+        /// What the GETs of the last pass gave.
+        answers: Vec<u32>,
+        restarts: u32,
+    },
+}
+
+/// The ticks of an operation or of an exchange.
+#[derive(Clone, Copy, Debug)]
+pub struct Span {
+    pub first: u32,
+    /// The tick in which it ended, if it did.
+    pub last: Option<u32>,
+    /// The statements of its task up to its first one, and up to its last one.
+    own_first: u32,
+    own_last: u32,
+}
+
+impl Span {
+    fn new(tick: u32, own_tick: u32) -> Span {
+        Span { first: tick, last: None, own_first: own_tick, own_last: own_tick }
+    }
+
+    fn end(&mut self, tick: u32, own_tick: u32) {
+        self.last = Some(tick);
+        self.own_last = own_tick;
+    }
+
+    /// How many ticks of its own it took, once it has ended.
+    pub fn own_ticks(&self) -> u32 {
+        self.own_last - self.own_first + 1
+    }
+
+    /// After the first tick and before the last.
+    pub fn holds_inside(&self, tick: u32) -> bool {
+        self.first < tick && self.last.is_none_or(|last| tick < last)
+    }
+}
+
+/// One exchange: a SWAP has one, a transaction one for each COMMIT it came to.
+#[derive(Clone, Debug)]
+pub struct Exchange {
+    pub pairs: Vec<Pair>,
+    pub span: Span,
+    /// The tick of the latest Load.
+    pub load: u32,
+    /// A word differed from its old value.
+    pub differs: bool,
+    /// What Commit answered.
+    pub committed: Option<bool>,
+}
+
+#[derive(Clone, Debug)]
+pub struct Operation {
+    pub task: usize,
+    pub kind: Kind,
+    pub span: Span,
+    /// The tick that gives its place in the order: it has one once its answer is decided.
+    pub place: Option<u32>,
+    /// It has committed in the sense of 'Demand 3 in full'.
+    pub committed: bool,
+    pub spent: bool,
+    pub exchanges: Vec<Exchange>,
+}
+
+/// Keeps every operation of a run, in the order in which they began.
+#[derive(Default)]
+pub struct History {
+    pub operations: Vec<Operation>,
+    /// For each task, its latest operation.
+    latest: [Option<usize>; MAX_TASKS],
+    /// For each task, its statements so far.
+    ticks: [u32; MAX_TASKS],
+}
+
+impl Operation {
+    /// It ended and was not spent, or the tick limit cut it short after it committed.
+    pub fn stands_in_order(&self) -> bool {
+        match self.span.last {
+            Some(_) => !self.spent,
+            None => self.committed,
+        }
+    }
+}
+
+impl History {
+    pub fn new() -> History {
+        History::default()
+    }
+
+    fn begin(&mut self, tick: u32, task: usize, kind: Kind) {
+        self.latest[task] = Some(self.operations.len());
+        self.operations.push(Operation {
+            task,
+            kind,
+            span: Span::new(tick, self.ticks[task]),
+            place: None,
+            committed: false,
+            spent: false,
+            exchanges: Vec::new(),
+        });
+    }
+
+    fn latest_operation(&mut self, task: usize) -> Option<&mut Operation> {
+        self.latest[task].and_then(|number| self.operations.get_mut(number))
+    }
+
+    /// An exchange belongs to the transaction under way, or else begins a SWAP.
+    fn begin_exchange(&mut self, tick: u32, task: usize, pairs: &[Pair]) {
+        let in_transaction = self.latest_operation(task).is_some_and(|operation| {
+            let is_transaction = matches!(operation.kind, Kind::Transaction { .. });
+            is_transaction && operation.span.last.is_none()
+        });
+        if !in_transaction {
+            self.begin(tick, task, Kind::Swap { answer: None });
+        }
+        let span = Span::new(tick, self.ticks[task]);
+        if let Some(operation) = self.latest_operation(task) {
+            operation.exchanges.push(Exchange {
+                pairs: pairs.to_vec(),
+                span,
+                load: tick,
+                differs: false,
+                committed: None,
+            });
+        }
+    }
+}
+
+impl Observer for History {
+    fn statement(&mut self, _tick: u32, task: usize, _statement: Statement) {
+        self.ticks[task] += 1;
+    }
+
+    fn event(&mut self, tick: u32, task: usize, event: Event<'_>) {
+        match event {
+            Event::ReadBegins { word } => {
+                self.begin(tick, task, Kind::Read { word, answer: None });
+            }
+            Event::TransactionBegins { registers, first } => {
+                let kind = Kind::Transaction {
+                    registers: *registers,
+                    first_command: first,
+                    answers: Vec::new(),
+                    restarts: 0,
+                };
+                self.begin(tick, task, kind);
+            }
+            Event::ExchangeBegins { pairs } => self.begin_exchange(tick, task, pairs),
+            _ => {}
+        }
+        let own_tick = self.ticks[task];
+        if let Some(operation) = self.latest_operation(task) {
+            operation.take(tick, own_tick, event);
+            operation.take_answer(event);
+        }
+    }
+}
+
+impl Operation {
+    fn take(&mut self, tick: u32, own_tick: u32, event: Event<'_>) {
+        let is_swap = matches!(self.kind, Kind::Swap { .. });
+        match event {
+            Event::ReadBegins { .. } => self.place = Some(tick),
+            Event::ExchangeLoads => {
+                if let Some(exchange) = self.exchanges.last_mut() {
+                    exchange.load = tick;
+                }
+            }
+            Event::ExchangeDiffers => {
+                if let Some(exchange) = self.exchanges.last_mut() {
+                    exchange.differs = true;
+                }
+            }
+            Event::ExchangeCommits { answer } => {
+                let Some(exchange) = self.exchanges.last_mut() else { return };
+                exchange.committed = Some(answer);
+                self.committed = answer;
+                if answer {
+                    self.place = Some(tick);
+                } else if is_swap {
+                    self.place = Some(if exchange.differs { exchange.load } else { tick });
+                }
+            }
+            Event::ExchangeEnds { .. } => {
+                if let Some(exchange) = self.exchanges.last_mut() {
+                    exchange.span.end(tick, own_tick);
+                }
+                if is_swap {
+                    self.span.end(tick, own_tick);
+                }
+            }
+            Event::CommitsNothing => {
+                self.committed = true;
+                self.place = Some(tick);
+            }
+            Event::ReadEnds { .. } | Event::TransactionEnds => self.span.end(tick, own_tick),
+            Event::Spent => {
+                self.spent = true;
+                self.span.end(tick, own_tick);
+            }
+            _ => {}
+        }
+    }
+
+    fn take_answer(&mut self, event: Event<'_>) {
+        match (&mut self.kind, event) {
+            (Kind::Read { answer, .. }, Event::ReadEnds { answer: given }) => *answer = Some(given),
+            (Kind::Swap { answer }, Event::ExchangeEnds { answer: given }) => *answer = Some(given),
+            (Kind::Transaction { answers, .. }, Event::Gets { answer }) => answers.push(answer),
+            (Kind::Transaction { answers, restarts, .. }, Event::Restarts) => {
+                answers.clear();
+                *restarts += 1;
+            }
+            _ => {}
+        }
+    }
+}

@@ -1,0 +1,71 @@
+//! The second simulator of the exchange engine: document 01 in plain Rust, with no part shared.
+//!
+//! `sheet` reads a sheet, `machine` runs it with `reading`, `exchange` and `transaction`, `report`
+//! prints the end. `history` observes a run and `plain` checks it as whole operations. `generator`
+//! makes cases from `contention` (good sheets) and `damage` (bad ones); `coverage` counts them.
+
+pub mod builder;
+pub mod contention;
+pub mod coverage;
+pub mod damage;
+pub mod exchange;
+pub mod generator;
+pub mod history;
+pub mod machine;
+pub mod observer;
+pub mod plain;
+pub mod random;
+pub mod reading;
+pub mod report;
+pub mod sheet;
+pub mod transaction;
+
+use machine::Machine;
+use observer::{NoObserver, Observer};
+
+/// The largest tick limit that is not turned down.
+pub const TOP_LIMIT: u64 = 65_535;
+
+/// Number 0 and the report's length (a check: 0), or the number and place of a refusal.
+#[derive(Clone, Copy, Debug, PartialEq, Eq)]
+pub struct Answer {
+    pub number: u8,
+    pub place: usize,
+}
+
+impl From<sheet::Fault> for Answer {
+    fn from(fault: sheet::Fault) -> Answer {
+        Answer { number: fault.number, place: fault.place }
+    }
+}
+
+/// Is the sheet well formed?
+pub fn check(sheet: &[u8]) -> Answer {
+    match sheet::parse(sheet) {
+        Ok(_) => Answer { number: 0, place: 0 },
+        Err(fault) => fault.into(),
+    }
+}
+
+/// Runs the sheet for at most `limit` ticks and writes the report to the front of the buffer.
+pub fn run(sheet: &[u8], limit: u64, buffer: &mut [u8]) -> Answer {
+    match run_observed(sheet, limit, &mut NoObserver) {
+        Ok(report) => report::deliver(report.as_bytes(), buffer),
+        Err(refusal) => refusal,
+    }
+}
+
+/// Runs the sheet, lets the observer see every tick, and returns the report.
+pub fn run_observed<O: Observer>(
+    sheet: &[u8],
+    limit: u64,
+    observer: &mut O,
+) -> Result<String, Answer> {
+    let sheet = sheet::parse(sheet)?;
+    if limit > TOP_LIMIT {
+        return Err(Answer { number: 9, place: 0 });
+    }
+    let mut machine = Machine::new(&sheet);
+    machine.run(limit as u32, observer);
+    Ok(report::render(&machine))
+}

@@ -1,0 +1,122 @@
+//! What a run can tell while it goes on; with history off every method is empty and costs nothing.
+
+use crate::machine::Pair;
+use crate::sheet::REGISTERS;
+
+/// Each tick that is not idle does exactly one of these.
+#[derive(Clone, Copy, Debug, PartialEq, Eq)]
+pub enum Statement {
+    Load,
+    Add,
+    Pair,
+    ReadLoad,
+    ReadLook,
+    ReadFetch,
+    Begin,
+    /// The reading of a bank word at the first GET or PUT of its block.
+    FirstLoad,
+    FirstLook,
+    FirstFetch,
+    /// The reading of a bank word that checks the version.
+    AgainLoad,
+    AgainLook,
+    AgainFetch,
+    GetFromBlock,
+    GetFromCopy,
+    PutCopies,
+    PutWrites,
+    CommitOfNothing,
+    CommitGathers,
+    CommitSpent,
+    ExchangeStart,
+    ExchangeTest,
+    ExchangeLoad,
+    ExchangeLook,
+    ExchangeFetch,
+    ExchangeSave,
+    FailAfterSave,
+    Mark,
+    InstallDone,
+    InstallNotDone,
+    FailAfterInstall,
+    CommitYes,
+    CommitNo,
+    CleanAsNew,
+    CleanBackToInit,
+    CleanNothing,
+    CleanMark,
+}
+
+/// What the history of a run keeps beside the statements themselves.
+#[derive(Clone, Copy, Debug)]
+pub enum Event<'a> {
+    ReadBegins {
+        word: u8,
+    },
+    ReadEnds {
+        answer: u32,
+    },
+    ExchangeBegins {
+        pairs: &'a [Pair],
+    },
+    ExchangeLoads,
+    ExchangeDiffers,
+    ExchangeCommits {
+        answer: bool,
+    },
+    ExchangeEnds {
+        answer: bool,
+    },
+    TransactionBegins {
+        registers: &'a [u32; REGISTERS],
+        first: usize,
+    },
+    Gets {
+        answer: u32,
+    },
+    /// A stale version or a rejected commit sends the transaction back to the command after BEGIN.
+    Restarts,
+    CommitsNothing,
+    TransactionEnds,
+    Spent,
+}
+
+/// In each tick the statement comes first, then the events that belong to it.
+pub trait Observer {
+    #[inline(always)]
+    fn statement(&mut self, _tick: u32, _task: usize, _statement: Statement) {}
+    #[inline(always)]
+    fn event(&mut self, _tick: u32, _task: usize, _event: Event<'_>) {}
+    #[inline(always)]
+    fn idle(&mut self, _tick: u32) {}
+    #[inline(always)]
+    fn dropped(&mut self, _tick: u32, _task: usize) {}
+}
+
+/// History off.
+pub struct NoObserver;
+
+impl Observer for NoObserver {}
+
+/// Two observers of one run.
+impl<A: Observer, B: Observer> Observer for (A, B) {
+    fn statement(&mut self, tick: u32, task: usize, statement: Statement) {
+        self.0.statement(tick, task, statement);
+        self.1.statement(tick, task, statement);
+    }
+
+    fn event(&mut self, tick: u32, task: usize, event: Event<'_>) {
+        self.0.event(tick, task, event);
+        self.1.event(tick, task, event);
+    }
+
+    fn idle(&mut self, tick: u32) {
+        self.0.idle(tick);
+        self.1.idle(tick);
+    }
+
+    fn dropped(&mut self, tick: u32, task: usize) {
+        self.0.dropped(tick, task);
+        self.1.dropped(tick, task);
+    }
+}

@@ -1,0 +1,64 @@
+//! What several test files use: runs with a report as text, and the tasks of document 01's cases.
+#![allow(dead_code)]
+
+use simulator::builder::*;
+use simulator::{run, Answer};
+
+pub const LIMIT: u64 = 65_535;
+
+pub fn refusal(number: u8, place: usize) -> Answer {
+    Answer { number, place }
+}
+
+/// The report of a sheet that must be accepted.
+pub fn report_with_limit(sheet: &[u8], limit: u64) -> String {
+    let mut buffer = vec![0; 8192];
+    let answer = run(sheet, limit, &mut buffer);
+    assert_eq!(answer.number, 0, "turned down at {}", answer.place);
+    String::from_utf8(buffer[..answer.place].to_vec()).unwrap()
+}
+
+pub fn report(sheet: &[u8]) -> String {
+    report_with_limit(sheet, LIMIT)
+}
+
+/// The numbers of the report line that starts with these words, after them.
+pub fn numbers(report: &str, start: &str) -> Vec<u32> {
+    let start = format!("{start} ");
+    let line = report.lines().find(|line| line.starts_with(&start)).expect("no such line");
+    line[start.len()..].split(' ').map(|number| number.parse().unwrap()).collect()
+}
+
+pub fn word_value(report: &str, word: u8) -> u32 {
+    numbers(report, &format!("W {word}"))[0]
+}
+
+pub fn registers(report: &str, task: u8) -> Vec<u32> {
+    numbers(report, &format!("R {task}"))
+}
+
+/// Jobs finished, jobs spent, rejected commits, ticks used.
+pub fn counts(report: &str, task: u8) -> Vec<u32> {
+    numbers(report, &format!("T {task}"))
+}
+
+/// Ticks done, releases dropped.
+pub fn ending(report: &str) -> Vec<u32> {
+    numbers(report, "E")
+}
+
+/// Task 0 of the P cases: 12 becomes 5 in word 0.
+pub fn task_of_sheet_a() -> Bytes {
+    sheet(&[task(), load(1, 12), load(2, 5), pair(0, 1, 2), swap(0)])
+}
+
+/// Task 1 of the P cases: 12 becomes 7 in word 0.
+pub fn rival() -> Bytes {
+    sheet(&[task(), load(1, 12), load(2, 7), pair(0, 1, 2), swap(0)])
+}
+
+/// Task U: adds 1 to the first value of block 0.
+pub fn task_u() -> Bytes {
+    let body = [begin(), get(0, 0, 0), load(1, 1), add(0, 1), put(0, 0, 0), commit()];
+    sheet(&[task(), sheet(&body)])
+}

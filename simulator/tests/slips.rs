@@ -1,0 +1,146 @@
+//! Slips of this trade: a copy of the simulator with one wrong edit must fail demand 3.
+
+use std::fs;
+use std::path::{Path, PathBuf};
+use std::process::{Command, Output};
+
+/// Runs the whole-operations check over the corpus; a failure ends it with code 1.
+const MAIN: &str = r#"
+fn main() {
+    for index in 0..generator::CASES {
+        let case = generator::case(generator::SEED, index);
+        if let Err(fault) = plain::whole_operations(&case.sheet, case.limit) {
+            println!("case {index}: {fault}");
+            std::process::exit(1);
+        }
+    }
+}
+"#;
+
+struct Edit {
+    file: &'static str,
+    find: &'static str,
+    replace: &'static str,
+}
+
+/// Copies the sources to a folder of this name, edited, with the library's root as main program.
+fn write_copy(name: &str, edit: Option<&Edit>) -> PathBuf {
+    let folder = Path::new(env!("CARGO_TARGET_TMPDIR")).join(name);
+    fs::create_dir_all(&folder).unwrap();
+    let sources = Path::new(env!("CARGO_MANIFEST_DIR")).join("src");
+    for entry in fs::read_dir(sources).unwrap() {
+        let path = entry.unwrap().path();
+        let Some("rs") = path.extension().and_then(|extension| extension.to_str()) else {
+            continue;
+        };
+        let file = path.file_name().unwrap().to_str().unwrap();
+        let mut text = fs::read_to_string(&path).unwrap();
+        if let Some(edit) = edit.filter(|edit| edit.file == file) {
+            assert_eq!(text.matches(edit.find).count(), 1, "found not just once: {}", edit.find);
+            text = text.replace(edit.find, edit.replace);
+        }
+        if file == "lib.rs" {
+            fs::write(folder.join("main.rs"), text + MAIN).unwrap();
+        } else {
+            fs::write(folder.join(file), text).unwrap();
+        }
+    }
+    folder
+}
+
+/// Without -O: compiling is what takes the time here, and arithmetic is checked for overflow too.
+fn compile_and_run(folder: &Path) -> Output {
+    let compiler = std::env::var("RUSTC").unwrap_or_else(|_| "rustc".to_string());
+    let program = folder.join("program");
+    let compiled = Command::new(compiler)
+        .args(["--edition", "2021", "--cap-lints", "allow", "-o"])
+        .arg(&program)
+        .arg(folder.join("main.rs"))
+        .output()
+        .unwrap();
+    assert!(compiled.status.success(), "{}", String::from_utf8_lossy(&compiled.stderr));
+    Command::new(program).output().unwrap()
+}
+
+fn assert_caught(name: &str, edit: Edit) {
+    let output = compile_and_run(&write_copy(name, Some(&edit)));
+    assert_eq!(output.status.code(), Some(1), "{name} is not caught");
+    println!("{name}: {}", String::from_utf8_lossy(&output.stdout));
+}
+
+#[test]
+fn the_unedited_copy_passes() {
+    let output = compile_and_run(&write_copy("unedited", None));
+    assert!(output.status.success(), "{}", String::from_utf8_lossy(&output.stdout));
+}
+
+#[test]
+fn mark_before_install_skipped() {
+    let find = "job.exchange.overlapped[position] && pair.changes()";
+    let edit = Edit { file: "exchange.rs", find, replace: "false" };
+    assert_caught("mark_before_install_skipped", edit);
+}
+
+#[test]
+fn mark_in_clean_skipped() {
+    let find = "!still_installed && !as_new && overlapped";
+    let edit = Edit { file: "exchange.rs", find, replace: "false && overlapped" };
+    assert_caught("mark_in_clean_skipped", edit);
+}
+
+#[test]
+fn install_compares_only_the_value() {
+    let replace = "if word.value == init.value {";
+    let edit = Edit { file: "exchange.rs", find: "if *word == init {", replace };
+    assert_caught("install_compares_only_the_value", edit);
+}
+
+#[test]
+fn read_only_pair_cleaned_as_new() {
+    let find = "let as_new = exchange.answer && pair.changes();";
+    let edit = Edit { file: "exchange.rs", find, replace: "let as_new = exchange.answer;" };
+    assert_caught("read_only_pair_cleaned_as_new", edit);
+}
+
+#[test]
+fn old_stores_taken_back_by_block_number() {
+    let find = "self.copies[task][slot] = ";
+    let replace = "let _ = slot; self.copies[task][usize::from(block) % MAX_PUT] = ";
+    let edit = Edit { file: "transaction.rs", find, replace };
+    assert_caught("old_stores_taken_back_by_block_number", edit);
+}
+
+#[test]
+fn commit_ignores_the_status() {
+    let find = "let answer = self.status[task] == UNDECIDED;";
+    let edit = Edit { file: "exchange.rs", find, replace: "let answer = true;" };
+    assert_caught("commit_ignores_the_status", edit);
+}
+
+#[test]
+fn save_place_not_written() {
+    let find = "self.save[task][position] = job.exchange.found;";
+    let edit = Edit { file: "exchange.rs", find, replace: "" };
+    assert_caught("save_place_not_written", edit);
+}
+
+#[test]
+fn start_leaves_the_status() {
+    let find = "self.status[task] = UNDECIDED;";
+    let edit = Edit { file: "exchange.rs", find, replace: "" };
+    assert_caught("start_leaves_the_status", edit);
+}
+
+#[test]
+fn reading_ignores_the_status() {
+    let find = "word.valid || self.status[usize::from(word.task)] == COMMITTED";
+    let edit = Edit { file: "reading.rs", find, replace: "word.valid" };
+    assert_caught("reading_ignores_the_status", edit);
+}
+
+#[test]
+fn restart_keeps_the_registers_of_the_lost_pass() {
+    let find = "job.registers = job.transaction.kept;";
+    let edit = Edit { file: "transaction.rs", find, replace: "" };
+    assert_caught("restart_keeps_the_registers_of_the_lost_pass", edit);
+}
