@@ -1,20 +1,109 @@
--- The blocks of a transaction: at first, one read, one copied, and with more blocks named in the text.
+-- The blocks of a transaction: how many are touched, read and copied, and the entries that COMMIT gathers for them.
 use Prim.Native.Nat.{ℕ, zero, suc, _+_, _<_, _≤_}
-use mathlib.Core.Path.{_≡_, refl, sym, _∙_, ap, subst}
-use mathlib.Core.Bool.{Bool, true, false, true≢false, false≢true}
+use mathlib.Core.Path.{_≡_, refl, sym, _∙_, ap}
+use mathlib.Core.Logic.{_≢_}
+use mathlib.Core.Bool.{Bool, true, false, _||_, true≢false, false≢true}
 use mathlib.Core.List.{List, [], _∷_}
-use native.Mathlib.Decide.{decLt}
 use native.Mathlib.Omega.{arith}
+use native.Mathlib.Decide.{decLt}
+use lib.Dec.{eqb}
 use lib.ListN.{length, replicate}
+use borrow.Author.Tests.{eqb-true}
 use Rattle.model.specs.Lists.{at, replace}
-use Rattle.model.specs.Fault.{Body, among}
+use Rattle.model.specs.Fault.{among, Body}
 use Rattle.model.specs.Job.{Touched, untouched, remembered, copied}
-use Rattle.model.proofs.Lists.{replace-same, replace-other, length-replace, at-past, at-replicate, same?}
-use Rattle.model.proofs.Fit.Transaction.{touched?, copied?, countBy, count, BlocksFit}
-use Rattle.model.proofs.Fit.Counting.{count-replace}
+use Rattle.model.specs.Exchange.{Entry, entry}
+use Rattle.model.specs.Transaction.{bank, bankValue, versionOf, nothing?, gather}
+use Rattle.model.proofs.Lists.{same?, replace-same, replace-other, length-replace, at-past, at-replicate}
+use Rattle.model.proofs.Fit.Elements.{or-cases, or-left, or-right}
+use Rattle.model.proofs.Fit.Transaction.{countBy, count, touched?, copied?, BlocksFit}
+use Rattle.model.proofs.Fit.Exchange.{entryOf, EntriesFit}
 
+-- A LIST WITHOUT A NUMBER
+removeBy : Bool → ℕ → List ℕ → List ℕ
+removeBy true y l = l
+removeBy false y l = y ∷ l
+
+remove : ℕ → List ℕ → List ℕ
+unfolding removeBy
+remove x [] = []
+remove x (y ∷ l) = removeBy (eqb x y) y (remove x l)
+
+remove-other : (x z : ℕ) (l : List ℕ) → z ≢ x → among z l ≡ true → among z (remove x l) ≡ true
+unfolding remove among
+remove-other x z [] n m = m
+remove-other x z (y ∷ l) n m = go (eqb x y) refl (remove-other x z l n)
+  where
+    go : (b : Bool) → eqb x y ≡ b → (among z l ≡ true → among z (remove x l) ≡ true) → among z (removeBy b y (remove x l)) ≡ true
+    go true e left = or-cases (eqb z y) (among z l) m (λ s. absurd (n (eqb-true z y s ∙ sym (eqb-true x y e)))) left
+    go false e left =
+        or-cases (eqb z y) (among z l) m
+        (λ s. or-left (eqb z y) (among z (remove x l)) s)
+        (λ o. or-right (eqb z y) (among z (remove x l)) (left o))
+
+remove-most : (x : ℕ) (l : List ℕ) → length (remove x l) ≤ length l
+unfolding remove
+remove-most x [] = omega arith
+remove-most x (y ∷ l) = go (eqb x y) (remove-most x l)
+  where
+    go : (b : Bool) → length (remove x l) ≤ length l → length (removeBy b y (remove x l)) ≤ suc (length l)
+    go true h = omega arith
+    go false h = omega arith
+
+remove-fewer : (x : ℕ) (l : List ℕ) → among x l ≡ true → length (remove x l) < length l
+unfolding remove among
+remove-fewer x [] m = absurd (false≢true m)
+remove-fewer x (y ∷ l) m = go (eqb x y) m (remove-fewer x l)
+  where
+    go : (b : Bool) → (b || among x l) ≡ true → (among x l ≡ true → length (remove x l) < length l) → length (removeBy b y (remove x l)) < suc (length l)
+    go true m h = omega (arith, remove-most x l)
+    go false m h = omega (arith, h m)
+
+-- COUNTS
+module _ (test : Touched → Bool) where
+  -- each of them is in the list, so they are no more than the list is long
+  count-from : (ts : List Touched) (from : ℕ) (l : List ℕ) → ((n : ℕ) → test (at untouched ts n) ≡ true → among (from + n) l ≡ true) → count test ts ≤ length l
+  unfolding count at
+  count-from [] from l h = omega arith
+  count-from (t ∷ ts) from l h = go (test t) refl (count-from ts (suc from))
+    where
+      next : (n : ℕ) → test (at untouched ts n) ≡ true → among (suc from + n) l ≡ true
+      next n e = let s : from + suc n ≡ suc from + n = omega arith in rw s at (h (suc n) e)
+
+      go : (b : Bool) → test t ≡ b → ((l : List ℕ) → ((n : ℕ) → test (at untouched ts n) ≡ true → among (suc from + n) l ≡ true) → count test ts ≤ length l) → countBy b (count test ts) ≤ length l
+      go true e others =
+          let z : from + 0 ≡ from = omega arith in
+          let fewer = remove-fewer from l (rw z at (h 0 e)) in
+          let most = others (remove from l) (λ n q. remove-other from (suc from + n) l (omega arith) (next n q)) in
+          omega arith
+      go false e others = others l next
+
+  pub count-most : (ts : List Touched) (l : List ℕ) → ((n : ℕ) → test (at untouched ts n) ≡ true → among n l ≡ true) → count test ts ≤ length l
+  count-most ts l h = count-from ts 0 l (λ n e. let z : 0 + n ≡ n = omega arith in rw z (h n e))
+
+  -- and fewer where the list has one of which the test does not hold
+  pub count-fewer : (ts : List Touched) (l : List ℕ) (x : ℕ) → ((n : ℕ) → test (at untouched ts n) ≡ true → among n l ≡ true) → among x l ≡ true → test (at untouched ts x) ≡ false → count test ts < length l
+  count-fewer ts l x h m f =
+      let fewer = remove-fewer x l m in
+      let most = count-most ts (remove x l) (λ n e. remove-other x n l (λ q. true≢false (sym e ∙ ap (λ (z : ℕ). test (at untouched ts z)) q ∙ f)) (h n e)) in
+      omega arith
+
+  count-by : (b : Bool) (n : ℕ) → countBy b n ≡ n + countBy b 0
+  count-by true n = omega arith
+  count-by false n = omega arith
+
+  -- one block replaced
+  pub count-replace : (ts : List Touched) (n : ℕ) (t : Touched) → n < length ts → count test (replace ts n t) + countBy (test (at untouched ts n)) 0 ≡ count test ts + countBy (test t) 0
+  unfolding count at replace
+  count-replace [] n t h = absurd (omega arith)
+  count-replace (s ∷ ts) zero t h = omega (arith, count-by (test t) (count test ts), count-by (test s) (count test ts))
+  count-replace (s ∷ ts) (suc n) t h =
+      let e = count-replace ts n t (omega arith) in
+      omega (arith, count-by (test s) (count test ts), count-by (test s) (count test (replace ts n t)))
+
+-- THE BLOCKS AGAINST THE TEXT
 -- nothing touched
-at-none : (n : ℕ) → at untouched (replicate 16 untouched) n ≡ untouched
+pub at-none : (n : ℕ) → at untouched (replicate 16 untouched) n ≡ untouched
 at-none n = go (decLt n 16)
   where
     go : Dec (n < 16) → at untouched (replicate 16 untouched) n ≡ untouched
@@ -103,3 +192,64 @@ module _ {blocks : ℕ} {b : Body} {ts : List Touched} {used : ℕ} (f : BlocksF
             (λ t o. let z : k ≡ used = cc in let l = f .slot p u k (rw r at h) in absurd (omega arith))
             (λ o. f .different p q u w k (rw r at h) (rw o at g)));
       }
+
+-- THE ENTRIES THAT COMMIT GATHERS: one for each touched block, by rising number, for its bank word
+-- as many entries as touched blocks
+pub gather-size : (copies : List ℕ) (b : ℕ) (ts : List Touched) → length (gather copies b ts) ≡ count touched? ts
+unfolding gather count
+gather-size copies b [] = refl
+gather-size copies b (untouched ∷ ts) = gather-size copies (suc b) ts
+gather-size copies b (remembered v ∷ ts) = ap suc (gather-size copies (suc b) ts)
+gather-size copies b (copied v k ∷ ts) = ap suc (gather-size copies (suc b) ts)
+
+-- something is gathered where something is touched
+pub gather-some : (copies : List ℕ) (b : ℕ) (ts : List Touched) → nothing? ts ≡ false → 1 ≤ length (gather copies b ts)
+unfolding gather nothing?
+gather-some copies b [] e = absurd (true≢false e)
+gather-some copies b (untouched ∷ ts) e = gather-some copies (suc b) ts e
+gather-some copies b (remembered v ∷ ts) e = omega arith
+gather-some copies b (copied v k ∷ ts) e = omega arith
+
+-- different cells from `low` on and below `high`
+record Cells (low high : ℕ) (es : List Entry) : Type 0 where
+  from : (i : ℕ) → i < length es → low ≤ entryOf es i .cell
+  below : (i : ℕ) → i < length es → entryOf es i .cell < high
+  different : (i j : ℕ) → i < length es → j < length es → entryOf es i .cell ≡ entryOf es j .cell → i ≡ j
+
+cells-skip : {low high : ℕ} {es : List Entry} → Cells (suc low) high es → Cells low high es
+cells-skip c = record { from = λ i h. let l = c .from i h in omega arith; below = c .below; different = c .different }
+
+cells-join : {low high : ℕ} {es : List Entry} (e : Entry) → e .cell ≡ low → low < high → Cells (suc low) high es → Cells low high (e ∷ es)
+unfolding at
+cells-join {low} {high} {es} e q most c = record { from = from; below = below; different = different }
+  where
+    from : (i : ℕ) → i < suc (length es) → low ≤ entryOf (e ∷ es) i .cell
+    from zero h = omega arith
+    from (suc i) h = let l = c .from i (omega arith) in omega arith
+
+    below : (i : ℕ) → i < suc (length es) → entryOf (e ∷ es) i .cell < high
+    below zero h = omega arith
+    below (suc i) h = c .below i (omega arith)
+
+    different : (i j : ℕ) → i < suc (length es) → j < suc (length es) → entryOf (e ∷ es) i .cell ≡ entryOf (e ∷ es) j .cell → i ≡ j
+    different zero zero hi hj s = refl
+    different zero (suc j) hi hj s = let l = c .from j (omega arith) in absurd (omega arith)
+    different (suc i) zero hi hj s = let l = c .from i (omega arith) in absurd (omega arith)
+    different (suc i) (suc j) hi hj s = ap suc (c .different i j (omega arith) (omega arith) s)
+
+gather-cells : (copies : List ℕ) (blocks b : ℕ) (ts : List Touched) → ((n : ℕ) → touched? (at untouched ts n) ≡ true → b + n < blocks) → Cells (32 + b) (32 + blocks) (gather copies b ts)
+unfolding gather at
+gather-cells copies blocks b [] h = record { from = λ i (l : i < 0). absurd (omega arith); below = λ i (l : i < 0). absurd (omega arith); different = λ i j (l : i < 0) k e. absurd (omega arith) }
+gather-cells copies blocks b (t ∷ ts) h =
+    let same : suc (32 + b) ≡ 32 + suc b = omega arith in
+    go t (h 0) (rw same (gather-cells copies blocks (suc b) ts (λ n e. let l = h (suc n) e in omega arith)))
+  where
+    go : (t : Touched) → (touched? t ≡ true → b + 0 < blocks) → Cells (suc (32 + b)) (32 + blocks) (gather copies (suc b) ts) → Cells (32 + b) (32 + blocks) (gather copies b (t ∷ ts))
+    go untouched f c = cells-skip c
+    go (remembered v) f c = let l = f refl in cells-join (entry (bank b) v v) refl (omega arith) c
+    go (copied v k) f c = let l = f refl in cells-join (entry (bank b) v (bankValue (suc (versionOf v)) (at 0 copies k))) refl (omega arith) c
+
+pub gather-entries : {blocks : ℕ} {b : Body} {ts : List Touched} {used : ℕ} (copies : List ℕ) → BlocksFit blocks b ts used → count touched? ts ≤ 8 → EntriesFit 32 (32 + blocks) (gather copies 0 ts)
+gather-entries {blocks} {b} {ts} copies f most =
+    let c = gather-cells copies blocks 0 ts (λ n e. let l = f .below n e in omega arith) in
+    record { most = rw (gather-size copies 0 ts) most; from = λ i h. let l = c .from i h in omega arith; below = c .below; different = c .different }

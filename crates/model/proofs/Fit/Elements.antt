@@ -1,13 +1,85 @@
--- Facts about every element of a list, where one element is replaced.
+-- Tests of two parts, membership of a number in a list, and facts about every element of a list.
 use Prim.Native.Nat.{ℕ, zero, suc, _<_, _≤_}
 use mathlib.Core.Path.{_≡_, refl, sym, _∙_, ap, subst}
+use mathlib.Core.Bool.{Bool, true, false, _&&_, _||_, true≢false, false≢true}
 use mathlib.Core.List.{List, [], _∷_, _++_}
-use native.Mathlib.Decide.{decLt}
 use native.Mathlib.Omega.{arith}
-use lib.ListN.{length, replicate, length-replicate}
+use native.Mathlib.Decide.{decLt}
+use lib.Dec.{eqb, ltb}
+use lib.ListN.{length, length-append, replicate, length-replicate}
+use borrow.Author.Tests.{eq-eqb, ltb-true}
+use Rattle.model.specs.Fault.{among, includeBy, include, room}
 use Rattle.model.specs.Lists.{at, replace}
-use Rattle.model.proofs.Lists.{replace-same, replace-other, replace-past, at-replicate, at-past, same?}
+use Rattle.model.proofs.Lists.{same?, replace-same, replace-other, replace-past, at-replicate, at-past}
 
+pub and-left : (a b : Bool) → (a && b) ≡ true → a ≡ true
+and-left true b e = refl
+and-left false b e = e
+
+pub and-right : (a b : Bool) → (a && b) ≡ true → b ≡ true
+and-right true b e = e
+and-right false b e = absurd (false≢true e)
+
+pub or-cases : {P : Type 0} (a b : Bool) → (a || b) ≡ true → (a ≡ true → P) → (b ≡ true → P) → P
+or-cases true b e f g = f refl
+or-cases false b e f g = g e
+
+pub or-left : (a b : Bool) → a ≡ true → (a || b) ≡ true
+or-left true b e = refl
+or-left false b e = absurd (false≢true e)
+
+pub or-right : (a b : Bool) → b ≡ true → (a || b) ≡ true
+or-right true b e = refl
+or-right false b e = e
+
+pub or-none : (a b : Bool) → (a || b) ≡ false → a ≡ false
+or-none true b e = e
+or-none false b e = refl
+
+pub or-none-right : (a b : Bool) → (a || b) ≡ false → b ≡ false
+or-none-right true b e = absurd (true≢false e)
+or-none-right false b e = e
+
+-- MEMBERSHIP
+pub among-append : (x : ℕ) (l r : List ℕ) → among x l ≡ true → among x (l ++ r) ≡ true
+unfolding among
+among-append x [] r e = absurd (false≢true e)
+among-append x (y ∷ l) r e =
+    or-cases (eqb x y) (among x l) e
+    (λ s. or-left (eqb x y) (among x (l ++ r)) s)
+    (λ m. or-right (eqb x y) (among x (l ++ r)) (among-append x l r m))
+
+pub among-last : (x : ℕ) (l : List ℕ) → among x (l ++ (x ∷ [])) ≡ true
+unfolding among
+among-last x [] = or-left (eqb x x) false (eq-eqb x x refl)
+among-last x (y ∷ l) = or-right (eqb x y) (among x (l ++ (x ∷ []))) (among-last x l)
+
+pub include-same : (x : ℕ) (l : List ℕ) → among x (include x l) ≡ true
+unfolding includeBy
+include-same x l = go (among x l) refl
+  where
+    go : (b : Bool) → among x l ≡ b → among x (includeBy b x l) ≡ true
+    go true e = e
+    go false e = among-last x l
+
+pub include-more : (x y : ℕ) (l : List ℕ) → among x l ≡ true → among x (include y l) ≡ true
+unfolding includeBy
+include-more x y l m = go (among y l)
+  where
+    go : (b : Bool) → among x (includeBy b y l) ≡ true
+    go true = m
+    go false = among-append x l (y ∷ []) m
+
+-- one more stays under the ceiling where there is room
+pub include-size : (most x : ℕ) (l : List ℕ) → length l ≤ most → room most x l ≡ true → length (include x l) ≤ most
+unfolding includeBy
+include-size most x l h r = go (among x l) r
+  where
+    go : (b : Bool) → (b || ltb (length l) most) ≡ true → length (includeBy b x l) ≤ most
+    go true e = h
+    go false e = omega (arith, length-append l (x ∷ []), ltb-true (length l) most e)
+
+-- EVERY ELEMENT
 -- one number is below another or not
 pub below? : {P : Type 0} (i n : ℕ) → (i < n → P) → (n ≤ i → P) → P
 below? {P} i n f g = go (decLt i n)
@@ -54,8 +126,31 @@ module _ {A : Type 0} (d : A) where
   append-each P (x ∷ l) r f g zero h = f zero (omega arith)
   append-each P (x ∷ l) r f g (suc j) h = append-each P l r (λ i k. f (suc i) (omega arith)) g j (omega arith)
 
+  pub first-each : (P : A → Type 0) (a : A) (l : List A) → P a → ((j : ℕ) → j < length l → P (at d l j)) → (j : ℕ) → j < suc (length l) → P (at d (a ∷ l) j)
+  unfolding at
+  first-each P a l f g zero h = f
+  first-each P a l f g (suc j) h = g j (omega arith)
+
   pub replicate-each : (P : A → Type 0) (n : ℕ) (a : A) → P a → (j : ℕ) → j < length (replicate n a) → P (at d (replicate n a) j)
   replicate-each P n a p j h = subst P (sym (at-replicate d a n j (rw (length-replicate n a) at h))) p
+
+  -- the same at every number, also past the end
+  pub append-every : (P : A → Type 0) (l r : List A) → ((j : ℕ) → P (at d l j)) → ((j : ℕ) → P (at d r j)) → (j : ℕ) → P (at d (l ++ r) j)
+  unfolding at
+  append-every P [] r f g j = g j
+  append-every P (x ∷ l) r f g zero = f zero
+  append-every P (x ∷ l) r f g (suc j) = append-every P l r (λ i. f (suc i)) g j
+
+  pub first-every : (P : A → Type 0) (a : A) (l : List A) → P a → ((j : ℕ) → P (at d l j)) → (j : ℕ) → P (at d (a ∷ l) j)
+  unfolding at
+  first-every P a l f g zero = f
+  first-every P a l f g (suc j) = g j
+
+  pub replicate-every : (P : A → Type 0) (n : ℕ) (a : A) → P a → P d → (j : ℕ) → P (at d (replicate n a) j)
+  unfolding at
+  replicate-every P zero a p q j = q
+  replicate-every P (suc n) a p q zero = p
+  replicate-every P (suc n) a p q (suc j) = replicate-every P n a p q j
 
   -- past a list that is filled up with the default
   pub at-filled : (l : List A) (n i : ℕ) → length l ≤ i → at d (l ++ replicate n d) i ≡ d

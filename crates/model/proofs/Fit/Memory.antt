@@ -1,10 +1,10 @@
 -- The shared memory has the sizes that document 01 gives it.
-use Prim.Native.Nat.{ℕ, _<_, _≤_}
+use Prim.Native.Nat.{ℕ, _<_}
 use mathlib.Core.Path.{_≡_, _∙_}
 use mathlib.Core.List.{List, []}
 use lib.ListN.{length}
 use Rattle.model.specs.Lists.{at, replace}
-use Rattle.model.specs.Word.{Word, Memory, memory, setCell, setStatus, setSave, setStored}
+use Rattle.model.specs.Word.{Word, Memory, setCell, setStatus, setSave, setStored}
 use Rattle.model.proofs.Lists.{length-replace}
 use Rattle.model.proofs.Fit.Elements.{replace-part}
 

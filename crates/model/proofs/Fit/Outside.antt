@@ -1,29 +1,121 @@
--- Statements outside a transaction: plain commands, READ and SWAP.
+-- Statements outside a transaction: plain commands with the waiting PAIRs, READ and SWAP.
 use Prim.Native.Nat.{ℕ, zero, suc, _+_, _<_, _≤_, zero-le}
 use mathlib.Core.Path.{_≡_, refl, sym, _∙_, ap, subst}
-use mathlib.Core.Bool.{Bool, true, false, true≢false, false≢true}
+use mathlib.Core.Bool.{true, false, not, true≢false, false≢true, _&&_}
 use mathlib.Core.List.{List, [], _∷_, _++_, map, map-append}
-use mathlib.Core.Option.{none}
 use native.Mathlib.Omega.{arith}
-use lib.ListN.{length, length-map}
+use lib.Dec.{eqb}
+use lib.ListN.{length, length-append, length-map}
+use lib.Seq.{getD-append-seam}
+use borrow.Author.Tests.{eq-eqb}
 use Rattle.model.specs.Lists.{at, replace}
-use Rattle.model.specs.Command.{Access, Command, WORD, BLOCK, TASK, RELEASE, END, LOAD, ADD, READ, PAIR, SWAP, BEGIN, access, COMMIT}
-use Rattle.model.specs.Fault.{Body, Known, none?, among, faultOf}
+use Rattle.model.specs.Fault.{among, Body, Known, mayEnd, none?}
+use Rattle.model.specs.Word.{fresh, Memory, Read, reads, gives}
+use Rattle.model.specs.Exchange.{Entry, entry, Exchanged, goes, ends}
+use Rattle.model.specs.Command.{Command, LOAD, ADD, READ, PAIR, SWAP}
 use Rattle.model.specs.Sheet.{after, inBody, waiting}
-use Rattle.model.specs.Word.{Memory, Reading, loading, Read, reads, gives, readTick}
-use Rattle.model.specs.Exchange.{Entry, entry, Exchange, Exchanged, goes, ends, exchangeOf, start, exchangeTick}
-use Rattle.model.specs.Job.{Phase, plain, reading, exchanging, Task, Turn, turn, rest, done, doneBy, inPhase}
+use Rattle.model.specs.Job.{Phase, reading, exchanging, Task, Turn, turn, rest, done, doneBy, inPhase}
 use Rattle.model.specs.Machine.{answer, readBy, swapBy}
-use Rattle.model.proofs.Lists.{length-replace}
-use Rattle.model.proofs.Fit.Body.{BodyCommand, First, Faultless, Open, ReadFits, PairFits, SwapFits, CommandFits}
-use Rattle.model.proofs.Fit.Command.{command-fits}
+use Rattle.model.proofs.Lists.{at-append, same?, length-replace}
+use Rattle.model.proofs.Fit.Elements.{or-left, or-right, and-left, and-right, append-all}
+use Rattle.model.proofs.Fit.Exchange.{entryOf, EntriesFit, Unloaded, ExchangedFit}
+use Rattle.model.proofs.Fit.Machine.{wordOf, OutsideFit, ReadingFit, PhaseFit}
+use Rattle.model.proofs.Fit.Body.{Faultless, Open, CommandFits, command-fits}
 use Rattle.model.proofs.Fit.Memory.{MemoryFit}
-use Rattle.model.proofs.Fit.Exchange.{EntriesFit, Unloaded, ExchangeFit}
-use Rattle.model.proofs.Fit.ExchangeTick.{GoesFit, ExchangedFit, exchange-start, exchange-fit}
-use Rattle.model.proofs.Fit.Machine.{wordOf, OutsideFit, ReadingFit, ExchangingFit, PhaseFit}
-use Rattle.model.proofs.Fit.Pairs.{no-entries, no-unloaded, entries-more, unloaded-more}
-use Rattle.model.proofs.Fit.Turn.{TurnFit, phase-fit, done-fit}
 
+-- THE WAITING PAIRS
+pub no-entries : (low high : ℕ) → EntriesFit low high []
+no-entries low high =
+    record {
+      most = omega arith;
+      from = λ i (h : i < 0). absurd (omega arith);
+      below = λ i (h : i < 0). absurd (omega arith);
+      different = λ i j (h : i < 0) k e. absurd (omega arith);
+    }
+
+pub no-unloaded : Unloaded []
+unfolding at
+no-unloaded = record { init = λ i. refl; overlapped = λ i. refl }
+
+at-last : (ps : List Entry) (e : Entry) → entryOf (ps ++ (e ∷ [])) (length ps) ≡ e
+unfolding at
+at-last ps e = getD-append-seam ps e [] (entry 0 0 0)
+
+among-words : (ps : List Entry) (i : ℕ) → i < length ps → among (entryOf ps i .cell) (map wordOf ps) ≡ true
+unfolding at among
+among-words [] i h = absurd (omega arith)
+among-words (e ∷ ps) zero h = or-left (eqb (e .cell) (e .cell)) (among (e .cell) (map wordOf ps)) (eq-eqb (e .cell) (e .cell) refl)
+among-words (e ∷ ps) (suc i) h = or-right (eqb (entryOf ps i .cell) (e .cell)) (among (entryOf ps i .cell) (map wordOf ps)) (among-words ps i (omega arith))
+
+module _ {low high : ℕ} {ps : List Entry} (f : EntriesFit low high ps) (c o n : ℕ) (more : length ps < 8) (least : low ≤ c) (most : c < high) (new : among c (map wordOf ps) ≡ false) where
+  size : length (ps ++ (entry c o n ∷ [])) ≡ suc (length ps)
+  size = omega (arith, length-append ps (entry c o n ∷ []))
+
+  -- an entry by its number: one of the old ones, or the last
+  by-number : {P : Type 0} (i : ℕ) → i < length (ps ++ (entry c o n ∷ [])) → (i < length ps → entryOf (ps ++ (entry c o n ∷ [])) i ≡ entryOf ps i → P) → (i ≡ length ps → entryOf (ps ++ (entry c o n ∷ [])) i ≡ entry c o n → P) → P
+  by-number i h old last =
+      same? i (length ps)
+      (λ e. last e (rw e (at-last ps (entry c o n))))
+      (λ d. let l : i < length ps = omega (arith, size) in old l (at-append (entry 0 0 0) ps (entry c o n ∷ []) i l))
+
+  not-new : (i : ℕ) → i < length ps → entryOf ps i .cell ≡ c → ⊥
+  not-new i h e = true≢false (sym (among-words ps i h) ∙ ap (λ (z : ℕ). among z (map wordOf ps)) e ∙ new)
+
+  pub entries-more : EntriesFit low high (ps ++ (entry c o n ∷ []))
+  entries-more =
+      record {
+        most = omega (arith, size);
+        from = λ i h. by-number i h (λ l e. rw e (f .from i l)) (λ l e. rw e least);
+        below = λ i h. by-number i h (λ l e. rw e (f .below i l)) (λ l e. rw e most);
+        different = λ i j hi hj q.
+            by-number i hi
+            (λ li ei. by-number j hj
+            (λ lj ej. f .different i j li lj (rw (ei, ej) at q))
+            (λ lj ej. absurd (not-new i li (rw (ei, ej) at q))))
+            (λ li ei. by-number j hj
+            (λ lj ej. absurd (not-new j lj (sym (rw (ei, ej) at q))))
+            (λ lj ej. li ∙ sym lj));
+      }
+
+pub unloaded-more : {ps : List Entry} → Unloaded ps → (c o n : ℕ) → Unloaded (ps ++ (entry c o n ∷ []))
+unloaded-more {ps} u c o n =
+    record {
+      init = append-all (entry 0 0 0) (λ (e : Entry). e .init ≡ fresh 0) ps (entry c o n) refl refl (u .init);
+      overlapped = append-all (entry 0 0 0) (λ (e : Entry). e .overlapped ≡ false) ps (entry c o n) refl refl (u .overlapped);
+    }
+
+-- WHAT A STATEMENT LEAVES
+-- a statement of task t leaves this turn; at most one count has risen, by one
+pub record TurnFit (words blocks : ℕ) (t : Task) (u : Turn) : Type 0 where
+  pub memory : MemoryFit (u .memory)
+  pub body : u .task .body ≡ t .body
+  pub registers : length (u .task .registers) ≡ 8
+  pub copies : length (u .task .copies) ≡ 4
+  pub counts : u .task .finished + u .task .spent + u .task .rejected ≤ suc (t .finished + t .spent + t .rejected)
+  pub ticks : u .task .ticks ≡ t .ticks
+  pub phase : PhaseFit words blocks (u .task .copies) (u .task .commands) (u .task .pairs) (u .task .phase)
+
+-- the task as it was, in another phase
+pub phase-fit : {words blocks : ℕ} {m : Memory} (t : Task) (f : Phase) → MemoryFit m → length (t .registers) ≡ 8 → length (t .copies) ≡ 4 → PhaseFit words blocks (t .copies) (t .commands) (t .pairs) f → TurnFit words blocks t (turn m (inPhase t f))
+phase-fit t f g rs cs p = record { memory = g; body = refl; registers = rs; copies = cs; counts = omega arith; ticks = refl; phase = p }
+
+-- no PAIR waits where a body may end
+none-waiting : (ps : List Entry) (b : Body) → b .pairs ≡ map wordOf ps → mayEnd b ≡ true → ps ≡ []
+none-waiting [] b e q = refl
+none-waiting (x ∷ ps) b e q =
+    let z = and-right (not (b .empty)) (none? (b .pairs)) (and-left (not (b .empty) && none? (b .pairs)) (not (b .inside)) q) in
+    absurd (false≢true (rw e at z))
+
+-- the command is done, and the job is outside a transaction
+pub done-fit : {words blocks : ℕ} {m : Memory} (t : Task) (l : List Command) (rs : List ℕ) (ps : List Entry) (cs : List ℕ) → rest (t .commands) ≡ l → MemoryFit m → length rs ≡ 8 → length cs ≡ 4 → OutsideFit words blocks l ps → TurnFit words blocks t (turn m (done t rs ps cs))
+unfolding doneBy
+done-fit {words} {blocks} {m} t l rs ps cs e g hr hc o = subst (λ (z : List Command). TurnFit words blocks t (turn m (doneBy z t rs ps cs))) (sym e) (go l o)
+  where
+    go : (l : List Command) → OutsideFit words blocks l ps → TurnFit words blocks t (turn m (doneBy l t rs ps cs))
+    go [] o = record { memory = g; body = refl; registers = hr; copies = hc; counts = omega arith; ticks = refl; phase = record { commands = refl; noPairs = none-waiting ps (o .known .body) (o .waiting) (o .faultless) } }
+    go (c ∷ l) o = record { memory = g; body = refl; registers = hr; copies = hc; counts = omega arith; ticks = refl; phase = record { command = c; others = l; commands = refl; outside = o } }
+
+-- THE TEXT AFTER A COMMAND
 pub open-next : {words blocks : ℕ} {k : Known} (b : Body) → Open words blocks k → Open words blocks (inBody k b)
 open-next b o = record { section = o .section; wordCount = o .wordCount; blockCount = o .blockCount }
 

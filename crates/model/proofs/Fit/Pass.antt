@@ -1,23 +1,20 @@
 -- A pass through a transaction against its text: where it stands, and the next command.
-use Prim.Native.Nat.{ℕ, zero, suc, _+_, _<_, _≤_}
+use Prim.Native.Nat.{ℕ, _≤_}
 use mathlib.Core.Path.{_≡_, refl, sym, _∙_, ap, subst}
-use mathlib.Core.Bool.{Bool, true, false, not, _&&_, true≢false, false≢true}
+use mathlib.Core.Bool.{true, not, _&&_, true≢false}
 use mathlib.Core.List.{List, [], _∷_}
 use native.Mathlib.Omega.{arith}
 use lib.ListN.{length}
-use Rattle.model.specs.Lists.{at}
 use Rattle.model.specs.Command.{Access, GET, PUT, Command, WORD, BLOCK, TASK, RELEASE, END, LOAD, ADD, READ, PAIR, SWAP, BEGIN, access, COMMIT}
-use Rattle.model.specs.Fault.{Body, Known, mayEnd, among, include, none?, faultOf}
-use Rattle.model.specs.Sheet.{after, inBody, waiting, transaction, named}
+use Rattle.model.specs.Fault.{Body, Known, among, none?}
+use Rattle.model.specs.Sheet.{after, inBody, waiting, named}
 use Rattle.model.specs.Exchange.{Entry}
-use Rattle.model.specs.Job.{Touched, untouched, remembered, copied, Transaction, Inner, between}
-use Rattle.model.specs.Transaction.{fresh, blockOf, touchedOf}
-use Rattle.model.proofs.Fit.Tests.{and-right, include-same, include-more, include-size}
-use Rattle.model.proofs.Fit.Body.{BodyCommand, First, Faultless, Open, GetFits, PutFits, CommandFits}
-use Rattle.model.proofs.Fit.Command.{command-fits}
-use Rattle.model.proofs.Fit.Transaction.{touched?, copied?, count, namedBy, namedSoFar, BlocksFit, Inside, BegunFit, registerOf, offsetOf, AtWork, PutFirst, InnerFit, TransactionFit}
-use Rattle.model.proofs.Fit.Counting.{count-most, count-fewer}
-use Rattle.model.proofs.Fit.Blocks.{blocks-none, blocks-named}
+use Rattle.model.specs.Job.{Touched, Transaction, Inner}
+use Rattle.model.specs.Transaction.{fresh}
+use Rattle.model.proofs.Fit.Elements.{and-right, include-more, include-size}
+use Rattle.model.proofs.Fit.Body.{Faultless, CommandFits, command-fits}
+use Rattle.model.proofs.Fit.Transaction.{touched?, copied?, namedBy, namedSoFar, BlocksFit, Inside, BegunFit, InnerFit, TransactionFit}
+use Rattle.model.proofs.Fit.Blocks.{count-most, blocks-none, blocks-named}
 use Rattle.model.proofs.Fit.Outside.{open-next}
 
 -- a transaction at work, whatever its inner step

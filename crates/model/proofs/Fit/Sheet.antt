@@ -1,7 +1,7 @@
 -- What the check says of an accepted sheet.
-use Prim.Native.Nat.{ℕ, suc, _<_, _≤_}
+use Prim.Native.Nat.{ℕ, _+_, _<_, _≤_}
 use mathlib.Core.Path.{_≡_}
-use mathlib.Core.List.{List, []}
+use mathlib.Core.List.{List, [], _∷_}
 use lib.ListN.{length}
 use Rattle.model.specs.Lists.{at}
 use Rattle.model.specs.Command.{Release, Block, Command}
@@ -39,6 +39,11 @@ noBlock = record { version = 0; values = [] }
 abbrev pub blockAt : List Block → ℕ → Block
 blockAt bs b = at noBlock bs b
 
+-- all body commands
+abbrev pub commandCount : List (List Command) → ℕ
+commandCount [] = 0
+commandCount (l ∷ ls) = length l + commandCount ls
+
 pub record SheetFit (s : Sheet) : Type 0 where
   pub words : length (s .words) ≤ 32
   pub blocks : length (s .blocks) ≤ 16
@@ -47,5 +52,6 @@ pub record SheetFit (s : Sheet) : Type 0 where
   pub someBody : 1 ≤ length (s .bodies)
   pub bodies : length (s .bodies) ≤ 8
   pub body : (p : ℕ) → p < length (s .bodies) → BodyFit (length (s .words)) (length (s .blocks)) (at [] (s .bodies) p)
+  pub commands : commandCount (s .bodies) ≤ 512
   pub mostReleases : length (s .releases) ≤ 256
   pub releases : ReleasesFit (length (s .bodies)) 0 (s .releases)

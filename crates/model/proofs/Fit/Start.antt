@@ -8,13 +8,13 @@ use Rattle.model.specs.Ceilings.{registers}
 use Rattle.model.specs.Lists.{at}
 use Rattle.model.specs.Command.{Block, Command}
 use Rattle.model.specs.Sheet.{Sheet}
-use Rattle.model.specs.Word.{Word, Memory}
+use Rattle.model.specs.Word.{Word}
 use Rattle.model.specs.Word.{fresh as freshWord}
 use Rattle.model.specs.Job.{idle, Task}
-use Rattle.model.specs.Machine.{Machine, noTask, taskAt, filled, zeros, copiesOf, banksFrom, valuesOf, tasksFrom, startMemory, startMachine}
+use Rattle.model.specs.Machine.{noTask, taskAt, filled, zeros, copiesOf, banksFrom, valuesOf, tasksFrom, startMemory, startMachine}
 use Rattle.model.proofs.Lists.{at-append, at-map, at-replicate}
 use Rattle.model.proofs.Fit.Elements.{append-each, replicate-each, at-filled}
-use Rattle.model.proofs.Fit.Sheet.{blockAt, noBlock, SheetFit}
+use Rattle.model.proofs.Fit.Sheet.{noBlock, SheetFit}
 use Rattle.model.proofs.Fit.Memory.{MemoryFit}
 use Rattle.model.proofs.Fit.Machine.{TaskFit, DeclaredFit, Fit}
 

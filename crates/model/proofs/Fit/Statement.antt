@@ -1,31 +1,27 @@
 -- A statement keeps memory and task well formed.
-use Prim.Native.Nat.{ℕ, suc, _+_, _<_, _≤_}
+use Prim.Native.Nat.{ℕ, _≤_}
 use mathlib.Core.Path.{_≡_, refl, sym, _∙_, ap, subst}
-use mathlib.Core.Bool.{Bool, true, false, true≢false, false≢true}
+use mathlib.Core.Bool.{true, true≢false}
 use mathlib.Core.List.{List, [], _∷_, _++_}
 use native.Mathlib.Omega.{arith}
 use lib.ListN.{length}
-use Rattle.model.specs.Lists.{at, replace}
-use Rattle.model.specs.Command.{Access, GET, PUT, Command, WORD, BLOCK, TASK, RELEASE, END, LOAD, ADD, READ, PAIR, SWAP, BEGIN, access, COMMIT}
-use Rattle.model.specs.Fault.{Body, Known}
+use Rattle.model.specs.Lists.{at}
+use Rattle.model.specs.Command.{GET, PUT, Command, WORD, BLOCK, TASK, RELEASE, END, LOAD, ADD, READ, PAIR, SWAP, BEGIN, access, COMMIT}
+use Rattle.model.specs.Fault.{Body}
 use Rattle.model.specs.Sheet.{after, inBody, transaction}
 use Rattle.model.specs.Word.{Memory, loading, readTick}
 use Rattle.model.specs.Exchange.{Entry, entry, exchangeOf, start, exchangeTick}
-use Rattle.model.specs.Job.{Phase, idle, plain, reading, exchanging, transacting, Task, Turn, turn, rest}
+use Rattle.model.specs.Job.{Phase, idle, plain, reading, exchanging, transacting, Task, rest}
 use Rattle.model.specs.Transaction.{loaded, added}
 use Rattle.model.specs.Machine.{plainTick, statement}
 use Rattle.model.proofs.Lists.{length-replace}
-use Rattle.model.proofs.Fit.Body.{First, Faultless, CommandFits}
 use Rattle.model.proofs.Fit.Memory.{MemoryFit}
-use Rattle.model.proofs.Fit.Exchange.{ExchangeFit}
-use Rattle.model.proofs.Fit.ExchangeTick.{exchange-start, exchange-fit}
+use Rattle.model.proofs.Fit.Exchange.{ExchangeFit, exchange-start, exchange-fit}
 use Rattle.model.proofs.Fit.Transaction.{BegunFit}
-use Rattle.model.proofs.Fit.Machine.{IdleFit, OutsideFit, PlainFit, ReadingFit, ExchangingFit, PhaseFit}
-use Rattle.model.proofs.Fit.Outside.{open-next, first-fits, after-load, after-add, after-pair, some-pairs, read-fit, SwapAt, swap-fit}
+use Rattle.model.proofs.Fit.Machine.{OutsideFit, PhaseFit}
+use Rattle.model.proofs.Fit.Outside.{open-next, first-fits, after-load, after-add, after-pair, some-pairs, read-fit, swap-fit, TurnFit, done-fit}
 use Rattle.model.proofs.Fit.Pass.{pass-start}
-use Rattle.model.proofs.Fit.Access.{within-fit}
-use Rattle.model.proofs.Fit.TransactionTick.{transaction-tick-fit}
-use Rattle.model.proofs.Fit.Turn.{TurnFit, done-fit}
+use Rattle.model.proofs.Fit.TransactionTick.{within-fit, transaction-tick-fit}
 
 -- the commands after BEGIN
 begun : {words blocks : ℕ} {l : List Command} {ps : List Entry} → OutsideFit words blocks (BEGIN ∷ l) ps → BegunFit words blocks l

@@ -10,7 +10,7 @@ use Rattle.model.specs.Fault.{Body, Known, among}
 use Rattle.model.specs.Sheet.{named}
 use Rattle.model.specs.Exchange.{Entry, Exchange}
 use Rattle.model.specs.Job.{Touched, untouched, remembered, copied, Transaction, Inner, between, first, copying, again, committing}
-use Rattle.model.specs.Transaction.{blockOf, touchedOf, nothing?, spent?, gather}
+use Rattle.model.specs.Transaction.{blockOf, touchedOf, spent?, gather}
 use Rattle.model.proofs.Fit.Body.{Faultless, Open}
 use Rattle.model.proofs.Fit.Exchange.{ExchangeFit}
 

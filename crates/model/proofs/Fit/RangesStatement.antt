@@ -1,0 +1,123 @@
+-- Statements and ticks keep the ranges.
+use Prim.Native.Nat.{ℕ, zero, suc, _<_}
+use mathlib.Core.Path.{refl}
+use mathlib.Core.Bool.{Bool, true, false}
+use mathlib.Core.List.{List, [], _∷_, _++_}
+use native.Mathlib.Omega.{arith}
+use lib.Dec.{eqb}
+use lib.ListN.{length, replicate}
+use Rattle.model.specs.Lists.{at, replace}
+use Rattle.model.specs.Command.{Release, Command, WORD, BLOCK, TASK, RELEASE, END, LOAD, ADD, READ, PAIR, SWAP, BEGIN, access, COMMIT}
+use Rattle.model.specs.Word.{Memory, loading, Read, reads, gives, readTick}
+use Rattle.model.specs.Sheet.{Sheet}
+use Rattle.model.specs.Exchange.{Entry, entry, Exchanged, goes, ends, exchangeOf, start, exchangeTick}
+use Rattle.model.specs.Job.{between, Phase, idle, plain, reading, exchanging, transacting, Task, turn, started, ticked}
+use Rattle.model.specs.Transaction.{fresh, loaded, added}
+use Rattle.model.specs.Machine.{answer, readBy, swapBy, plainTick, statement, Machine, machine, noTask, taskAt, unfinished, Running, nobody, running, runningOf, releaseBy, arriveBy, arrive, move, moveAny, tick}
+use Rattle.model.proofs.Fit.Elements.{replace-all, append-all, replicate-every}
+use Rattle.model.proofs.Fit.Sheet.{SheetFit}
+use Rattle.model.proofs.Fit.Machine.{PhaseFit, TaskFit, Fit}
+use Rattle.model.proofs.Fit.Running.{RunningFit, running-fit}
+use Rattle.model.proofs.Fit.Tick.{tasks-of, arrive-fit, arrived-fit, declared, afterTicks, after-ticks-fit}
+use Rattle.model.proofs.Fit.Ranges.{Value, MemoryRange, ReadRange, EntryRange, CommandsRange, PhaseRange, TaskRange, Ranges}
+use Rattle.model.proofs.Fit.RangesExchange.{read-range, ExchangedRange, exchange-range}
+use Rattle.model.proofs.Fit.RangesTransaction.{TurnRange, no-entry, no-entry-range, done-range, in-phase-range, fresh-range, within-range, loaded-range, added-range, transaction-range}
+
+module _ {m : Memory} (g : MemoryRange m) {t : Task} (f : TaskRange t) where
+  read-by-range : (r w : ℕ) (o : Read) → ReadRange o → TurnRange (readBy m t r w o)
+  unfolding readBy
+  read-by-range r w (reads s) k = record { memory = g; task = in-phase-range f (reading r w s) k }
+  read-by-range r w (gives v) k = record { memory = g; task = done-range f (replace (t .registers) r v) (t .pairs) (t .copies) (loaded-range f r v k) (f .pair) (f .copy) }
+
+  answer-range : (yes? : Bool) → Value (answer yes?)
+  answer-range true = omega arith
+  answer-range false = omega arith
+
+  swap-by-range : (r : ℕ) (o : Exchanged) → ExchangedRange o → TurnRange (swapBy t r o)
+  unfolding swapBy
+  swap-by-range r (goes n x) k = record { memory = k .memory; task = in-phase-range f (exchanging r x) (k .exchange) }
+  swap-by-range r (ends n yes?) k = record { memory = k; task = done-range f (replace (t .registers) r (answer yes?)) [] (t .copies) (loaded-range f r (answer yes?) (answer-range yes?)) no-entry-range (f .copy) }
+
+  same-range : TurnRange (turn m t)
+  same-range = record { memory = g; task = f }
+
+  plain-range : (p : ℕ) → p < 8 → (l : List Command) → CommandsRange l → TurnRange (plainTick p m t l)
+  unfolding plainTick
+  plain-range p hp [] k = same-range
+  plain-range p hp (LOAD r v ∷ l) k = record { memory = g; task = done-range f (loaded (t .registers) r v) (t .pairs) (t .copies) (loaded-range f r v (k .command)) (f .pair) (f .copy) }
+  plain-range p hp (ADD r q ∷ l) k = record { memory = g; task = done-range f (added (t .registers) r q) (t .pairs) (t .copies) (added-range f r q) (f .pair) (f .copy) }
+  plain-range p hp (READ r w ∷ l) k = read-by-range r w (readTick m w loading) (read-range g w loading tt)
+  plain-range p hp (PAIR w o n ∷ l) k =
+      let e : Entry = entry w (at 0 (t .registers) o) (at 0 (t .registers) n) in
+      record { memory = g; task = done-range f (t .registers) (t .pairs ++ (e ∷ [])) (t .copies) (f .register) (append-all (entry 0 0 0) EntryRange (t .pairs) e no-entry (record { old = f .register o; new = f .register n; init = no-entry .init }) (f .pair)) (f .copy) }
+  plain-range p hp (SWAP r ∷ l) k = swap-by-range r (exchangeTick p m (exchangeOf (t .pairs)) start) (exchange-range p hp g (exchangeOf (t .pairs)) (f .pair) 8 (omega arith) start refl tt)
+  plain-range p hp (BEGIN ∷ l) k = record { memory = g; task = within-range f l (t .registers) (fresh (t .registers) l) between (k .others) (f .register) (fresh-range (t .registers) l (f .register) (k .others)) }
+  plain-range p hp (access a ∷ l) k = same-range
+  plain-range p hp (COMMIT ∷ l) k = same-range
+  plain-range p hp (WORD v ∷ l) k = same-range
+  plain-range p hp (BLOCK b ∷ l) k = same-range
+  plain-range p hp (TASK ∷ l) k = same-range
+  plain-range p hp (RELEASE r ∷ l) k = same-range
+  plain-range p hp (END ∷ l) k = same-range
+
+  phase-range : (words blocks p : ℕ) → p < 8 → (s : Phase) → PhaseFit words blocks (t .copies) (t .commands) (t .pairs) s → PhaseRange s → TurnRange (statement p m t s)
+  unfolding statement
+  phase-range words blocks p hp idle h k = same-range
+  phase-range words blocks p hp plain h k = plain-range p hp (t .commands) (f .commands)
+  phase-range words blocks p hp (reading r w s) h k = read-by-range r w (readTick m w s) (read-range g w s k)
+  phase-range words blocks p hp (exchanging r x) h k =
+      let e = h .exchange in
+      swap-by-range r (exchangeTick p m x (x .step)) (exchange-range p hp g x (k .entry) (length (x .entries)) (e .entries .most) (x .step) (e .step) (k .step))
+  phase-range words blocks p hp (transacting x s) h k = transaction-range p hp g f s h k
+
+  pub statement-range : {words blocks now : ℕ} {text : List Command} (p : ℕ) → p < 8 → TaskFit words blocks text now t → TurnRange (statement p m t (t .phase))
+  statement-range {words} {blocks} p hp h = phase-range words blocks p hp (t .phase) (h .phase) (f .phase)
+
+-- RELEASES
+pub zeros-range : (n r : ℕ) → Value (at 0 (replicate n 0) r)
+zeros-range n r = replicate-every 0 Value n 0 (omega arith) (omega arith) r
+
+started-range : {t : Task} → TaskRange t → TaskRange (started t)
+started-range f = record { body = f .body; commands = f .body; register = zeros-range 8; pair = no-entry-range; copy = f .copy; phase = tt }
+
+ticked-range : {t : Task} → TaskRange t → TaskRange (ticked t)
+ticked-range f = record { body = f .body; commands = f .commands; register = f .register; pair = f .pair; copy = f .copy; phase = f .phase }
+
+arrive-range : (l : List Release) (m : Machine) → Ranges m → Ranges (arrive l m)
+unfolding arrive
+arrive-range [] m f = record { memory = f .memory; task = f .task }
+arrive-range (r ∷ l) m f = go (eqb (r .tick) (m .now)) (arrive-range l)
+  where
+    p : ℕ
+    p = r .task
+
+    released : (b : Bool) → ((m : Machine) → Ranges m → Ranges (arrive l m)) → Ranges (arrive l (releaseBy b p m))
+    released true on = on (machine (m .memory) (m .tasks) (m .releases) (m .now) (suc (m .dropped))) (record { memory = f .memory; task = f .task })
+    released false on =
+        let t : Task = started (taskAt (m .tasks) p) in
+        on (machine (m .memory) (replace (m .tasks) p t) (m .releases) (m .now) (m .dropped)) (record { memory = f .memory; task = replace-all noTask TaskRange (m .tasks) p t (started-range (f .task p)) (f .task) })
+
+    go : (b : Bool) → ((m : Machine) → Ranges m → Ranges (arrive l m)) → Ranges (arriveBy b (arrive l) r l m)
+    go true on = released (unfinished (taskAt (m .tasks) p .phase)) on
+    go false on = record { memory = f .memory; task = f .task }
+
+-- TICKS
+module _ {s : Sheet} (c : SheetFit s) where
+  move-range : {m : Machine} → Fit s m → Ranges m → (r : Running) → RunningFit (m .tasks) r → Ranges (move m r)
+  unfolding move
+  move-range f k nobody r = record { memory = k .memory; task = k .task }
+  move-range {m} f k (running p) r =
+      let h = declared c (tasks-of f) r in
+      let u = statement-range (k .memory) (k .task p) p (omega (arith, h, c .bodies)) (f .task p h) in
+      record { memory = u .memory; task = replace-all noTask TaskRange (m .tasks) p _ (ticked-range (u .task)) (k .task) }
+
+  pub tick-range : {m : Machine} → Fit s m → Ranges m → Ranges (tick m)
+  unfolding tick moveAny
+  tick-range {m} f k =
+      let n : Machine = arrive (m .releases) m in
+      move-range (arrived-fit (arrive-fit c f)) (arrive-range (m .releases) m k) (runningOf (n .tasks)) (running-fit (n .tasks))
+
+  pub after-ticks-range : (n : ℕ) {m : Machine} → Fit s m → Ranges m → Ranges (afterTicks n m)
+  unfolding afterTicks
+  after-ticks-range zero f k = k
+  after-ticks-range (suc n) f k = tick-range (after-ticks-fit c n f) (after-ticks-range n f k)
