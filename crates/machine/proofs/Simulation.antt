@@ -1,0 +1,7 @@
+-- The definitions over flat arrays, seen through a view, are the model's.
+pub mod Tabulate
+pub mod View
+pub mod Memory
+pub mod Entries
+pub mod Reading
+pub mod Exchange
