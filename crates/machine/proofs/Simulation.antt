@@ -5,3 +5,4 @@ pub mod Memory
 pub mod Entries
 pub mod Reading
 pub mod Exchange
+pub mod Body
