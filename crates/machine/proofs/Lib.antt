@@ -1,3 +1,4 @@
 pub mod Decoded
 pub mod Walks
+pub mod Turns
 pub mod Simulation

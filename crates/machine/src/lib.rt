@@ -3,4 +3,5 @@ pub mod exchange;
 pub mod job;
 pub mod places;
 pub mod read;
+pub mod step;
 pub mod transaction;
