@@ -3,6 +3,13 @@ pub mod Tabulate
 pub mod View
 pub mod Memory
 pub mod Entries
+pub mod Entered
 pub mod Reading
 pub mod Exchange
 pub mod Body
+pub mod Parts
+pub mod Done
+pub mod Copied
+pub mod ExchangeFrame
+pub mod Answers
+pub mod Plain

@@ -1,7 +1,8 @@
 -- The entries of an exchange and the waiting PAIRs, read and written.
 use Prim.Native.Nat.{ℕ, suc, _<_}
 use mathlib.Core.Path.{_≡_, refl, sym, ap, _∙_}
-use mathlib.Core.Bool.{not}
+use mathlib.Core.Logic.{_≢_}
+use mathlib.Core.Bool.{true, not}
 use mathlib.Core.List.{List, [], _∷_, _++_}
 use native.Mathlib.Omega.{arith}
 use lib.Dec.{eqb}
@@ -9,8 +10,10 @@ use lib.ListN.{length}
 use Rattle.model.specs.Lists.{at, replace}
 use Rattle.model.specs.Exchange.{Entry, entry}
 use Rattle.model.proofs.Lists.{replace-same, replace-other}
-use Rattle.memory.specs.Packed.{unpack}
-use Rattle.machine.proofs.Simulation.Tabulate.{tabulate, at-tabulate, length-tabulate, tabulate-same, tabulate-replace, tabulate-snoc}
+use Rattle.model.specs.Word as W
+use Rattle.memory.specs.Packed.{unpack, packed}
+use Rattle.memory.proofs.Packed.{unpack-packed}
+use Rattle.machine.proofs.Simulation.Tabulate.{tabulate, at-tabulate, length-tabulate, tabulate-same, tabulate-replace, tabulate-more}
 use Rattle.machine.proofs.Simulation.View.{entryOf, entriesOf, pairsOf}
 
 module _ (k : ℕ) (names olds news inits overlapped : List ℕ) where
@@ -40,3 +43,30 @@ module _ (k : ℕ) (names olds news inits overlapped : List ℕ) where
       tabulate-replace k (entryOf names olds news inits overlapped) (entryOf names olds news inits (replace overlapped i b)) i _
       (λ h. rw (replace-same 0 overlapped i b ho))
       (λ j h d. rw (replace-other 0 overlapped i j b d))
+
+-- ONE MORE ENTRY, after the k there are
+module _ (k : ℕ) (names olds news : List ℕ) (cell old new : ℕ) (hn : k < length names) (ho : k < length olds) (hw : k < length news) where
+  pub pairs-more : pairsOf (suc k) (replace names k cell) (replace olds k old) (replace news k new) ≡ pairsOf k names olds news ++ (entry cell old new ∷ [])
+  unfolding pairsOf
+  pairs-more =
+      tabulate-more k _ (λ e. entry (at 0 names e) (at 0 olds e) (at 0 news e)) (entry cell old new)
+      (λ e h. let d : e ≢ k = omega arith in rw (replace-other 0 names k e cell d, replace-other 0 olds k e old d, replace-other 0 news k e new d))
+      (rw (replace-same 0 names k cell hn, replace-same 0 olds k old ho, replace-same 0 news k new hw))
+
+  module _ (inits overlapped : List ℕ) (hi : k < length inits) (hv : k < length overlapped) where
+    pub entries-more : entriesOf (suc k) (replace names k cell) (replace olds k old) (replace news k new) (replace inits k (packed 0 0 true 0)) (replace overlapped k 0)
+        ≡ entriesOf k names olds news inits overlapped ++ (entry cell old new ∷ [])
+    unfolding entriesOf
+    entries-more =
+        let fresh : unpack (packed 0 0 true 0) ≡ W.fresh 0 = unpack-packed 0 0 true 0 (omega arith) (omega arith) in
+        tabulate-more k _ (entryOf names olds news inits overlapped) (entry cell old new)
+        (λ e h. let d : e ≢ k = omega arith in rw (replace-other 0 names k e cell d, replace-other 0 olds k e old d, replace-other 0 news k e new d, replace-other 0 inits k e (packed 0 0 true 0) d, replace-other 0 overlapped k e 0 d))
+        (rw (replace-same 0 names k cell hn, replace-same 0 olds k old ho, replace-same 0 news k new hw, replace-same 0 inits k (packed 0 0 true 0) hi, replace-same 0 overlapped k 0 hv, fresh))
+
+pub no-pairs : (names olds news : List ℕ) → pairsOf 0 names olds news ≡ []
+unfolding pairsOf tabulate
+no-pairs names olds news = refl
+
+pub no-entries : (names olds news inits overlapped : List ℕ) → entriesOf 0 names olds news inits overlapped ≡ []
+unfolding entriesOf tabulate
+no-entries names olds news inits overlapped = refl

@@ -43,3 +43,7 @@ module _ {A : Type 0} where
   unfolding tabulate
   tabulate-snoc zero f = refl
   tabulate-snoc (suc n) f = ap (λ (l : List A). f 0 ∷ l) (tabulate-snoc n (λ i. f (suc i)))
+
+  -- one element more
+  pub tabulate-more : (n : ℕ) (f g : ℕ → A) (a : A) → ((i : ℕ) → i < n → f i ≡ g i) → f n ≡ a → tabulate (suc n) f ≡ tabulate n g ++ (a ∷ [])
+  tabulate-more n f g a e h = tabulate-snoc n f ∙ rw (tabulate-same n f g e, h)
