@@ -13,3 +13,6 @@ pub mod Copied
 pub mod ExchangeFrame
 pub mod Answers
 pub mod Plain
+pub mod Blocks
+pub mod Access
+pub mod Gather
