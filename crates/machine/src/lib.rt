@@ -3,5 +3,6 @@ pub mod exchange;
 pub mod job;
 pub mod places;
 pub mod read;
+pub mod run;
 pub mod step;
 pub mod transaction;

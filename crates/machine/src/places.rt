@@ -60,3 +60,16 @@ pub fn wider(n: u8) -> u32
 {
     n as u32
 }
+
+pub fn half(n: u16) -> u32
+    ensures { λ r. ⌜ r ≡ n ⌝ }
+{
+    n as u32
+}
+
+// A task's number, of eight.
+pub fn octal(n: u8) -> u8
+    ensures { λ r. ⌜ (r ≡ n % 8) × (r < 8) ⌝ }
+{
+    n % 8
+}
