@@ -16,3 +16,4 @@ pub mod Plain
 pub mod Blocks
 pub mod Access
 pub mod Gather
+pub mod Commit
