@@ -17,3 +17,5 @@ pub mod Blocks
 pub mod Access
 pub mod Gather
 pub mod Commit
+pub mod Between
+pub mod Statement

@@ -149,7 +149,7 @@ module _ (sheet : List ℕ) (body : List C.Command) (a : Arrays) (p : ℕ) (j : 
     pub slot : (k : ℕ) → at 0 (a .kinds) (16 * p + namedBlock c) ≡ suc (suc k) → k < 4
     pub room : put? (viewAccess c) ≡ true → at 0 (a .kinds) (16 * p + namedBlock c) ≡ 1 → j .used < 4
 
-  touched-at : (b : ℕ) → b < 16 → T.touchedOf x b ≡ touchedOf (at 0 (a .kinds) (16 * p + b)) (at 0 (a .remembered) (16 * p + b))
+  pub touched-at : (b : ℕ) → b < 16 → T.touchedOf x b ≡ touchedOf (at 0 (a .kinds) (16 * p + b)) (at 0 (a .remembered) (16 * p + b))
   touched-at b h = at-blocks (row 16 p (a .kinds)) (row 16 p (a .remembered)) b h ∙ rw (at-row 0 16 p b (a .kinds) h, at-row 0 16 p b (a .remembered) h)
 
   access-by : (c : Access) → AccessFits c → (k : ℕ) → at 0 (a .kinds) (16 * p + namedBlock c) ≡ k → Simulated sheet body a p (flatAccess c) (T.accessTick (sharedOf a) t x (viewAccess c) (touchedOf k (at 0 (a .remembered) (16 * p + namedBlock c))))

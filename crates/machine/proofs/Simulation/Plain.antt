@@ -55,6 +55,14 @@ pub added-row : (registers : List ℕ) (p r q : ℕ) → r < 8 → q < 8 → row
 unfolding added
 added-row registers p r q h g = row-same 8 p r registers _ h ∙ rw (at-row 0 8 p r registers h, at-row 0 8 p q registers g)
 
+pub added-others : (registers : List ℕ) (p r q : ℕ) → r < 8 → (n : ℕ) → n ≢ p → row 8 n (added registers p r q) ≡ row 8 n registers
+unfolding added
+added-others registers p r q h n d = row-other 8 p n r registers _ h d
+
+pub added-size : (registers : List ℕ) (p r q : ℕ) → length (added registers p r q) ≡ length registers
+unfolding added
+added-size registers p r q = length-replace registers _ _
+
 module _ (sheet : List ℕ) (body : List C.Command) (a : Arrays) (p : ℕ) (j : Job) (s : Sizes a) (below : p < 8)
     (few : at 0 (row 4 p (a .counts)) 0 < 4294967295) (u : Unloaded (j .pairs) (partsOf a p)) (next : ℕ) where
   abbrev t : J.Task
@@ -72,10 +80,10 @@ module _ (sheet : List ℕ) (body : List C.Command) (a : Arrays) (p : ℕ) (j : 
     load-command r v h = register-done sheet body a p going J.plain s below few work r v h u
 
     add-command : (r q : ℕ) → r < 8 → q < 8 → Goal (C.ADD r q)
-    unfolding M.plainTick plainBy added
+    unfolding M.plainTick plainBy
     add-command r q h g =
         subst (λ (l : List ℕ). Simulated sheet body a p (plainBy sheet a p (inPhase j Plain) (C.found (C.ADD r q) next)) (J.turn (sharedOf a) (J.done t l (t .pairs) (t .copies)))) (added-row (a .registers) p r q h g)
-        (registers-done sheet body a p going J.plain s below few work (added (a .registers) p r q) (length-replace (a .registers) (8 * p + r) _) (λ n d. row-other 8 p n r (a .registers) _ h d) u)
+        (registers-done sheet body a p going J.plain s below few work (added (a .registers) p r q) (added-size (a .registers) p r q) (added-others (a .registers) p r q h) u)
 
     read-command : (r w : ℕ) → r < 8 → w < 48 → Goal (C.READ r w)
     unfolding M.plainTick plainBy
