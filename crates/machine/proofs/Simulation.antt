@@ -19,3 +19,5 @@ pub mod Gather
 pub mod Commit
 pub mod Between
 pub mod Statement
+pub mod Releases
+pub mod Unfinished

@@ -21,18 +21,18 @@ none-past sheet (suc n) place h = rw (le-ltb place (length sheet) h) refl
 
 -- as many commands as there are bytes left are enough
 module _ (sheet : List ℕ) where
-  Enough : ℕ → ℕ → Type 0
+  abbrev pub Enough : ℕ → ℕ → Type 0
   Enough n m = (place : ℕ) → length sheet ≤ place + n → length sheet ≤ place + m → commandsFrom n sheet place ≡ commandsFrom m sheet place
 
   enough-found : (n m place : ℕ) → Enough n m → length sheet ≤ suc place + n → length sheet ≤ suc place + m → (f : Found) → commandAt sheet place ≡ f → listed (commandsFrom n sheet) f ≡ listed (commandsFrom m sheet) f
-  unfolding listed Enough
+  unfolding listed
   enough-found n m place e hn hm (refused r q) c = refl
   enough-found n m place e hn hm (found c next) q =
       let w = found-at sheet place q in
       ap (λ (l : List Command). c ∷ l) (e next (omega (arith, w .onward)) (omega (arith, w .onward)))
 
-  enough : (n m : ℕ) → Enough n m
-  unfolding commandsFrom Enough
+  pub enough : (n m : ℕ) → Enough n m
+  unfolding commandsFrom
   enough zero m place hn hm = sym (none-past sheet m place (omega arith))
   enough (suc n) zero place hn hm = none-past sheet (suc n) place (omega arith)
   enough (suc n) (suc m) place hn hm = enough-found n m place (enough n m) (omega arith) (omega arith) (commandAt sheet place) refl
@@ -69,7 +69,7 @@ module _ (sheet : List ℕ) (place : ℕ) where
   listed-body (found c next) e = declare-body c _
 
   pub body-at : bodyFrom sheet place ≡ bodyBy sheet (commandAt sheet place)
-  unfolding bodyFrom commandsFrom Enough
+  unfolding bodyFrom commandsFrom
   body-at =
       ap (λ (l : List Command). declared l .body) (enough sheet (length sheet) (suc (length sheet)) place (omega arith) (omega arith))
       ∙ listed-body (commandAt sheet place) refl
