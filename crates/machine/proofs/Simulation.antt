@@ -21,3 +21,5 @@ pub mod Between
 pub mod Statement
 pub mod Releases
 pub mod Unfinished
+pub mod World
+pub mod Released
