@@ -23,3 +23,4 @@ pub mod Releases
 pub mod Unfinished
 pub mod World
 pub mod Released
+pub mod Ticked
