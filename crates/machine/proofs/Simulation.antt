@@ -24,3 +24,4 @@ pub mod Unfinished
 pub mod World
 pub mod Released
 pub mod Ticked
+pub mod Run
