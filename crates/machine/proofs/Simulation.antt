@@ -25,3 +25,5 @@ pub mod World
 pub mod Released
 pub mod Ticked
 pub mod Run
+pub mod Start
+pub mod Final

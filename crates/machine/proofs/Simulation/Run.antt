@@ -171,21 +171,15 @@ module _ (sheet bodies : List ℕ) (s : Sheet) (c : SheetFit s) where
       go (none y f) = true≢false (sym e ∙ f p (omega (arith, c .bodies)))
       go (some l t) = omega arith
 
-  -- A RELEASE AND A TICK, in the model's run
-  pub record Onward (k : ℕ) (w v : World) : Type 0 where
-    pub sound : Sound sheet bodies (length (s .bodies)) v
-    pub fit : Fit s (machineOf sheet bodies (length (s .bodies)) v)
-    pub range : Ranges (machineOf sheet bodies (length (s .bodies)) v)
-    pub same : M.run k (machineOf sheet bodies (length (s .bodies)) v) ≡ M.run (suc k) (machineOf sheet bodies (length (s .bodies)) w)
-
-  record ReleaseOnward (k : ℕ) (w v : World) : Type 0 where
+  -- A RELEASE AND A TICK, in the model's run: k more ticks from v are as many as `most` from w
+  record Onward (k most : ℕ) (w v : World) : Type 0 where
     sound : Sound sheet bodies (length (s .bodies)) v
     fit : Fit s (viewed v)
     range : Ranges (viewed v)
-    same : M.run (suc k) (viewed v) ≡ M.run (suc k) (viewed w)
+    same : M.run k (viewed v) ≡ M.run most (viewed w)
 
   module _ (w : World) (g : Sound sheet bodies (length (s .bodies)) w) (fit : Fit s (viewed w)) (range : Ranges (viewed w)) (k : ℕ) where
-    release-step : (task next : ℕ) → DueAt sheet (w .place) (w .ticks) task next → ReleaseOnward k w (released bodies w task next)
+    release-step : (task next : ℕ) → DueAt sheet (w .place) (w .ticks) task next → Onward (suc k) (suc k) w (released bodies w task next)
     unfolding M.tick
     release-step task next d =
         let r = d .release in
@@ -204,7 +198,7 @@ module _ (sheet bodies : List ℕ) (s : Sheet) (c : SheetFit s) where
           same = run-on k (viewed v) (busy-on v (f .sound) (mask-some v (f .sound) (r .task) h (f .unfinished))) ∙ ap (M.run k) ticked-same ∙ sym (run-on k (viewed w) (release-on w g r l (d .releases)));
         }
 
-    tick-step : w .ticks < 4294967295 → ((task next : ℕ) → comingIn sheet w ≡ Due task next → ⊥) → stopsBy (comingIn sheet w) (w .mask) ≡ false → Onward k w (ticked sheet w)
+    tick-step : w .ticks < 4294967295 → ((task next : ℕ) → comingIn sheet w ≡ Due task next → ⊥) → stopsBy (comingIn sheet w) (w .mask) ≡ false → Onward k (suc k) w (ticked sheet w)
     unfolding M.tick
     tick-step few due stops =
         let f = ticked-fits sheet bodies s c w g fit range few in
@@ -219,17 +213,24 @@ module _ (sheet bodies : List ℕ) (s : Sheet) (c : SheetFit s) where
         }
 
   -- THE WHOLE RUN
-  pub run-same : (limit : ℕ) → limit < 4294967296 → (w u : World) → Ends sheet bodies limit w u → Sound sheet bodies (length (s .bodies)) w → Fit s (viewed w) → Ranges (viewed w)
-      → machineOf sheet bodies (length (s .bodies)) u ≡ M.run (limit - w .ticks) (machineOf sheet bodies (length (s .bodies)) w)
+  pub record RunFits (limit : ℕ) (w u : World) : Type 0 where
+    pub same : machineOf sheet bodies (length (s .bodies)) u ≡ M.run (limit - w .ticks) (machineOf sheet bodies (length (s .bodies)) w)
+    pub sound : Sound sheet bodies (length (s .bodies)) u
+
+  pub run-fits : (limit : ℕ) → limit < 4294967296 → (w u : World) → Ends sheet bodies limit w u → Sound sheet bodies (length (s .bodies)) w → Fit s (machineOf sheet bodies (length (s .bodies)) w)
+      → Ranges (machineOf sheet bodies (length (s .bodies)) w) → RunFits limit w u
   unfolding released ticked
-  run-same limit small w u (limited l) g fit range = let z : limit - w .ticks ≡ 0 = omega arith in rw z (sym (run-none (viewed w)))
-  run-same limit small w u (stopped e) g fit range = sym (run-over (limit - w .ticks) (viewed w) (over-by w g (comingIn sheet w) (coming-at sheet (w .place) (w .ticks)) e))
-  run-same limit small w u (releases task next l e rest) g fit range =
+  run-fits limit small w u (limited l) g fit range = let z : limit - w .ticks ≡ 0 = omega arith in record { same = rw z (sym (run-none (viewed w))); sound = g }
+  run-fits limit small w u (stopped e) g fit range =
+      record { same = sym (run-over (limit - w .ticks) (viewed w) (over-by w g (comingIn sheet w) (coming-at sheet (w .place) (w .ticks)) e)); sound = g }
+  run-fits limit small w u (releases task next l e rest) g fit range =
       let d = subst (ComingAt sheet (w .place) (w .ticks)) e (coming-at sheet (w .place) (w .ticks)) in
       let o = release-step w g fit range (limit - suc (w .ticks)) task next d in
       let z : limit - w .ticks ≡ suc (limit - suc (w .ticks)) = omega arith in
-      run-same limit small (released bodies w task next) u rest (o .sound) (o .fit) (o .range) ∙ rw z (o .same)
-  run-same limit small w u (ticks l due stops rest) g fit range =
+      let r = run-fits limit small (released bodies w task next) u rest (o .sound) (o .fit) (o .range) in
+      record { same = r .same ∙ rw z (o .same); sound = r .sound }
+  run-fits limit small w u (ticks l due stops rest) g fit range =
       let o = tick-step w g fit range (limit - (w .ticks + 1)) (omega arith) due stops in
       let z : limit - w .ticks ≡ suc (limit - (w .ticks + 1)) = omega arith in
-      run-same limit small (ticked sheet w) u rest (o .sound) (o .fit) (o .range) ∙ rw z (o .same)
+      let r = run-fits limit small (ticked sheet w) u rest (o .sound) (o .fit) (o .range) in
+      record { same = r .same ∙ rw z (o .same); sound = r .sound }

@@ -54,7 +54,7 @@ module _ (sheet bodies : List ℕ) (n : ℕ) where
     unfolding tasksOf
     tasks-size a js = length-tabulate 8 _
 
-    any-task : (a : Arrays) (js : List Job) (p : ℕ) → p < 8 → M.taskAt (tasksOf a js) p ≡ declaredBy (ltb p n) (taskIn a js p)
+    pub any-task : (a : Arrays) (js : List Job) (p : ℕ) → p < 8 → M.taskAt (tasksOf a js) p ≡ declaredBy (ltb p n) (taskIn a js p)
     unfolding tasksOf
     any-task a js p h = at-tabulate M.noTask 8 p (λ q. declaredBy (ltb q n) (taskIn a js q)) h
 
