@@ -3,3 +3,4 @@ pub mod Walks
 pub mod Turns
 pub mod Mask
 pub mod Runs
+pub mod Simulation
