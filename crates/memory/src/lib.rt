@@ -173,3 +173,12 @@ pub fn set_u64x64(s: &mut [u64; 64], i: usize, v: u64)
 {
     set_u64(s, i, v);
 }
+
+pub fn usize_at(s: &[usize], i: usize) -> usize
+    ensures { λ r. ⌜ r ≡ at 0 (now (s .entry)) i ⌝ }
+{
+    if i < s.len() {
+        return s[i];
+    }
+    0
+}

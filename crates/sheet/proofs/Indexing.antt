@@ -15,7 +15,7 @@ use Rattle.model.specs.Sheet as M
 use Rattle.model.specs.Sheet.{Declared, after, oneCommand, declared, verdict, accepted, sheetOf}
 use Rattle.sheet.specs.Places.{ofBody, declaredAt, bodyAt, releasesAt, commandsAt}
 use Rattle.sheet.specs.WellFormed.{Stand, nothing, first, Faultless, unread, good, WellFormed}
-use Rattle.sheet.specs.Indexed.{Releasing, end, more, Released, Indexed, emptyIndex, placeOr, counted, Room}
+use Rattle.sheet.specs.Indexed.{OnlyReleases, ReleasesStand, Indexed, emptyIndex, placeOr, counted, Room}
 use Rattle.sheet.specs.declared.index.Sheet.{Sheet}
 use Rattle.sheet.proofs.Decoding.{past-the-end, cases}
 use Rattle.sheet.proofs.Accepted.{accepted-when-well-formed}
@@ -52,7 +52,7 @@ pub record Going (s : List ℕ) (x : Sheet) (at : ℕ) : Type 0 where
   pub match : Match x (known .counts)
   pub full : length (x .bodies) ≡ 8
   pub bodies : (p : ℕ) → p < x .tasks → getD (sheetOf s .bodies) p [] ≡ bodyAt s (getD (x .bodies) p 0)
-  pub released : 0 < x .releases → Released s (x .released)
+  pub released : 0 < x .releases → ReleasesStand s (x .released)
 
 -- the index at a place, or at the sheet's end
 pub data Walk (s : List ℕ) (x : Sheet) : ℕ → Type 0 where
@@ -92,27 +92,29 @@ rest-declared {s} {at} {place} {l} r last =
     let end : commandsAt s place ≡ END ∷ [] = commands-found s place last ∙ ap (λ (q : List Command). END ∷ q) (commands-refused s (length s) (past-the-end s (length s) (omega arith))) in
     declared-is s at ∙ ap declared (commands-stand r ∙ ap (λ (q : List Command). l ++ q) end)
 
--- once there is a release, there are releases alone, and then END
-releasing-by : {s : List ℕ} {o next : ℕ} {k : Known} (c : Command) → Kind k c → rank (k .section) ≡ 3 → commandAt s o ≡ found c next → (rank (after k c .section) ≡ 3 → Releasing s next) → Releasing s o
-unfolding after
-releasing-by c (isWord e) h f go = absurd (omega arith)
-releasing-by c (isBlock e) h f go = absurd (omega arith)
-releasing-by c (isTask e) h f go = absurd (omega arith)
-releasing-by c (isRelease e) h f go = more f (go refl)
-releasing-by c (isBody b e) h f go = absurd (omega arith)
+rest-commands : {s : List ℕ} {at place : ℕ} {l : List Command} → Stand s at l place → commandAt s place ≡ found END (length s) → commandsAt s at ≡ l ++ (END ∷ [])
+rest-commands {s} {at} {place} {l} r last =
+    commands-stand r ∙ ap (λ (q : List Command). l ++ q) (commands-found s place last ∙ ap (λ (q : List Command). END ∷ q) (commands-refused s (length s) (past-the-end s (length s) (omega arith))))
 
-releasing :
-    {s : List ℕ} {o p next : ℕ} {k m : Known} {l : List Command} → Stand s o l p → Faultless k l m → rank (k .section) ≡ 3
-    → commandAt s p ≡ found END next → Releasing s o
-releasing nothing unread h last = end last
-releasing {k = k} (first {c = c} f r) (good g e q) h last = releasing-by c (kind k c (keeps k c g .place) e) h f (λ i. releasing r q i last)
+-- after a release only releases come
+only-by : (k : Known) (l : List Command) (c : Command) → Kind k c → rank (k .section) ≡ 3 → (rank (after k c .section) ≡ 3 → OnlyReleases (l ++ (END ∷ []))) → OnlyReleases (c ∷ l ++ (END ∷ []))
+unfolding after
+only-by k l c (isWord e) h go = absurd (omega arith)
+only-by k l c (isBlock e) h go = absurd (omega arith)
+only-by k l c (isTask e) h go = absurd (omega arith)
+only-by k l c (isRelease e) h go = go refl
+only-by k l c (isBody b e) h go = absurd (omega arith)
+
+only-releases : {k m : Known} {l : List Command} → Faultless k l m → rank (k .section) ≡ 3 → OnlyReleases (l ++ (END ∷ []))
+only-releases unread h = refl
+only-releases {k} (good {c = c} {l = l} f e r) h = only-by k l c (kind k c (keeps k c f .place) e) h (only-releases r)
 
 -- the place of the first release is that of all of them
 first-release :
-    (s : List ℕ) (at n q : ℕ) (rest : List Release) → Passed (sheetOf s .releases) n rest → rest ≡ releasesAt s at → Releasing s at
-    → (0 < n → Released s q) → (b : Bool) → eqb n 0 ≡ b → Released s (placeOr b at q)
-first-release s at n q rest p e alone before true h = record { all = (rw (eqb-true n 0 h) at (p .left)) ∙ e; alone = alone }
-first-release s at n q rest p e alone before false h = before (omega (arith, eqb-false n 0 h))
+    (s : List ℕ) (at n q : ℕ) (rest : List Release) → Passed (sheetOf s .releases) n rest → rest ≡ releasesAt s at → OnlyReleases (commandsAt s at)
+    → (0 < n → ReleasesStand s q) → (b : Bool) → eqb n 0 ≡ b → ReleasesStand s (placeOr b at q)
+first-release s at n q rest p e only before true h = record { all = (rw (eqb-true n 0 h) at (p .left)) ∙ e; only = only }
+first-release s at n q rest p e only before false h = before (omega (arith, eqb-false n 0 h))
 
 -- A BODY COMMAND
 module _ (k : Known) (x : Sheet) (at next : ℕ) where
@@ -157,7 +159,7 @@ module _
     (s : List ℕ) (x : Sheet) (at : ℕ) (k m : Known) (place : ℕ)
     (last : commandAt s place ≡ found END (length s)) (match : Match x (k .counts)) (full : length (x .bodies) ≡ 8)
     (bodies : (p : ℕ) → p < x .tasks → getD (sheetOf s .bodies) p [] ≡ bodyAt s (getD (x .bodies) p 0))
-    (released : 0 < x .releases → Released s (x .released)) where
+    (released : 0 < x .releases → ReleasesStand s (x .released)) where
   ended : commandAt s at ≡ found END (length s) → Left (sheetOf s) x (whole []) → Indexed s (counted x END at (length s))
   unfolding counted declared
   ended e left =
@@ -167,7 +169,7 @@ module _
         tasks = passed-all (left .bodies);
         releases = passed-all (left .releases);
         bodies = bodies;
-        released = first-release s at (x .releases) (x .released) [] (left .releases) (sym (ap (λ (d : Declared). d .sheet .releases) (rest-declared nothing e))) (end e) released (eqb (x .releases) 0) refl;
+        released = first-release s at (x .releases) (x .released) [] (left .releases) (sym (ap (λ (d : Declared). d .sheet .releases) (rest-declared nothing e))) (subst OnlyReleases (sym (rest-commands nothing e)) refl) released (eqb (x .releases) 0) refl;
       }
 
   module _ (l : List Command) (next : ℕ) (stand : Stand s next l place) where
@@ -252,7 +254,7 @@ module _
           match = record { words = match .words; blocks = match .blocks; tasks = match .tasks; releases = omega (arith, match .releases) };
           full = full;
           bodies = bodies;
-          released = λ h. first-release s at (x .releases) (x .released) _ (left .releases) (sym (ap (λ (d : Declared). d .sheet .releases) (rest-declared (first e stand) last))) (more e (releasing stand faultless refl last)) released (eqb (x .releases) 0) refl;
+          released = λ h. first-release s at (x .releases) (x .released) _ (left .releases) (sym (ap (λ (d : Declared). d .sheet .releases) (rest-declared (first e stand) last))) (subst OnlyReleases (sym (rest-commands (first e stand) last)) (only-releases faultless refl)) released (eqb (x .releases) 0) refl;
         }
 
     one-of-body : (c : Command) → ofBody c ≡ true → More c
@@ -292,7 +294,7 @@ here-by :
     (s : List ℕ) (x : Sheet) {at place : ℕ} {k m : Known} {rest : List Command} → Stand s at rest place → Faultless k rest m
     → commandAt s place ≡ found END (length s) → Left (sheetOf s) x (whole rest) → Match x (k .counts) → length (x .bodies) ≡ 8
     → ((p : ℕ) → p < x .tasks → getD (sheetOf s .bodies) p [] ≡ bodyAt s (getD (x .bodies) p 0))
-    → (0 < x .releases → Released s (x .released)) → Here s x at
+    → (0 < x .releases → ReleasesStand s (x .released)) → Here s x at
 here-by s x {at} {k = k} {m = m} nothing unread last left match full bodies released =
     record {
       command = END;

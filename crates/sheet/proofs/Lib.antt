@@ -10,4 +10,3 @@ pub mod Sections
 pub mod Declared
 pub mod Passing
 pub mod Indexing
-pub mod Releases

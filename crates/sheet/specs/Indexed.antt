@@ -2,23 +2,35 @@
 use Prim.Native.Nat.{ℕ, _+_, _<_, _≤_}
 use mathlib.Core.Path.{_≡_}
 use mathlib.Core.Bool.{Bool, true, false}
-use mathlib.Core.List.{List, []}
+use mathlib.Core.List.{List, [], _∷_}
 use lib.Dec.{eqb}
 use lib.ListN.{length, getD, set, replicate}
-use Rattle.model.specs.Command.{Block, Release, found, commandAt, Command, WORD, BLOCK, TASK, RELEASE, END, LOAD, ADD, READ, PAIR, SWAP, BEGIN, access, COMMIT}
+use Rattle.model.specs.Command.{Block, Command, WORD, BLOCK, TASK, RELEASE, END, LOAD, ADD, READ, PAIR, SWAP, BEGIN, access, COMMIT}
 use Rattle.model.specs.Sheet.{verdict, accepted, sheetOf}
-use Rattle.sheet.specs.Places.{bodyAt, releasesAt}
+use Rattle.sheet.specs.Places.{bodyAt, releasesAt, commandsAt}
 use Rattle.sheet.specs.declared.index.Sheet.{Sheet}
 
--- from a place on there are releases alone, and then END
-pub data Releasing (s : List ℕ) : ℕ → Type 0 where
-  end : {p next : ℕ} → commandAt s p ≡ found END next → Releasing s p
-  more : {p next : ℕ} {r : Release} → commandAt s p ≡ found (RELEASE r) next → Releasing s next → Releasing s p
+-- releases up to END, and nothing else
+abbrev pub OnlyReleases : List Command → Type 0
+OnlyReleases [] = Unit {0}
+OnlyReleases (RELEASE r ∷ l) = OnlyReleases l
+OnlyReleases (END ∷ l) = l ≡ []
+OnlyReleases (WORD v ∷ l) = ⊥
+OnlyReleases (BLOCK b ∷ l) = ⊥
+OnlyReleases (TASK ∷ l) = ⊥
+OnlyReleases (LOAD r v ∷ l) = ⊥
+OnlyReleases (ADD r q ∷ l) = ⊥
+OnlyReleases (READ r w ∷ l) = ⊥
+OnlyReleases (PAIR w o n ∷ l) = ⊥
+OnlyReleases (SWAP r ∷ l) = ⊥
+OnlyReleases (BEGIN ∷ l) = ⊥
+OnlyReleases (access a ∷ l) = ⊥
+OnlyReleases (COMMIT ∷ l) = ⊥
 
--- the sheet's releases are those from a place on
-pub record Released (s : List ℕ) (p : ℕ) : Type 0 where
-  pub all : sheetOf s .releases ≡ releasesAt s p
-  pub alone : Releasing s p
+-- all releases of the sheet stand from a place on, and only they
+pub record ReleasesStand (s : List ℕ) (place : ℕ) : Type 0 where
+  pub all : sheetOf s .releases ≡ releasesAt s place
+  pub only : OnlyReleases (commandsAt s place)
 
 pub record Indexed (s : List ℕ) (x : Sheet) : Type 0 where
   pub words : x .words ≡ length (sheetOf s .words)
@@ -27,7 +39,8 @@ pub record Indexed (s : List ℕ) (x : Sheet) : Type 0 where
   pub releases : x .releases ≡ length (sheetOf s .releases)
   -- the body of each task is what stands from its place on
   pub bodies : (p : ℕ) → p < x .tasks → getD (sheetOf s .bodies) p [] ≡ bodyAt s (getD (x .bodies) p 0)
-  pub released : Released s (x .released)
+  -- the releases are those from their place on
+  pub released : ReleasesStand s (x .released)
 
 abbrev pub index : ℕ → ℕ → ℕ → ℕ → List ℕ → ℕ → Sheet
 index w b t r bs q = record { words = w; blocks = b; tasks = t; releases = r; bodies = bs; released = q }

@@ -1,0 +1,298 @@
+// The run: releases arrive, the highest task with an unfinished job does one statement, until the run stops.
+ghost use mathlib.Core.Path.{_≡_};
+ghost use Prim.Native.Nat.{_+_, _*_, _-_, _^_, _%_, _<_, _≤_};
+ghost use Rattle.model.specs.Command.{commandAt};
+ghost use Rattle.machine.specs.Statements.{arrays};
+ghost use Rattle.machine.specs.World.{unfinishedJob, comingBy, comingAt, stopsBy, topOf, droppedBy, begunBy, zeroed, zeroedBy, startedBy, leftBy, tickedBy, Finished};
+use crate::job;
+use crate::job::Job;
+use crate::job::Phase;
+use crate::places;
+use crate::step;
+use sheet::commands;
+use sheet::commands::Command;
+use sheet::commands::Decoded;
+
+// The next release: none, one of a later tick, or one due now, with its task and the place after it.
+pub enum Coming {
+    Nothing,
+    Later,
+    Due(u8, usize),
+}
+
+// The ticks done, and the releases dropped.
+pub struct Ended {
+    pub ticks: u32,
+    pub dropped: u32,
+}
+
+const POWERS: [u32; 8] = [1, 2, 4, 8, 16, 32, 64, 128];
+
+// The bit of a task in the mask of unfinished jobs.
+fn bit(i: usize) -> u32
+    requires { ⌜ i < 8 ⌝ }
+    ensures { λ r. ⌜ r ≡ 2 ^ i ⌝ }
+{
+    POWERS[i]
+}
+
+fn unfinished(phase: Phase) -> bool
+    ensures { λ r. ⌜ r ≡ unfinishedJob phase ⌝ }
+{
+    match phase {
+        Phase::Idle => false,
+        Phase::Plain => true,
+        Phase::Read(_, _, _) => true,
+        Phase::Exchange(_, _) => true,
+        Phase::Transaction(_) => true,
+    }
+}
+
+fn release_by(command: Command, next: usize, tick: u32) -> Coming
+    ensures { λ r. ⌜ r ≡ comingBy command next tick ⌝ }
+{
+    match command {
+        Command::Word(_) => Coming::Nothing,
+        Command::Block(_) => Coming::Nothing,
+        Command::Task => Coming::Nothing,
+        Command::Release(release) => {
+            let at = release.tick;
+            if places::half(at) == tick {
+                return Coming::Due(release.task, next);
+            }
+            return Coming::Later;
+        }
+        Command::End => Coming::Nothing,
+        Command::Load {
+            register: _,
+            value: _,
+        } => Coming::Nothing,
+        Command::Add {
+            register: _,
+            other: _,
+        } => Coming::Nothing,
+        Command::Read {
+            register: _,
+            word: _,
+        } => Coming::Nothing,
+        Command::Pair {
+            word: _,
+            old: _,
+            new: _,
+        } => Coming::Nothing,
+        Command::Swap(_) => Coming::Nothing,
+        Command::Begin => Coming::Nothing,
+        Command::Access(_) => Coming::Nothing,
+        Command::Commit => Coming::Nothing,
+    }
+}
+
+fn next_release(sheet: &[u8], place: usize, tick: u32) -> Coming
+    ensures { λ r. ⌜ r ≡ comingAt tick (commandAt (now (sheet .entry)) place) ⌝ }
+{
+    let decoded = commands::decode(sheet, place);
+    match decoded {
+        Decoded::Got(command, next) => release_by(command, next, tick),
+        Decoded::Refused(_) => Coming::Nothing,
+    }
+}
+
+// No job is unfinished and no release is to come.
+fn stops(coming: Coming, mask: u32) -> bool
+    ensures { λ r. ⌜ r ≡ stopsBy coming mask ⌝ }
+{
+    match coming {
+        Coming::Nothing => mask == 0,
+        Coming::Later => false,
+        Coming::Due(_, _) => false,
+    }
+}
+
+// The highest task of a mask, 0 if there is none.
+fn top(mask: u32) -> u8
+    ensures { λ r. ⌜ (r ≡ topOf 8 mask) × (r < 8) ⌝ }
+{
+    if mask == 0 {
+        return 0;
+    }
+    if 255 < mask {
+        return 7;
+    }
+    (31 - u32::leading_zeros(mask)) as u8
+}
+
+// A release to a task whose job is unfinished is dropped and counted.
+fn drop_by(dropped: u32, phase: Phase) -> u32
+    ensures { λ r. ⌜ r ≡ droppedBy (unfinishedJob phase) dropped ⌝ }
+{
+    if unfinished(phase) {
+        return std::num::wrapping_add_u32(dropped, 1);
+    }
+    dropped
+}
+
+// Else a job starts, with all registers 0.
+fn begun(mask: u32, i: usize, phase: Phase) -> u32
+    requires { ⌜ i < 8 ⌝ }
+    ensures { λ r. ⌜ r ≡ begunBy (unfinishedJob phase) mask i ⌝ }
+{
+    if unfinished(phase) {
+        return mask;
+    }
+    std::num::wrapping_add_u32(mask, bit(i))
+}
+
+fn zero(registers: &mut [u32; 64], p: u8)
+    ensures { λ r. ⌜ now (registers .exit) ≡ zeroed 8 (now (registers .entry)) p ⌝ }
+{
+    let mut n: u8 = 0;
+    while n < 8 {
+        let s = places::slot(p, n);
+        memory::set_u32x64(&mut *registers, s, 0);
+        n += 1;
+    }
+}
+
+fn zero_by(registers: &mut [u32; 64], p: u8, phase: Phase)
+    ensures { λ r. ⌜ now (registers .exit) ≡ zeroedBy (unfinishedJob phase) (now (registers .entry)) p ⌝ }
+{
+    if unfinished(phase) {
+        return;
+    }
+    zero(&mut *registers, p);
+}
+
+fn started(job: Job, body: usize) -> Job
+    ensures { λ r. ⌜ r ≡ startedBy (unfinishedJob (job .phase)) job body ⌝ }
+{
+    let phase = job.phase;
+    if unfinished(phase) {
+        return job;
+    }
+    job::job_at(Phase::Plain, body, 0)
+}
+
+// The mask after a statement that found and left the job in those phases.
+fn left(mask: u32, i: usize, before: Phase, after: Phase) -> u32
+    requires { ⌜ i < 8 ⌝ }
+    ensures { λ r. ⌜ r ≡ leftBy (unfinishedJob before) (unfinishedJob after) mask i ⌝ }
+{
+    if unfinished(after) {
+        return mask;
+    }
+    if unfinished(before) {
+        return lowered(mask, bit(i));
+    }
+    mask
+}
+
+fn lowered(mask: u32, bit: u32) -> u32
+    ensures { λ r. ⌜ r ≡ mask - bit ⌝ }
+{
+    if mask < bit {
+        return 0;
+    }
+    mask - bit
+}
+
+// A tick used.
+fn used(counts: &mut [u32; 32], p: u8, phase: Phase)
+    ensures { λ r. ⌜ now (counts .exit) ≡ tickedBy (unfinishedJob phase) (now (counts .entry)) p ⌝ }
+{
+    if unfinished(phase) {
+        job::count(&mut *counts, p, 3);
+        return;
+    }
+}
+
+// The run of a sheet whose bodies start at those places and whose releases start at that one.
+pub fn run(
+    sheet: &[u8],
+    bodies: &[usize; 8],
+    cells: &mut [u64; 48],
+    status: &mut [u8; 8],
+    saves: &mut [u32; 64],
+    stores: &mut [u32; 384],
+    registers: &mut [u32; 64],
+    kept: &mut [u32; 64],
+    copies: &mut [u8; 32],
+    names: &mut [u8; 64],
+    olds: &mut [u32; 64],
+    news: &mut [u32; 64],
+    inits: &mut [u64; 64],
+    overlapped: &mut [u8; 64],
+    kinds: &mut [u8; 128],
+    remembered: &mut [u32; 128],
+    counts: &mut [u32; 32],
+    releases: usize,
+    limit: u32,
+) -> Ended
+    ensures { λ r. ⌜ Finished (now (sheet .entry)) (now (bodies .entry)) releases limit (arrays (now (cells .entry)) (now (status .entry)) (now (saves .entry)) (now (stores .entry)) (now (registers .entry)) (now (kept .entry)) (now (copies .entry)) (now (names .entry)) (now (olds .entry)) (now (news .entry)) (now (inits .entry)) (now (overlapped .entry)) (now (kinds .entry)) (now (remembered .entry)) (now (counts .entry))) (arrays (now (cells .exit)) (now (status .exit)) (now (saves .exit)) (now (stores .exit)) (now (registers .exit)) (now (kept .exit)) (now (copies .exit)) (now (names .exit)) (now (olds .exit)) (now (news .exit)) (now (inits .exit)) (now (overlapped .exit)) (now (kinds .exit)) (now (remembered .exit)) (now (counts .exit))) r ⌝ }
+{
+    let mut jobs = [Job {
+        phase: Phase::Idle,
+        at: 0,
+        next: 0,
+        begin: 0,
+        pairs: 0,
+        used: 0,
+    }; 8];
+    let mut mask: u32 = 0;
+    let mut place = releases;
+    let mut tick: u32 = 0;
+    let mut dropped: u32 = 0;
+    while tick < limit {
+        let next = next_release(sheet, place, tick);
+        if let Coming::Due(task, after) = next {
+            let p = places::octal(task);
+            let i = places::wide(p);
+            let job = jobs[i];
+            let phase = job.phase;
+            dropped = drop_by(dropped, phase);
+            mask = begun(mask, i, phase);
+            zero_by(&mut *registers, p, phase);
+            jobs[i] = started(job, memory::usize_at(bodies, i));
+            place = after;
+            continue;
+        }
+        if stops(next, mask) {
+            return Ended {
+                ticks: tick,
+                dropped: dropped,
+            };
+        }
+        let p = top(mask);
+        let i = places::wide(p);
+        let job = jobs[i];
+        let before = job.phase;
+        let done = step::step(
+            sheet,
+            &mut *cells,
+            &mut *status,
+            &mut *saves,
+            &mut *stores,
+            &mut *registers,
+            &mut *kept,
+            &mut *copies,
+            &mut *names,
+            &mut *olds,
+            &mut *news,
+            &mut *inits,
+            &mut *overlapped,
+            &mut *kinds,
+            &mut *remembered,
+            &mut *counts,
+            p,
+            job,
+        );
+        let after = done.phase;
+        mask = left(mask, i, before, after);
+        used(&mut *counts, p, before);
+        jobs[i] = done;
+        tick += 1;
+    }
+    Ended {
+        ticks: tick,
+        dropped: dropped,
+    }
+}
