@@ -20,9 +20,9 @@ use Rattle.model.proofs.Whole.Rates.{Ran, before-start, own-tick, other
 use Rattle.model.proofs.Order.Steps.{stateAfter, arrivedAt, state-next}
 use Rattle.model.proofs.Order.Arrive.{TaskArrived, waits, starts, Arrived, Runs, runs, none-runs}
 use Rattle.model.proofs.Order.Ticks.{arrived-at}
-use Rattle.model.proofs.Rates.Own.{own-none, own-runs, own-waits}
+use Rattle.model.proofs.Rates.Own.{other-task, own-none, own-runs, own-waits}
 use Rattle.model.proofs.Rates.Status.{status-stays}
-use Rattle.model.proofs.Rates.Run.{other-task, who, below-status}
+use Rattle.model.proofs.Rates.Run.{who, below-status}
 
 -- task p is in the exchange x of a COMMIT
 pub record In (m : Machine) (p : ℕ) (x : Exchange) : Type 0 where

@@ -14,9 +14,9 @@ use Rattle.model.specs.History.{Operation, operationAt, historyOf}
 use Rattle.model.specs.Rates.{inTick, ownBefore, ownTicks, Committing, Starts, Ends}
 use Rattle.model.proofs.Bytes.{word, block, task, release, end, load, add, read, pair, swap, begin, get, put, commit}
 
--- operation a of a run of the sheet is o, and ended in tick l, after n ticks of its own
+-- operation a of the sheet's run is o, and ended in tick l, after n ticks of its own
 record Took (sheet : List ℕ) (a l n : ℕ) (o : Operation) : Type 0 where
-  is : operationAt (historyOf 65535 (startMachine (sheetOf sheet))) a ≡ some o
+  is : operationAt (historyOf 100 (startMachine (sheetOf sheet))) a ≡ some o
   last : o .last ≡ some l
   ticks : ownTicks (startMachine (sheetOf sheet)) (o .task) a l ≡ n
 

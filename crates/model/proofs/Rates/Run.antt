@@ -1,19 +1,17 @@
 -- Every tick of a run keeps its tasks in time, and every operation that has ended took no more ticks of its own than it may.
 use Prim.Native.Nat.{ℕ, zero, suc, _<_}
-use mathlib.Core.Bool.{false}
 use mathlib.Core.Path.{_≡_, refl, sym, _∙_, ap, subst}
-use mathlib.Core.Logic.{_≢_, _⊎_, inl, inr}
+use mathlib.Core.Logic.{_⊎_, inl, inr}
 use mathlib.Core.Option.{Option, none, some}
 use native.Mathlib.Omega.{arith}
 use lib.ListN.{length}
-use borrow.Author.Tests.{ne-eqb}
 use Rattle.model.specs.Lists.{at}
 use Rattle.model.specs.Sheet.{Sheet}
 use Rattle.model.specs.Job.{Phase, idle, plain, reading, exchanging, transacting, Task, Turn, ticked}
 use Rattle.model.specs.Machine.{Machine, noTask, taskAt, Running, nobody, running, runningOf, move, statement, startMachine}
 use Rattle.model.specs.Plain.{Arguments}
 use Rattle.model.specs.History.{History, noHistory, observed}
-use Rattle.model.specs.Rates.{isTask, ownBefore}
+use Rattle.model.specs.Rates.{ownBefore}
 use Rattle.model.proofs.Lists.{same?, replace-same, replace-other}
 use Rattle.model.proofs.Fit.Sheet.{SheetFit}
 use Rattle.model.proofs.Order.Steps.{stateAfter, arrivedAt, historyAfter, state-next, history-next}
@@ -25,7 +23,7 @@ use Rattle.model.proofs.Order.Linked.{Inside}
 use Rattle.model.proofs.Order.Ticks.{MachineLinked, next-of, arrived-at, arrived-now, arrived-linked}
 use Rattle.model.proofs.Order.Start.{started}
 use Rattle.model.proofs.Run.Always.{within, holds, holds-at}
-use Rattle.model.proofs.Rates.Own.{own-none, own-runs, own-waits}
+use Rattle.model.proofs.Rates.Own.{other-task, own-none, own-runs, own-waits}
 use Rattle.model.proofs.Rates.Status.{status-stays}
 use Rattle.model.proofs.Rates.Timely.{Timely, RateBy, timely-inside, timely-others, timely-next, timely-first}
 use Rattle.model.proofs.Rates.Ended.{InTime, nothing-in-time, in-time}
@@ -45,9 +43,6 @@ inside? (transacting x s) f g = f tt
 rate-outside : (g : Option Arguments) (t : ℕ) → (Inside g → ⊥) → RateBy g t
 rate-outside none t n = tt
 rate-outside (some a) t n = absurd (n tt)
-
-pub other-task : {p q : ℕ} (r : Running) → q ≢ p → r ≡ running p → isTask q r ≡ false
-other-task {p} {q} r ne e = rw e (ne-eqb p q (λ z. ne (sym z)))
 
 none-ended : (who : ℕ → Running) → InTime who noHistory
 unfolding at
