@@ -4,6 +4,7 @@ pub mod Own
 pub mod Status
 pub mod Timely
 pub mod Ended
+pub mod Open
 pub mod Run
 pub mod Commit
 pub mod Theorem

@@ -21,10 +21,10 @@ pub record InTime (who : ℕ → Running) (h : History) : Type 0 where
   pub ended : (a l : ℕ) (o : Operation) → operationAt h a ≡ some o → o .last ≡ some l → Rate (o .arguments) (ownBefore who (o .task) a (suc l))
 
 -- none is not some
-not-some : {A B : Type 0} {a : A} → none ≡ some a → B
+pub not-some : {A B : Type 0} {a : A} → none ≡ some a → B
 not-some e = let z : _≡_ {A = ℕ} 0 1 = cc in absurd (omega arith)
 
-the-same : {A : Type 0} {a b : A} → some a ≡ some b → a ≡ b
+pub the-same : {A : Type 0} {a b : A} → some a ≡ some b → a ≡ b
 the-same e = cc
 
 module _ (who : ℕ → Running) (u p : ℕ) (h : History) (size : length (h .began) ≡ u) (k : InTime who h) where
