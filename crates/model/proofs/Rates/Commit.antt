@@ -16,7 +16,7 @@ use Rattle.model.specs.Machine.{Machine, noTask, taskAt, Running, nobody
 use Rattle.model.specs.Rates.{ownBefore}
 use Rattle.model.proofs.Lists.{same?, replace-same, replace-other}
 use Rattle.model.proofs.Fit.Sheet.{SheetFit}
-use Rattle.model.proofs.Whole.Rates.{Ran, before-start, own-tick, others, exchange-rate}
+use Rattle.model.proofs.Whole.Rates.{Ran, before-start, own-tick, others, exchange-rate, exchange-ends}
 use Rattle.model.proofs.Order.Steps.{stateAfter, arrivedAt, state-next}
 use Rattle.model.proofs.Order.Arrive.{TaskArrived, waits, starts, Arrived, Runs, runs, none-runs}
 use Rattle.model.proofs.Order.Ticks.{arrived-at}
@@ -135,6 +135,14 @@ module _ {s : Sheet} (c : SheetFit s) (p a : ℕ) {x : Exchange} (runs-first : w
           next (inl k) = inl k
           next (inr e) = inr (record { tick = n; after = omega arith; before = omega arith; ending = e })
       go (inr k) = inr (record { tick = k .tick; after = k .after; before = omega (arith, k .before); ending = k .ending })
+
+  -- while no tick has ended it
+  pub commit-fewer : (n : ℕ) → a < n → ((u : ℕ) → a ≤ u → u < n → Ending p (arrivedAt (startMachine s) u) → ⊥) → own n < 9 * length (x .entries) + 4
+  commit-fewer n l none = go (underway n l)
+    where
+      go : Underway p (x .entries) (own n) (stateAfter (startMachine s) n) ⊎ Ended n → own n < 9 * length (x .entries) + 4
+      go (inl w) = exchange-ends (w .ran)
+      go (inr d) = absurd (none (d .tick) (d .after) (d .before) (d .ending))
 
   -- it does not end with its Start
   start-only : {A : Type 0} → Ending p (arrivedAt (startMachine s) a) → A
