@@ -7,7 +7,6 @@ use mathlib.Core.List.{List}
 use mathlib.Core.Option.{none, some}
 use lib.Dec.{eqb, leb}
 use lib.ListN.{length}
-use Rattle.model.specs.Lists.{at}
 use Rattle.model.specs.Sheet.{sheetOf}
 use Rattle.model.specs.Word.{Memory}
 use Rattle.model.specs.Exchange.{Exchange, start, ends, exchangeTick}
@@ -65,6 +64,8 @@ pub record Ends (m : Machine) (p u : ℕ) : Type 0 where
 
 -- THE RATES of a run with a limit. One that the limit cuts short has done fewer, so that so many ticks of its own are always enough.
 pub record RunRates (limit : ℕ) (m : Machine) : Type 0 where
+  -- the ticks that a task has used, as its T line says, are its own from tick 0 on
+  pub used : (p : ℕ) → taskAt (run limit m .tasks) p .ticks ≡ ownBefore (runningIn m) p 0 (run limit m .now)
   -- a READ that ends takes 2 or 3 ticks of its own
   pub read : (a w l : ℕ) (o : Operation) → operationAt (historyOf limit m) a ≡ some o → o .arguments ≡ readOf w → o .last ≡ some l → (ownTicks m (o .task) a l ≡ 2) ⊎ (ownTicks m (o .task) a l ≡ 3)
   pub readCutShort : (a w : ℕ) (o : Operation) → operationAt (historyOf limit m) a ≡ some o → o .arguments ≡ readOf w → o .last ≡ none → ownBefore (runningIn m) (o .task) a (run limit m .now) < 3

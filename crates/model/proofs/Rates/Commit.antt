@@ -1,10 +1,9 @@
 -- The exchange of a COMMIT: from its Start on it is under way, in time, until the tick that ends it.
 use Prim.Native.Nat.{ℕ, zero, suc, _+_, _*_, _<_, _≤_}
-use mathlib.Core.Bool.{Bool, false}
-use mathlib.Core.Path.{_≡_, refl, sym, _∙_, ap, subst}
+use mathlib.Core.Bool.{Bool}
+use mathlib.Core.Path.{_≡_, refl, sym, _∙_}
 use mathlib.Core.Logic.{_≢_, _⊎_, inl, inr}
 use mathlib.Core.List.{List}
-use native.Mathlib.Decide.{decLt}
 use native.Mathlib.Omega.{arith}
 use lib.ListN.{length}
 use Rattle.model.specs.Sheet.{Sheet}
@@ -18,7 +17,7 @@ use Rattle.model.proofs.Lists.{same?, replace-same, replace-other}
 use Rattle.model.proofs.Fit.Sheet.{SheetFit}
 use Rattle.model.proofs.Whole.Rates.{Ran, before-start, own-tick, others, exchange-rate, exchange-ends}
 use Rattle.model.proofs.Order.Steps.{stateAfter, arrivedAt, state-next}
-use Rattle.model.proofs.Order.Arrive.{TaskArrived, waits, starts, Arrived, Runs, runs, none-runs}
+use Rattle.model.proofs.Order.Arrive.{TaskArrived, waits, starts, Arrived, runs, none-runs}
 use Rattle.model.proofs.Order.Ticks.{arrived-at}
 use Rattle.model.proofs.Rates.Own.{other-task, own-none, own-runs, own-waits}
 use Rattle.model.proofs.Rates.Status.{status-stays}

@@ -8,8 +8,6 @@ use native.Mathlib.Omega.{arith}
 use lib.Dec.{leb}
 use borrow.Author.Tests.{le-leb, lt-leb, eq-eqb, ne-eqb}
 use Rattle.model.specs.Command.{Release}
-use Rattle.model.specs.Word.{Memory}
-use Rattle.model.specs.Job.{Task}
 use Rattle.model.specs.Machine.{Machine, Running, nobody, running, runningOf, arrive, moveAny, move, tick, over, noneToCome, nobody?, runBy, run}
 use Rattle.model.specs.Rates.{inTick, isTask, oneIf, ownBefore}
 use Rattle.model.proofs.Lists.{test?}

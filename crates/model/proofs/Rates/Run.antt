@@ -22,7 +22,7 @@ use Rattle.model.proofs.Order.Moves.{given, outside}
 use Rattle.model.proofs.Order.Statement.{moves}
 use Rattle.model.proofs.Order.Noted.{latestOf}
 use Rattle.model.proofs.Order.Linked.{Inside, givenTo}
-use Rattle.model.proofs.Order.Ticks.{MachineLinked, next-of, arrived-at, arrived-now, arrived-linked}
+use Rattle.model.proofs.Order.Ticks.{given-arrived, MachineLinked, next-of, arrived-at, arrived-now, arrived-linked}
 use Rattle.model.proofs.Order.Start.{started}
 use Rattle.model.proofs.Run.Always.{within, holds, holds-at}
 use Rattle.model.proofs.Rates.Own.{other-task, own-none, own-runs, own-waits}
@@ -44,10 +44,6 @@ inside? (reading r w s) f g = f tt
 inside? (exchanging r x) f g = f tt
 inside? (transacting x s) f g = f tt
 
-given-arrived : {t t′ : Task} → TaskArrived t t′ → given (t′ .phase) ≡ given (t .phase)
-given-arrived (waits e) = rw e refl
-given-arrived (starts i e) = rw (e, i) refl
-
 rate-outside : (g : Option Arguments) (t : ℕ) → (Inside g → ⊥) → RateBy g t
 rate-outside none t n = tt
 rate-outside (some a) t n = absurd (n tt)
@@ -63,7 +59,11 @@ none-open inside = record { stands = λ a o is e. let z : _≡_ {A = ℕ} 0 1 = 
 module _ {who : ℕ → Running} {h : History} where
   -- RELEASES ARRIVE
   rated-arrived : {n : ℕ} {m m′ : Machine} → Arrived m m′ → Rated who n m h → Rated who n m′ h
-  rated-arrived {n} {m} {m′} a k = record { timely = λ p. rw (a .memory) (go p (a .task p)); ended = k .ended; unended = subst (λ (g : ℕ → Option Arguments). Unended h g) (sym (fun-ext (λ p. given-arrived (a .task p)))) (k .unended) }
+  rated-arrived {n} {m} {m′} a k = record {
+    timely = λ p. rw (a .memory) (go p (a .task p));
+    ended = k .ended;
+    unended = subst (λ (g : ℕ → Option Arguments). Unended h g) (sym (fun-ext (λ p. given-arrived (a .task p)))) (k .unended);
+  }
     where
       go : (p : ℕ) → TaskArrived (taskAt (m .tasks) p) (taskAt (m′ .tasks) p) → Timely (ownBefore who p (latestOf h p) n) p (m .memory) (taskAt (m′ .tasks) p .phase)
       go p (waits e) = rw e (k .timely p)
@@ -73,7 +73,13 @@ module _ {who : ℕ → Running} {h : History} where
     -- AN IDLE TICK
     rated-idle : runningOf (m .tasks) ≡ nobody → Rated who (suc (m .now)) (move m nobody) (observed m nobody h)
     unfolding move observed
-    rated-idle e = record { timely = λ p. rw (none-runs (m .tasks) e p) tt; ended = nothing-in-time who (m .now) 0 h (linked .linked .size) (k .ended); unended = unended (m .now) 0 h (linked .linked .size) (omega (arith, linked .linked .latest)) (givenTo (m .tasks)) (givenTo (m .tasks)) (λ q ne. refl) (k .unended) (outside {b = false} {c = false}) tt none-inside none-inside }
+    rated-idle e = record {
+      timely = λ p. rw (none-runs (m .tasks) e p) tt;
+      ended = nothing-in-time who (m .now) 0 h (linked .linked .size) (k .ended);
+      unended =
+          unended (m .now) 0 h (linked .linked .size) (omega (arith, linked .linked .latest)) (givenTo (m .tasks)) (givenTo (m .tasks)) (λ q ne. refl) (k .unended)
+          (outside {b = false} {c = false}) tt none-inside none-inside;
+    }
       where
         none-inside : givenTo (m .tasks) 0 ≡ none
         none-inside = rw (none-runs (m .tasks) e 0) refl

@@ -1,14 +1,13 @@
 -- The rates: in every run of an accepted sheet, with whatever limit, READs and exchanges take no more ticks of their own than they may.
 use Prim.Native.Nat.{ℕ, suc, _+_, _*_, _<_, _≤_}
-use mathlib.Core.Path.{_≡_, refl, sym, _∙_, ap, subst, fun-ext}
+use mathlib.Core.Path.{_≡_, sym, _∙_, ap, subst, fun-ext}
 use mathlib.Core.List.{List}
 use mathlib.Core.Option.{none, some}
-use lib.ListN.{length}
 use Rattle.model.specs.Sheet.{Sheet, sheetOf, accepted, verdict}
-use Rattle.model.specs.Machine.{Machine, taskAt, Running, running, runningOf, run, startMachine}
+use Rattle.model.specs.Machine.{taskAt, Running, runningOf, run, startMachine}
 use Rattle.model.specs.Plain.{Arguments}
 use Rattle.model.specs.History.{Operation, operationAt, historyOf}
-use Rattle.model.specs.Rates.{inTick, runningIn, ownBefore, ownTicks, Committing, Starts, Ends, Rates}
+use Rattle.model.specs.Rates.{runningIn, ownBefore, ownTicks, Committing, Starts, Ends, Rates}
 use Rattle.model.proofs.Fit.Sheet.{SheetFit}
 use Rattle.model.proofs.Fit.Accepted.{accepted-fit}
 use Rattle.model.proofs.Order.Steps.{stateAfter, arrivedAt, stopped}
@@ -18,6 +17,7 @@ use Rattle.model.proofs.Run.Always.{within}
 use Rattle.model.proofs.Rates.Own.{in-tick}
 use Rattle.model.proofs.Rates.Timely.{Rate, Fewer, timely-fewer}
 use Rattle.model.proofs.Rates.Run.{who, rated}
+use Rattle.model.proofs.Rates.Used.{ticks-used}
 use Rattle.model.proofs.Rates.Commit.{In, Ending, commit-rate, commit-fewer}
 
 module _ {s : Sheet} (c : SheetFit s) where
@@ -26,6 +26,12 @@ module _ {s : Sheet} (c : SheetFit s) where
 
   same-own : (p a n : ℕ) → ownBefore (runningIn (startMachine s)) p a n ≡ ownBefore (who c) p a n
   same-own p a n = ap (λ (w : ℕ → Running). ownBefore w p a n) (fun-ext same-runs)
+
+  -- what the T line says
+  used : (limit p : ℕ) → taskAt (run limit (startMachine s) .tasks) p .ticks ≡ ownBefore (runningIn (startMachine s)) p 0 (run limit (startMachine s) .now)
+  used limit p =
+      let r = stopped limit (startMachine s) in
+      rw (r .state, now-is (started (within c)) (r .ticks), same-own p 0 (r .ticks)) (ticks-used c (r .ticks) p)
 
   -- an operation that has ended
   operation-rate : (limit a l : ℕ) (o : Operation) → operationAt (historyOf limit (startMachine s)) a ≡ some o → o .last ≡ some l → Rate (o .arguments) (ownTicks (startMachine s) (o .task) a l)
@@ -76,6 +82,7 @@ pub rates : (sheet : List ℕ) (limit : ℕ) → verdict sheet ≡ accepted → 
 rates sheet limit e =
     let c = accepted-fit sheet e in
     record {
+      used = used c limit;
       read = λ a w l o is g z. subst (λ (args : Arguments). Rate args (ownTicks (startMachine (sheetOf sheet)) (o .task) a l)) g (operation-rate c limit a l o is z);
       readCutShort = λ a w o is g z. subst (λ (args : Arguments). Fewer args (ownBefore (runningIn (startMachine (sheetOf sheet))) (o .task) a (run limit (startMachine (sheetOf sheet)) .now))) g (operation-fewer c limit a o is z);
       swap = λ a l ps o is g z. subst (λ (args : Arguments). Rate args (ownTicks (startMachine (sheetOf sheet)) (o .task) a l)) g (operation-rate c limit a l o is z);

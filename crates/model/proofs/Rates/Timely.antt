@@ -7,13 +7,12 @@ use mathlib.Core.List.{List, [], _∷_, map}
 use mathlib.Core.Option.{Option, none, some}
 use native.Mathlib.Omega.{arith}
 use lib.ListN.{length, length-map}
-use Rattle.model.specs.Lists.{replace}
 use Rattle.model.specs.Command.{Command, WORD, BLOCK, TASK, RELEASE, END, LOAD, ADD, READ, PAIR, SWAP, BEGIN, access, COMMIT}
-use Rattle.model.specs.Word.{Memory, statusOf, Reading, loading, Read, reads, gives, readTick}
-use Rattle.model.specs.Exchange.{Entry, Exchange, exchangeOf, start, Exchanged, goes, ends, exchangeTick}
+use Rattle.model.specs.Word.{Memory, statusOf, Reading, Read, reads, gives, readTick}
+use Rattle.model.specs.Exchange.{Entry, Exchange, Exchanged, goes, ends, exchangeTick}
 use Rattle.model.specs.Job.{Phase, idle, plain, reading, exchanging, transacting, Task, rest, doneBy}
-use Rattle.model.specs.Machine.{answer, readBy, swapBy, plainTick, statement}
-use Rattle.model.specs.Plain.{Pair, Arguments, readOf, swapOf, transactionOf}
+use Rattle.model.specs.Machine.{readBy, swapBy, plainTick, statement}
+use Rattle.model.specs.Plain.{Arguments, readOf, swapOf, transactionOf}
 use Rattle.model.specs.History.{pairOf, Event, untilCommit}
 use Rattle.model.proofs.Whole.Rates.{Reads, at-first, goes-on, reading-rate, reading-ends, Ran, before-start, own-tick, others, exchange-rate, exchange-ends}
 use Rattle.model.proofs.Order.Exchange.{pairsOf, Follows, follows}
