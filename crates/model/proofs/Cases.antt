@@ -11,6 +11,7 @@ use Rattle.model.specs.Transaction.{bank, versionOf, storeOf}
 use Rattle.model.specs.Machine.{Machine, run, startMachine, taskAt}
 use Rattle.model.specs.Sheet.{sheetOf}
 use Rattle.model.specs.Answer.{Answer, runAnswer, finalOf}
+use Rattle.model.proofs.WholeCases.{sameNumbers}
 use Rattle.model.proofs.Bytes.{join, word, block, task, release, end, load, add, read, pair, swap, begin, get, put, commit}
 
 -- FIGURES
@@ -41,19 +42,13 @@ pub record Case : Type 0 where
   pub buffer : List ℕ
   pub figures : List Figure
 
-sameBytes : List ℕ → List ℕ → Bool
-sameBytes [] [] = true
-sameBytes [] (b ∷ m) = false
-sameBytes (a ∷ l) [] = false
-sameBytes (a ∷ l) (b ∷ m) = eqb a b && sameBytes l m
-
 fill : ℕ
 fill = 0x2E
 
 holds : Answer → Machine → Figure → Bool
-unfolding at current sameBytes fill
+unfolding at current sameNumbers fill
 holds a m (refusal n place) = eqb (a .number) n && eqb (a .place) place
-holds a m (prints text) = eqb (a .number) 0 && eqb (a .place) (length text) && sameBytes (a .buffer) (text ++ fill ∷ fill ∷ [])
+holds a m (prints text) = eqb (a .number) 0 && eqb (a .place) (length text) && sameNumbers (a .buffer) (text ++ fill ∷ fill ∷ [])
 holds a m (wordIs w v) = eqb (currentOf (m .memory) w) v
 holds a m (versionIs b v) = eqb (versionOf (currentOf (m .memory) (bank b))) v
 holds a m (valueIs b o v) = eqb (stored (m .memory .stores) (storeOf (currentOf (m .memory) (bank b))) o) v

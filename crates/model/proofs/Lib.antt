@@ -1,5 +1,6 @@
 pub mod Lists
 pub mod Bytes
+pub mod WholeCases
 pub mod Cases
 pub mod Fit
 pub mod Whole

@@ -14,20 +14,11 @@ use Rattle.model.specs.Machine.{run, startMachine}
 use Rattle.model.specs.Plain.{Contents, Pair, readOf, swapOf, result, plainly}
 use Rattle.model.specs.History.{Operation, History, historyOf}
 use Rattle.model.specs.Claim.{countedBy, Counts, each, Interfered, Replays, plain, freely, over, then, In, EndedBefore, WholeOperations}
+use Rattle.model.proofs.WholeCases.{listedBy, counted}
 use Rattle.model.proofs.Bytes.{word, task, release, end, load, read, pair, swap}
 use Rattle.model.proofs.Order.Ordered.{Ordered, whole-operations, ended-before}
 
--- THE OPERATIONS THAT COUNT, as a list
-unfoldable listedBy : Bool → ℕ → List ℕ → List ℕ
-listedBy true i l = i ∷ l
-listedBy false i l = l
-
--- those of the list, numbered from i on
-unfoldable counted : ℕ → List (Option Operation) → List ℕ
-unfolding listedBy
-counted i [] = []
-counted i (o ∷ l) = listedBy (countedBy o) i (counted (suc i) l)
-
+-- the operations that count are all in their list
 in-counted : (i : ℕ) (l : List (Option Operation)) (a b : ℕ) → i + a ≡ b → countedBy (at none l a) ≡ true → In b (counted i l)
 unfolding at counted listedBy
 in-counted i [] a b s e = absurd (let z : _≡_ {A = ℕ} 0 1 = cc in omega arith)
