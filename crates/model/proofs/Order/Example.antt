@@ -1,10 +1,10 @@
 -- The claim on three small runs: an order that time decides, an order that the answers decide, and P5, where a no rests on the free answer alone.
-use Prim.Native.Nat.{ℕ, zero, suc, _+_}
-use mathlib.Core.Bool.{Bool, true, false}
+use Prim.Native.Nat.{ℕ}
+use mathlib.Core.Bool.{true, false}
 use mathlib.Core.Path.{_≡_, refl}
 use mathlib.Core.Logic.{_≢_, _⊎_, inl, inr}
 use mathlib.Core.List.{List, [], _∷_, _++_}
-use mathlib.Core.Option.{Option, none, some}
+use mathlib.Core.Option.{none, some}
 use native.Mathlib.Omega.{arith}
 use lib.ListN.{replicate}
 use Rattle.model.specs.Lists.{at, replace}
@@ -13,21 +13,11 @@ use Rattle.model.specs.Word.{current}
 use Rattle.model.specs.Machine.{run, startMachine}
 use Rattle.model.specs.Plain.{Contents, Pair, readOf, swapOf, result, plainly}
 use Rattle.model.specs.History.{Operation, History, historyOf}
-use Rattle.model.specs.Claim.{countedBy, Counts, each, Interfered, Replays, plain, freely, over, then, In, EndedBefore, WholeOperations}
+use Rattle.model.specs.Claim.{Counts, each, Interfered, Replays, plain, freely, over, then, In, EndedBefore, WholeOperations}
 use Rattle.model.proofs.WholeCases.{listedBy, counted}
 use Rattle.model.proofs.Bytes.{word, task, release, end, load, read, pair, swap}
+use Rattle.model.proofs.Order.Counted.{in-counted}
 use Rattle.model.proofs.Order.Ordered.{Ordered, whole-operations, ended-before}
-
--- the operations that count are all in their list
-in-counted : (i : ℕ) (l : List (Option Operation)) (a b : ℕ) → i + a ≡ b → countedBy (at none l a) ≡ true → In b (counted i l)
-unfolding at counted listedBy
-in-counted i [] a b s e = absurd (let z : _≡_ {A = ℕ} 0 1 = cc in omega arith)
-in-counted i (o ∷ l) zero b s e = rw e (inl (omega arith))
-in-counted i (o ∷ l) (suc a) b s e = go (countedBy o) (in-counted (suc i) l a b (omega arith) e)
-  where
-    go : (c : Bool) → In b (counted (suc i) l) → In b (listedBy c i (counted (suc i) l))
-    go true h = inr h
-    go false h = h
 
 -- a history of two operations that count, x before y
 module _ (h : History) (x y : ℕ) {c c′ c″ : Contents} where
