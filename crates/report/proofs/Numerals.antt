@@ -1,14 +1,14 @@
 -- The digits of a number, written from the last to the first.
 use Prim.Native.Nat.{ℕ, zero, suc, _+_, _*_, _-_, _/_, _%_, _≤_, _<_, _^_}
-use mathlib.Core.Path.{_≡_, refl, sym, ap, _∙_}
-use mathlib.Core.List.{List, [], _∷_}
+use mathlib.Core.Path.{_≡_, sym, ap, _∙_}
+use mathlib.Core.List.{List, _∷_}
 use native.Mathlib.Nat.{pow-suc}
 use native.Mathlib.Numerals.{add-one}
 use native.Mathlib.Omega.{arith}
-use lib.ListN.{length, getD, set, drop, length-set, drop-of-length-le}
+use lib.ListN.{length, set, drop, length-set, drop-of-length-le}
 use lib.Seq.{drop-cons, drop-set-lt, getD-set-same}
 use borrow.Author.Tests.{lt-ltb, le-ltb}
-use Rattle.model.specs.Report.{decimal, digits, digitsBy}
+use Rattle.model.specs.Report.{decimal, digits}
 
 more : (n v : ℕ) (follow : List ℕ) → 10 ≤ v → digits (suc n) v follow ≡ digits n (v / 10) ((0x30 + v % 10) ∷ follow)
 unfolding digits

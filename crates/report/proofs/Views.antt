@@ -1,15 +1,16 @@
 -- The arrays as the model's memory: save places in rows, packed words, current values.
 use Prim.Native.Nat.{ℕ, zero, suc, _+_, _*_, _≤_, _<_}
-use mathlib.Core.Path.{_≡_, refl, sym, ap, _∙_}
+use mathlib.Core.Path.{_≡_, refl, sym, ap}
 use mathlib.Core.Bool.{true, false}
 use mathlib.Core.List.{List, [], _∷_, map}
 use native.Mathlib.Decide.{decLt}
 use native.Mathlib.Omega.{arith}
-use lib.Dec.{eqb}
 use lib.ListN.{length, take, drop}
 use borrow.Author.Tests.{eq-eqb, ne-eqb}
 use Rattle.model.specs.Lists.{at}
-use Rattle.model.specs.Word.{Word, fresh, saved, current, currentOf}
+use Rattle.model.specs.Word.{Memory, fresh, saved, current, currentOf}
+use Rattle.model.specs.Transaction.{bank, versionOf, storeOf}
+use Rattle.model.specs.Report.{line, wordLine, blockLine}
 use Rattle.model.proofs.Lists.{at-past}
 use Rattle.memory.specs.Packed.{unpack, valueOf, countOf, validOf, taskOf}
 use Rattle.memory.specs.Rows.{row, rows, rowsFrom}
@@ -66,3 +67,10 @@ current-of cells status saves c w r h e f = rw (unpacked cells c h, ← e) f
 pub store-row : (stores : List ℕ) (s : ℕ) → s < 48 → take 8 (drop (8 * s) stores) ≡ at [] (rows 8 48 stores) s
 unfolding row
 store-row stores s h = sym (at-rows 8 48 s stores h)
+
+-- a W line and a B line with the current value found
+pub word-text : (m : Memory) (w : ℕ) {v : ℕ} → v ≡ currentOf m w → line 0x57 (w ∷ v ∷ []) ≡ wordLine m w
+word-text m w e = ap (λ (x : ℕ). line 0x57 (w ∷ x ∷ [])) e
+
+pub block-text : (m : Memory) (b : ℕ) {v : ℕ} → v ≡ currentOf m (bank b) → line 0x42 (b ∷ versionOf v ∷ at [] (m .stores) (storeOf v)) ≡ blockLine m b
+block-text m b e = ap (λ (x : ℕ). line 0x42 (b ∷ versionOf x ∷ at [] (m .stores) (storeOf x))) e

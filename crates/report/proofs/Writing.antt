@@ -1,12 +1,12 @@
--- Texts that are written one after another, and a text that fits.
-use Prim.Native.Nat.{ℕ, zero, suc, _+_, _*_, _-_, _≤_, _<_}
+-- Texts that are written one after another: byte by byte, line by line, number by number.
+use Prim.Native.Nat.{ℕ, suc, _+_, _*_, _-_, _≤_, _<_}
 use mathlib.Core.Path.{_≡_, refl, sym, ap, _∙_}
 use mathlib.Core.List.{List, [], _∷_, _++_}
 use native.Mathlib.Nat.{add-zero, zero-add, mul-zero, mul-suc}
 use native.Mathlib.Numerals.{add-one}
 use native.Mathlib.Omega.{arith}
 use lib.ListN.{length, getD, set, take, drop, length-append, length-drop}
-use lib.Seq.{sets, sets-eq, length-sets, take-suc, take-length, take-all}
+use lib.Seq.{sets, length-sets, take-suc, take-length, take-all}
 use Rattle.model.specs.Report.{fields, lines}
 use Rattle.report.specs.Writing.{Written}
 use Rattle.report.proofs.Lines.{lines-last, fieldOf, numbers}
@@ -20,9 +20,6 @@ sets-append (a ∷ x) y b i =
 pub nothing : (b : List ℕ) (i : ℕ) → Written 0 [] b b i i
 nothing b i = record { bytes = refl; place = omega arith; room = omega arith }
 
-pub one : (a : ℕ) (b : List ℕ) (i : ℕ) → Written 1 (a ∷ []) b (set b i a) i (i + 1)
-one a b i = record { bytes = refl; place = refl; room = omega arith }
-
 pub then : {m n i j k : ℕ} {s t b c d : List ℕ} → Written m s b c i j → Written n t c d j k → Written (m + n) (s ++ t) b d i k
 then {m} {n} {i} {j} {k} {s} {t} {b} {c} {d} u w =
     record {
@@ -35,10 +32,10 @@ pub same-size : {m i j : ℕ} {s b c : List ℕ} → Written m s b c i j → len
 same-size {i = i} {s = s} {b = b} w = ap length (w .bytes) ∙ length-sets b i s
 
 -- one more byte of a text
-pub byte-more : {at j k : ℕ} {b c d : List ℕ} (i : ℕ) (l : List ℕ) → i < length l → Written i (take i l) b c at j → Written 1 (getD l i 0 ∷ []) c d j k → Written (i + 1) (take (i + 1) l) b d at k
+pub byte-more : {from j k : ℕ} {b c d : List ℕ} (i : ℕ) (l : List ℕ) → i < length l → Written i (take i l) b c from j → Written 1 (getD l i 0 ∷ []) c d j k → Written (i + 1) (take (i + 1) l) b d from k
 byte-more i l h u w = rw (add-one i, take-suc l i 0 h, ← add-one i) (then u w)
 
-pub all-bytes : {at j : ℕ} {b c : List ℕ} (i : ℕ) (l : List ℕ) → i ≤ length l → length l ≤ i → Written i (take i l) b c at j → Written (length l) l b c at j
+pub all-bytes : {from j : ℕ} {b c : List ℕ} (i : ℕ) (l : List ℕ) → i ≤ length l → length l ≤ i → Written i (take i l) b c from j → Written (length l) l b c from j
 all-bytes i l below above w =
     let e : i ≡ length l = omega arith in
     rw (e, take-length l) at w
@@ -67,12 +64,12 @@ as-text {i = i} {b = b} e h w =
     }
 
 -- a part of a text that goes to its end
-pub to-the-end : {m k at j : ℕ} {t b c : List ℕ} (l : List ℕ) (i n : ℕ) → Written m (take (n - i) (drop i l)) b c at j → drop i l ≡ t → length l ≤ n → m ≤ k → Written k t b c at j
+pub to-the-end : {m k from j : ℕ} {t b c : List ℕ} (l : List ℕ) (i n : ℕ) → Written m (take (n - i) (drop i l)) b c from j → drop i l ≡ t → length l ≤ n → m ≤ k → Written k t b c from j
 to-the-end l i n w e h wide = as-text (take-all (n - i) (drop i l) (simp length-drop (omega arith)) ∙ e) wide w
 
 -- all the numbers of a line, and its end
-pub all-fields : {at j k : ℕ} {b c d : List ℕ} (l : List ℕ) (start n i : ℕ) → i ≤ n → n ≤ i → start + n ≤ length l
-    → Written (11 * i) (lines i 0 (fieldOf l start)) b c at j → Written 1 (0x0A ∷ []) c d j k → Written (11 * n + 1) (fields (take n (drop start l))) b d at k
+pub all-fields : {from j k : ℕ} {b c d : List ℕ} (l : List ℕ) (start n i : ℕ) → i ≤ n → n ≤ i → start + n ≤ length l
+    → Written (11 * i) (lines i 0 (fieldOf l start)) b c from j → Written 1 (0x0A ∷ []) c d j k → Written (11 * n + 1) (fields (take n (drop start l))) b d from k
 all-fields l start n i below above inside u w =
     let e : start + 0 ≡ start = omega arith in
     let text = rw e at (numbers l start n 0 (omega arith)) in

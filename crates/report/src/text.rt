@@ -11,8 +11,9 @@ pub fn put(buffer: &mut [u8], place: usize, byte: u8) -> usize
     requires { ⌜ place + 1 ≤ farthest ⌝ }
     ensures { λ r. ⌜ Written 1 (byte ∷ []) (now (buffer .entry)) (now (buffer .exit)) place r ⌝ }
 {
+    let next = place + 1;
     memory::set_u8(&mut *buffer, place, byte);
-    place + 1
+    next
 }
 
 // The decimal digits, at the end of the text, and where they begin there.
@@ -91,8 +92,8 @@ pub fn pair_line(buffer: &mut [u8], place: usize, letter: u8, first: u32, second
     ensures { λ r. ⌜ Written 24 (line letter (first ∷ second ∷ [])) (now (buffer .entry)) (now (buffer .exit)) place r ⌝ }
 {
     let middle = head(&mut *buffer, place, letter, first);
-    let next = field(&mut *buffer, middle, second);
-    put(&mut *buffer, next, b'\n')
+    let end = field(&mut *buffer, middle, second);
+    put(&mut *buffer, end, b'\n')
 }
 
 // A line of a number and `count` of the values from `start` on.

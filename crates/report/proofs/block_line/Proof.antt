@@ -1,12 +1,9 @@
 -- A B line: block, version, and the store's values.
-use Prim.Native.Nat.{ℕ, _/_, _%_}
-use mathlib.Core.List.{_∷_, []}
-use mathlib.Core.Path.{ap}
 use borrow.Author.Needs.{needs}
-use Rattle.memory.specs.Rows.{rows}
-use Rattle.model.specs.Report.{fields, line}
-use Rattle.model.specs.Lists.{at}
+use Rattle.report.specs.Text.{memoryOf}
+use Rattle.model.specs.Report.{fields}
 use Rattle.report.proofs.Writing.{then, as-text}
+use Rattle.report.proofs.Views.{block-text}
 use Rattle.report.proofs.block_line.Statement.{statement}
 use Rattle.report.proofs.block_line.Tie as tie
 
@@ -38,7 +35,8 @@ returns : tie.Need-returns
 unfolding fields
 returns c =
     let a = c .before .before .before .before .before .before .before .before .before .before .before .before .before .before .args in
-    as-text (ap (λ (v : ℕ). line 0x42 (a .block ∷ v / 256 ∷ at [] (rows 8 48 (a .stores .now)) (v % 256))) (c .before .before .before .before .before .before .before .before .before .before .before .before .contents .ensures)) (search needs) (then (c .before .before .before .before .before .before .before .before .before .before .head .ensures) (then (c .before .before .before .before .before .before .field .ensures) (c .before .before .store-fields .ensures)))
+    let m = memoryOf (a .cells .now) (a .status .now) (a .saves .now) (a .stores .now) in
+    as-text (block-text m (a .block) (c .before .before .before .before .before .before .before .before .before .before .before .before .contents .ensures)) (search needs) (then (c .before .before .before .before .before .before .before .before .before .before .head .ensures) (then (c .before .before .before .before .before .before .field .ensures) (c .before .before .store-fields .ensures)))
 
 pub block-line-spec : {M : Type 1} → statement M
 block-line-spec =

@@ -32,7 +32,8 @@ loop-less c = search needs
 loop-again : tie.Need-loop-again Inv-loop μ-loop
 loop-again c =
     let a = c .before .before .before .before .before .before .before .args in
-    (search needs, line-more (blockLine (memoryOf (a .cells .now) (a .status .now) (a .saves .now) (a .stores .now))) refl (c .before .before .before .before .before .loop .inv .1) (c .before .before .block-line .ensures))
+    let m = memoryOf (a .cells .now) (a .status .now) (a .saves .now) (a .stores .now) in
+    (search needs, line-more (blockLine m) refl (c .before .before .before .before .before .loop .inv .1) (c .before .before .block-line .ensures))
 
 same-length : tie.Need-same-length Inv-loop μ-loop
 same-length c = same-size (c .before .loop .inv .1)

@@ -1,12 +1,12 @@
 -- The W lines. The invariant: those of the words below `w` are written.
-use Prim.Native.Nat.{ℕ, _*_, _≤_, _-_}
-use mathlib.Core.List.{_∷_, []}
-use mathlib.Core.Path.{_≡_, ap}
+use Prim.Native.Nat.{_*_, _≤_, _-_}
+use mathlib.Core.List.{[]}
 use native.Mathlib.Omega.{arith}
 use borrow.Author.Needs.{needs}
 use Rattle.report.specs.Writing.{Written}
 use Rattle.report.specs.Text.{memoryOf}
-use Rattle.model.specs.Report.{line, lines, wordLine}
+use Rattle.model.specs.Report.{lines, wordLine}
+use Rattle.report.proofs.Views.{word-text}
 use Rattle.report.proofs.Writing.{no-lines, line-more, all-lines, same-size}
 use Rattle.report.proofs.word_lines.Statement.{statement}
 use Rattle.report.proofs.word_lines.Tie as tie
@@ -40,7 +40,8 @@ loop-again : tie.Need-loop-again Inv-loop μ-loop
 loop-again c =
     let a = c .before .before .before .before .before .before .before .before .args in
     let l = c .before .before .before .before .before .before .loop in
-    (search needs, line-more (wordLine (memoryOf (a .cells .now) (a .status .now) (a .saves .now) [])) (ap (λ (v : ℕ). line 0x57 (l .w ∷ v ∷ [])) (c .before .before .before .before .contents .ensures)) (l .inv .1) (c .before .before .pair-line .ensures))
+    let m = memoryOf (a .cells .now) (a .status .now) (a .saves .now) [] in
+    (search needs, line-more (wordLine m) (word-text m (l .w) (c .before .before .before .before .contents .ensures)) (l .inv .1) (c .before .before .pair-line .ensures))
 
 same-length : tie.Need-same-length Inv-loop μ-loop
 same-length c = same-size (c .before .loop .inv .1)

@@ -1,12 +1,10 @@
 -- The bytes of a text, one after another. The invariant: the first `i` are written.
 use Prim.Native.Nat.{_≤_, _-_}
 use native.Mathlib.Omega.{arith}
-use lib.Seq.{take-length}
 use lib.ListN.{length, take}
 use borrow.Author.Needs.{needs}
 use Rattle.report.specs.Writing.{Written}
-use Rattle.report.proofs.Writing.{all-bytes, same-size}
-use Rattle.report.proofs.Writing.{nothing, byte-more}
+use Rattle.report.proofs.Writing.{all-bytes, same-size, nothing, byte-more}
 use Rattle.report.proofs.text.copy.Statement.{statement}
 use Rattle.report.proofs.text.copy.Tie as tie
 

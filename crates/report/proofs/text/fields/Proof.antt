@@ -1,8 +1,7 @@
 -- The numbers of a line and its end. The invariant: the first `i` are written.
 use Prim.Native.Nat.{ℕ, _*_, _≤_, _-_}
-use mathlib.Core.Path.{_∙_}
+use mathlib.Core.Path.{_∙_, ap}
 use mathlib.Core.List.{_∷_}
-use mathlib.Core.Path.{_≡_, ap}
 use native.Mathlib.Omega.{arith}
 use borrow.Author.Needs.{needs}
 use Rattle.report.specs.Writing.{Written}
