@@ -7,3 +7,4 @@ pub mod Whole
 pub mod Transactions
 pub mod Order
 pub mod Run
+pub mod Rates

@@ -14,3 +14,4 @@ pub mod Answer
 pub mod Plain
 pub mod History
 pub mod Claim
+pub mod Rates

@@ -1,0 +1,70 @@
+-- Every operation of a history that has ended took no more ticks of its own than it may, and a tick keeps that if the operation it ends did.
+use Prim.Native.Nat.{ℕ, suc}
+use mathlib.Core.Bool.{Bool}
+use mathlib.Core.Path.{_≡_, refl, sym, _∙_, subst}
+use mathlib.Core.Option.{Option, none, some}
+use native.Mathlib.Omega.{arith}
+use lib.ListN.{length}
+use Rattle.model.specs.Machine.{Running}
+use Rattle.model.specs.Plain.{Arguments}
+use Rattle.model.specs.History.{Operation, History, operationAt, Event, nothing, begins, amends, noted}
+use Rattle.model.specs.Rates.{ownBefore}
+use Rattle.model.proofs.Lists.{same?}
+use Rattle.model.proofs.Order.Advance.{Changed}
+use Rattle.model.proofs.Order.Moves.{Settling, Moves, outside, begun, goesOn, answers, readEnds, swapCommits, swapEnds, swapCommitsAndEnds, swapRejected, transactionCommits, transactionEnds, transactionCommitsAndEnds, nothingTouched, endsSpent}
+use Rattle.model.proofs.Order.Noted.{latestOf, newOperation, noted-nothing, noted-begins, noted-amends}
+use Rattle.model.proofs.Order.Linked.{Open, OpenBy}
+use Rattle.model.proofs.Rates.Timely.{Rate, RateBy}
+
+-- `who` does the statements
+pub record InTime (who : ℕ → Running) (h : History) : Type 0 where
+  pub ended : (a l : ℕ) (o : Operation) → operationAt h a ≡ some o → o .last ≡ some l → Rate (o .arguments) (ownBefore who (o .task) a (suc l))
+
+-- none is not some
+not-some : {A B : Type 0} {a : A} → none ≡ some a → B
+not-some e = let z : _≡_ {A = ℕ} 0 1 = cc in absurd (omega arith)
+
+the-same : {A : Type 0} {a b : A} → some a ≡ some b → a ≡ b
+the-same e = cc
+
+module _ (who : ℕ → Running) (u p : ℕ) (h : History) (size : length (h .began) ≡ u) (k : InTime who h) where
+  same-in-time : (h′ : History) → ((b : ℕ) → operationAt h′ b ≡ operationAt h b) → InTime who h′
+  same-in-time h′ e = record { ended = λ a l o is z. k .ended a l o (sym (e a) ∙ is) z }
+
+  -- operation n is o afterwards
+  changed-in-time : {h′ : History} {n : ℕ} {o : Operation} → Changed h h′ n o → ((l : ℕ) → o .last ≡ some l → Rate (o .arguments) (ownBefore who (o .task) n (suc l))) → InTime who h′
+  changed-in-time {n = n} {o} c f = record {
+    ended = λ a l q is z. same? a n
+        (λ e. let same : o ≡ q = the-same (sym (c .here) ∙ (rw e at is)) in rw (e, ← same) (f l (rw (← same) at z)))
+        (λ ne. k .ended a l q (sym (c .else a ne) ∙ is) z);
+  }
+
+  pub nothing-in-time : InTime who (noted u p nothing h)
+  nothing-in-time = same-in-time (noted u p nothing h) (noted-nothing u p h size)
+
+  begins-in-time : (a : Arguments) → InTime who (noted u p (begins a) h)
+  begins-in-time a = changed-in-time (noted-begins u p h size a) (λ l z. not-some z)
+
+  module _ {a : Arguments} {yes? : Bool} (o : Open h p a yes?) (f : Operation → Operation) where
+    stays-in-time : f (o .operation) .last ≡ none → InTime who (noted u p (amends f) h)
+    stays-in-time n = changed-in-time (noted-amends u p h size f (o .is)) (λ l z. not-some (sym n ∙ z))
+
+    ends-in-time : f (o .operation) .task ≡ o .operation .task → f (o .operation) .arguments ≡ o .operation .arguments → f (o .operation) .last ≡ some u → Rate a (ownBefore who p (latestOf h p) (suc u)) → InTime who (noted u p (amends f) h)
+    ends-in-time t g e r = changed-in-time (noted-amends u p h size f (o .is)) (λ l z. let same : u ≡ l = the-same (sym e ∙ z) in rw (g ∙ o .arguments, t ∙ o .task, ← same) r)
+
+  -- `rate` of the operation that this tick ends
+  pub in-time : {g g′ : Option Arguments} {b b′ : Bool} {e : Event} {s : Settling} → Moves u g b e s g′ b′ → OpenBy h p g b → (g′ ≡ none → RateBy g (ownBefore who p (latestOf h p) (suc u))) → InTime who (noted u p e h)
+  in-time outside o rate = nothing-in-time
+  in-time (begun {a = a}) o rate = begins-in-time a
+  in-time goesOn o rate = nothing-in-time
+  in-time (answers f) o rate = stays-in-time o _ (o .unended)
+  in-time (readEnds v) o rate = ends-in-time o _ refl refl refl (rate refl)
+  in-time swapCommits o rate = stays-in-time o _ (o .unended)
+  in-time swapEnds o rate = ends-in-time o _ refl refl refl (rate refl)
+  in-time swapCommitsAndEnds o rate = ends-in-time o _ refl refl refl (rate refl)
+  in-time swapRejected o rate = ends-in-time o _ refl refl refl (rate refl)
+  in-time transactionCommits o rate = stays-in-time o _ (o .unended)
+  in-time transactionEnds o rate = ends-in-time o _ refl refl refl (rate refl)
+  in-time transactionCommitsAndEnds o rate = ends-in-time o _ refl refl refl (rate refl)
+  in-time nothingTouched o rate = ends-in-time o _ refl refl refl (rate refl)
+  in-time endsSpent o rate = ends-in-time o _ refl refl refl (rate refl)

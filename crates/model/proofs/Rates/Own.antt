@@ -1,0 +1,113 @@
+-- Ticks of its own, counted one tick at a time; and the machine in tick u of a run is the one after u ticks.
+use Prim.Native.Nat.{ℕ, zero, suc, _+_, _≤_}
+use mathlib.Core.Bool.{Bool, true, false, _&&_, true≢false}
+use mathlib.Core.Path.{_≡_, refl, sym, _∙_, ap}
+use mathlib.Core.Logic.{_⊎_, inl, inr}
+use mathlib.Core.List.{List, [], _∷_}
+use native.Mathlib.Omega.{arith}
+use lib.Dec.{leb}
+use borrow.Author.Tests.{le-leb, lt-leb, eq-eqb}
+use Rattle.model.specs.Command.{Release}
+use Rattle.model.specs.Word.{Memory}
+use Rattle.model.specs.Job.{Task}
+use Rattle.model.specs.Machine.{Machine, Running, nobody, running, runningOf, arrive, moveAny, move, tick, over, noneToCome, nobody?, runBy, run}
+use Rattle.model.specs.Rates.{inTick, isTask, oneIf, ownBefore}
+use Rattle.model.proofs.Lists.{test?}
+use Rattle.model.proofs.Whole.Words.{and-true}
+use Rattle.model.proofs.Order.Steps.{stateAfter, arrivedAt}
+
+-- COUNTING
+module _ (who : ℕ → Running) (p a : ℕ) where
+  pub own-none : (n : ℕ) → n ≤ a → ownBefore who p a n ≡ 0
+  unfolding ownBefore
+  own-none zero l = refl
+  own-none (suc n) l = rw (lt-leb a n (omega arith), own-none n (omega arith)) refl
+
+  pub own-runs : (n : ℕ) → a ≤ n → who n ≡ running p → ownBefore who p a (suc n) ≡ suc (ownBefore who p a n)
+  unfolding ownBefore
+  own-runs n l e = rw (e, le-leb a n l, eq-eqb p p refl) (omega arith)
+
+  pub own-waits : (n : ℕ) → isTask p (who n) ≡ false → ownBefore who p a (suc n) ≡ ownBefore who p a n
+  unfolding ownBefore
+  own-waits n e = rw e (go (leb a n))
+    where
+      go : (b : Bool) → ownBefore who p a n + oneIf (b && false) ≡ ownBefore who p a n
+      go true = omega arith
+      go false = omega arith
+
+-- THE MACHINE IN TICK u
+-- the same but for the clock
+record Alike (m n : Machine) : Type 0 where
+  memory : m .memory ≡ n .memory
+  tasks : m .tasks ≡ n .tasks
+  releases : m .releases ≡ n .releases
+
+over-alike : {m n : Machine} → Alike m n → over m ≡ over n
+unfolding over
+over-alike k = rw (k .tasks, k .releases) refl
+
+-- a run that is over idles
+module _ (m : Machine) (e : over m ≡ true) where
+  none-to-come : (l : List Release) → noneToCome l ≡ true → l ≡ []
+  none-to-come [] h = refl
+  none-to-come (r ∷ l) h = cc
+
+  nobody-runs : (r : Running) → nobody? r ≡ true → r ≡ nobody
+  nobody-runs nobody h = refl
+  nobody-runs (running p) h = cc
+
+  over-releases : m .releases ≡ []
+  unfolding over
+  over-releases = none-to-come (m .releases) (and-true (noneToCome (m .releases)) (nobody? (runningOf (m .tasks))) e .0)
+
+  over-running : runningOf (m .tasks) ≡ nobody
+  unfolding over
+  over-running = nobody-runs (runningOf (m .tasks)) (and-true (noneToCome (m .releases)) (nobody? (runningOf (m .tasks))) e .1)
+
+  over-arrives : Alike (arrive (m .releases) m) m
+  unfolding arrive
+  over-arrives = rw over-releases (record { memory = refl; tasks = refl; releases = refl })
+
+  over-tick : Alike (tick m) m
+  unfolding tick arrive moveAny move
+  over-tick = rw (over-releases, over-running) (record { memory = refl; tasks = refl; releases = refl })
+
+-- one tick more of the run, if it is not over
+run-last : (u : ℕ) (m : Machine) → run (suc u) m ≡ runBy (over (run u m)) (λ n. n) (run u m)
+unfolding run runBy
+run-last zero m = test? (over m) (λ e. rw e refl) (λ e. rw e refl)
+run-last (suc u) m = test? (over m) (λ e. rw (e, e) refl) (λ e. rw e (run-last u (tick m)))
+
+-- the run with limit u is the machine after u ticks, or over before
+abbrev After : Machine → ℕ → Type 0
+After m u = (run u m ≡ stateAfter m u) ⊎ ((over (run u m) ≡ true) × Alike (run u m) (stateAfter m u))
+
+after : (m : Machine) (u : ℕ) → After m u
+unfolding run stateAfter runBy
+after m zero = inl refl
+after m (suc u) = test? (over (run u m)) (λ e. inr (stays e (alike (after m u)))) (λ e. goes e (after m u))
+  where
+    alike : After m u → Alike (run u m) (stateAfter m u)
+    alike (inl e) = rw e (record { memory = refl; tasks = refl; releases = refl })
+    alike (inr k) = k .1
+
+    stays : over (run u m) ≡ true → Alike (run u m) (stateAfter m u) → (over (run (suc u) m) ≡ true) × Alike (run (suc u) m) (stateAfter m (suc u))
+    stays e k =
+        let idle = over-tick (stateAfter m u) (sym (over-alike k) ∙ e) in
+        rw (run-last u m, e) (e, record { memory = k .memory ∙ sym (idle .memory); tasks = k .tasks ∙ sym (idle .tasks); releases = k .releases ∙ sym (idle .releases) })
+
+    goes : over (run u m) ≡ false → After m u → After m (suc u)
+    goes e (inl k) = inl (rw (run-last u m, e) (ap tick k))
+    goes e (inr k) = absurd (true≢false (sym (k .0) ∙ e))
+
+-- so in tick u they have the same tasks and the same memory
+pub in-tick : (m : Machine) (u : ℕ) → (inTick m u .memory ≡ arrivedAt m u .memory) × (inTick m u .tasks ≡ arrivedAt m u .tasks)
+unfolding inTick arrivedAt
+in-tick m u = go (after m u)
+  where
+    go : After m u → (inTick m u .memory ≡ arrivedAt m u .memory) × (inTick m u .tasks ≡ arrivedAt m u .tasks)
+    go (inl e) = rw e (refl, refl)
+    go (inr k) =
+        let a = over-arrives (run u m) (k .0) in
+        let b = over-arrives (stateAfter m u) (sym (over-alike (k .1)) ∙ k .0) in
+        (a .memory ∙ k .1 .memory ∙ sym (b .memory), a .tasks ∙ k .1 .tasks ∙ sym (b .tasks))

@@ -1,0 +1,150 @@
+-- Every tick of a run keeps its tasks in time, and every operation that has ended took no more ticks of its own than it may.
+use Prim.Native.Nat.{ℕ, zero, suc, _<_}
+use mathlib.Core.Bool.{false}
+use mathlib.Core.Path.{_≡_, refl, sym, _∙_, ap, subst}
+use mathlib.Core.Logic.{_≢_, _⊎_, inl, inr}
+use mathlib.Core.Option.{Option, none, some}
+use native.Mathlib.Omega.{arith}
+use lib.ListN.{length}
+use borrow.Author.Tests.{ne-eqb}
+use Rattle.model.specs.Lists.{at}
+use Rattle.model.specs.Sheet.{Sheet}
+use Rattle.model.specs.Job.{Phase, idle, plain, reading, exchanging, transacting, Task, Turn, ticked}
+use Rattle.model.specs.Machine.{Machine, noTask, taskAt, Running, nobody, running, runningOf, move, statement, startMachine}
+use Rattle.model.specs.Plain.{Arguments}
+use Rattle.model.specs.History.{History, noHistory, observed}
+use Rattle.model.specs.Rates.{isTask, ownBefore}
+use Rattle.model.proofs.Lists.{same?, replace-same, replace-other}
+use Rattle.model.proofs.Fit.Sheet.{SheetFit}
+use Rattle.model.proofs.Order.Steps.{stateAfter, arrivedAt, historyAfter, state-next, history-next}
+use Rattle.model.proofs.Order.Arrive.{TaskArrived, waits, starts, Arrived, Runs, runs, none-runs}
+use Rattle.model.proofs.Order.Moves.{given}
+use Rattle.model.proofs.Order.Statement.{moves}
+use Rattle.model.proofs.Order.Noted.{latestOf}
+use Rattle.model.proofs.Order.Linked.{Inside}
+use Rattle.model.proofs.Order.Ticks.{MachineLinked, next-of, arrived-at, arrived-now, arrived-linked}
+use Rattle.model.proofs.Order.Start.{started}
+use Rattle.model.proofs.Run.Always.{within, holds, holds-at}
+use Rattle.model.proofs.Rates.Own.{own-none, own-runs, own-waits}
+use Rattle.model.proofs.Rates.Status.{status-stays}
+use Rattle.model.proofs.Rates.Timely.{Timely, RateBy, timely-inside, timely-others, timely-next, timely-first}
+use Rattle.model.proofs.Rates.Ended.{InTime, nothing-in-time, in-time}
+
+-- after n ticks, `who` having done their statements
+pub record Rated (who : ℕ → Running) (n : ℕ) (m : Machine) (h : History) : Type 0 where
+  pub timely : (p : ℕ) → Timely (ownBefore who p (latestOf h p) n) p (m .memory) (taskAt (m .tasks) p .phase)
+  pub ended : InTime who h
+
+inside? : {P : Type 0} (f : Phase) → (Inside (given f) → P) → ((Inside (given f) → ⊥) → P) → P
+inside? idle f g = g (λ i. i)
+inside? plain f g = g (λ i. i)
+inside? (reading r w s) f g = f tt
+inside? (exchanging r x) f g = f tt
+inside? (transacting x s) f g = f tt
+
+rate-outside : (g : Option Arguments) (t : ℕ) → (Inside g → ⊥) → RateBy g t
+rate-outside none t n = tt
+rate-outside (some a) t n = absurd (n tt)
+
+pub other-task : {p q : ℕ} (r : Running) → q ≢ p → r ≡ running p → isTask q r ≡ false
+other-task {p} {q} r ne e = rw e (ne-eqb p q (λ z. ne (sym z)))
+
+none-ended : (who : ℕ → Running) → InTime who noHistory
+unfolding at
+none-ended who = record { ended = λ a l o is e. let z : _≡_ {A = ℕ} 0 1 = cc in absurd (omega arith) }
+
+module _ {who : ℕ → Running} {h : History} where
+  -- RELEASES ARRIVE
+  rated-arrived : {n : ℕ} {m m′ : Machine} → Arrived m m′ → Rated who n m h → Rated who n m′ h
+  rated-arrived {n} {m} {m′} a k = record { timely = λ p. rw (a .memory) (go p (a .task p)); ended = k .ended }
+    where
+      go : (p : ℕ) → TaskArrived (taskAt (m .tasks) p) (taskAt (m′ .tasks) p) → Timely (ownBefore who p (latestOf h p) n) p (m .memory) (taskAt (m′ .tasks) p .phase)
+      go p (waits e) = rw e (k .timely p)
+      go p (starts i e) = rw e tt
+
+  module _ {m : Machine} (linked : MachineLinked m h) (k : Rated who (m .now) m h) where
+    -- AN IDLE TICK
+    rated-idle : runningOf (m .tasks) ≡ nobody → Rated who (suc (m .now)) (move m nobody) (observed m nobody h)
+    unfolding move observed
+    rated-idle e = record { timely = λ p. rw (none-runs (m .tasks) e p) tt; ended = nothing-in-time who (m .now) 0 h (linked .linked .size) (k .ended) }
+
+    -- TASK p RUNS
+    module _ (p : ℕ) (r : Runs (m .tasks) p) (w : who (m .now) ≡ running p) (below : p < length (m .memory .status)) where
+      abbrev task : Task
+      task = taskAt (m .tasks) p
+
+      abbrev after : Turn
+      after = statement p (m .memory) task (task .phase)
+
+      one-more : ownBefore who p (latestOf h p) (suc (m .now)) ≡ suc (ownBefore who p (latestOf h p) (m .now))
+      one-more = own-runs who p (latestOf h p) (m .now) (linked .linked .past p) w
+
+      first-one : ownBefore who p (m .now) (suc (m .now)) ≡ 1
+      first-one = own-runs who p (m .now) (m .now) (omega arith) w ∙ ap suc (own-none who p (m .now) (m .now) (omega arith))
+
+      own-timely : Timely (ownBefore who p (latestOf (observed m (running p) h) p) (suc (m .now))) p (after .memory) (after .task .phase)
+      own-timely =
+          let n = next-of linked p r in
+          inside? (task .phase)
+          (λ i. timely-inside p (after .memory) (after .task .phase) (λ j. on (n .stays i)) (timely-next p (m .memory) task below _ (task .phase) refl (k .timely p) i .inside))
+          (λ o. timely-inside p (after .memory) (after .task .phase) (λ j. go o (n .since j)) (timely-first p (m .memory) task below (task .phase) refl o))
+        where
+          on : latestOf (observed m (running p) h) p ≡ latestOf h p → ownBefore who p (latestOf (observed m (running p) h) p) (suc (m .now)) ≡ suc (ownBefore who p (latestOf h p) (m .now))
+          on e = rw e one-more
+
+          go : (Inside (given (task .phase)) → ⊥) → Inside (given (task .phase)) ⊎ (latestOf (observed m (running p) h) p ≡ m .now) → ownBefore who p (latestOf (observed m (running p) h) p) (suc (m .now)) ≡ 1
+          go o (inl i) = absurd (o i)
+          go o (inr e) = rw e first-one
+
+      rate : given (after .task .phase) ≡ none → RateBy (given (task .phase)) (ownBefore who p (latestOf h p) (suc (m .now)))
+      rate e = inside? (task .phase)
+          (λ i. rw one-more (timely-next p (m .memory) task below _ (task .phase) refl (k .timely p) i .ended e))
+          (λ o. rate-outside (given (task .phase)) _ o)
+
+      ended-runs : InTime who (observed m (running p) h)
+      unfolding observed
+      ended-runs = in-time who (m .now) p h (linked .linked .size) (k .ended) (moves (m .now) p (m .memory) task (task .phase) refl) (linked .linked .opened p) rate
+
+      rated-runs : Rated who (suc (m .now)) (move m (running p)) (observed m (running p) h)
+      unfolding move
+      rated-runs = record { timely = timely; ended = ended-runs }
+        where
+          timely : (q : ℕ) → Timely (ownBefore who q (latestOf (observed m (running p) h) q) (suc (m .now))) q (move m (running p) .memory) (taskAt (move m (running p) .tasks) q .phase)
+          timely q = same? q p
+              (λ e. rw (e, replace-same noTask (m .tasks) p (ticked (after .task)) (r .below)) own-timely)
+              (λ ne. rw (replace-other noTask (m .tasks) p q (ticked (after .task)) ne, next-of linked p r .other q ne, own-waits who q (latestOf h q) (m .now) (other-task (who (m .now)) ne w))
+              (timely-others _ q (m .memory) _ (taskAt (m .tasks) q .phase) (status-stays p q ne (m .memory) task) (k .timely q)))
+
+-- EVERY TICK
+module _ {s : Sheet} (c : SheetFit s) where
+  -- who does the statement of tick t
+  abbrev pub who : ℕ → Running
+  who t = runningOf (arrivedAt (startMachine s) t .tasks)
+
+  pub below-status : (t p : ℕ) → Runs (arrivedAt (startMachine s) t .tasks) p → p < length (arrivedAt (startMachine s) t .memory .status)
+  below-status t p r = let f = holds-at c t (holds c t) .fit in omega (arith, r .below, f .tasks, f .memory .status)
+
+  module _ (t : ℕ) (k : Rated who t (stateAfter (startMachine s) t) (historyAfter (startMachine s) t)) where
+    abbrev now : Machine
+    now = arrivedAt (startMachine s) t
+
+    rated-at : Rated who (now .now) now (historyAfter (startMachine s) t)
+    rated-at = subst (λ (u : ℕ). Rated who u now (historyAfter (startMachine s) t)) (sym (arrived-now (started (within c)) t)) (rated-arrived (arrived-at (startMachine s) t) k)
+
+    step : (r : Running) → runningOf (now .tasks) ≡ r → Rated who (suc (now .now)) (move now r) (observed now r (historyAfter (startMachine s) t))
+    step nobody e = rated-idle (arrived-linked (started (within c)) t) rated-at e
+    step (running p) e =
+        let r = runs (now .tasks) p e in
+        rated-runs (arrived-linked (started (within c)) t) rated-at p r (ap who (arrived-now (started (within c)) t) ∙ e) (below-status t p r)
+
+    rated-next : Rated who (suc t) (stateAfter (startMachine s) (suc t)) (historyAfter (startMachine s) (suc t))
+    rated-next =
+        subst (λ (z : Machine). Rated who (suc t) z (historyAfter (startMachine s) (suc t))) (sym (state-next (startMachine s) t))
+        (subst (λ (z : History). Rated who (suc t) (move now (runningOf (now .tasks))) z) (sym (history-next (startMachine s) t))
+        (subst (λ (u : ℕ). Rated who (suc u) (move now (runningOf (now .tasks))) (observed now (runningOf (now .tasks)) (historyAfter (startMachine s) t))) (arrived-now (started (within c)) t)
+        (step (runningOf (now .tasks)) refl)))
+
+  pub rated : (t : ℕ) → Rated who t (stateAfter (startMachine s) t) (historyAfter (startMachine s) t)
+  unfolding stateAfter historyAfter
+  rated zero = record { timely = λ p. rw (started (within c) .idle p) tt; ended = none-ended who }
+  rated (suc t) = rated-next t (rated t)

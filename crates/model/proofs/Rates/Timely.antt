@@ -1,0 +1,155 @@
+-- A task inside a READ or a SWAP is there in time after so many ticks of its own, and its statement keeps that or ends the operation in time.
+use Prim.Native.Nat.{ℕ, suc, _+_, _*_, _<_, _≤_}
+use mathlib.Core.Bool.{Bool}
+use mathlib.Core.Path.{_≡_, refl, sym, _∙_, subst}
+use mathlib.Core.Logic.{_⊎_}
+use mathlib.Core.List.{List, [], _∷_, map}
+use mathlib.Core.Option.{Option, none, some}
+use native.Mathlib.Omega.{arith}
+use lib.ListN.{length, length-map}
+use Rattle.model.specs.Lists.{replace}
+use Rattle.model.specs.Command.{Command, WORD, BLOCK, TASK, RELEASE, END, LOAD, ADD, READ, PAIR, SWAP, BEGIN, access, COMMIT}
+use Rattle.model.specs.Word.{Memory, statusOf, Reading, loading, Read, reads, gives, readTick}
+use Rattle.model.specs.Exchange.{Entry, Exchange, exchangeOf, start, Exchanged, goes, ends, exchangeTick}
+use Rattle.model.specs.Job.{Phase, idle, plain, reading, exchanging, transacting, Task, rest, doneBy}
+use Rattle.model.specs.Machine.{answer, readBy, swapBy, plainTick, statement}
+use Rattle.model.specs.Plain.{Pair, Arguments, readOf, swapOf, transactionOf}
+use Rattle.model.specs.History.{pairOf, Event, untilCommit}
+use Rattle.model.proofs.Whole.Rates.{Reads, at-first, goes-on, reading-rate, Ran, before-start, own-tick, others, exchange-rate}
+use Rattle.model.proofs.Order.Exchange.{pairsOf, Follows, follows}
+use Rattle.model.proofs.Order.Moves.{given, Settling, Moves, outside, begun, goesOn, answers, readEnds, swapCommits, swapEnds, swapCommitsAndEnds, swapRejected, transactionCommits, transactionEnds, transactionCommitsAndEnds, nothingTouched, endsSpent}
+use Rattle.model.proofs.Order.Statement.{moves}
+use Rattle.model.proofs.Order.Linked.{Inside}
+
+-- the exchange x of task p has done t ticks of its own; it began with entries of the same pairs
+pub record InExchange (t p : ℕ) (m : Memory) (x : Exchange) : Type 0 where
+  pub entries : List Entry
+  pub pairs : map pairOf entries ≡ pairsOf x
+  pub ran : Ran p entries t m x
+
+-- IN TIME after t ticks of its own
+abbrev pub Timely : ℕ → ℕ → Memory → Phase → Type 0
+Timely t p m idle = Unit {0}
+Timely t p m plain = Unit {0}
+Timely t p m (reading r w s) = Reads w t s
+Timely t p m (exchanging r x) = InExchange t p m x
+Timely t p m (transacting x s) = Unit {0}
+
+-- an operation with these arguments may take t ticks
+abbrev pub Rate : Arguments → ℕ → Type 0
+Rate (readOf w) t = (t ≡ 2) ⊎ (t ≡ 3)
+Rate (swapOf ps) t = t ≤ 9 * length ps + 4
+Rate (transactionOf rs l) t = Unit {0}
+
+abbrev pub RateBy : Option Arguments → ℕ → Type 0
+RateBy none t = Unit {0}
+RateBy (some a) t = Rate a t
+
+-- the ticks count only inside an operation
+pub timely-inside : {t t′ : ℕ} (p : ℕ) (m : Memory) (f : Phase) → (Inside (given f) → t′ ≡ t) → Timely t p m f → Timely t′ p m f
+timely-inside p m idle e h = tt
+timely-inside p m plain e h = tt
+timely-inside p m (reading r w s) e h = rw (e tt) h
+timely-inside p m (exchanging r x) e h = rw (e tt) h
+timely-inside p m (transacting x s) e h = tt
+
+-- another task's statement
+pub timely-others : (t p : ℕ) (m n : Memory) (f : Phase) → (statusOf m p ≡ 1 → statusOf n p ≡ 1) → Timely t p m f → Timely t p n f
+timely-others t p m n idle k h = tt
+timely-others t p m n plain k h = tt
+timely-others t p m n (reading r w s) k h = h
+timely-others t p m n (exchanging r x) k h = record { entries = h .entries; pairs = h .pairs; ran = others (h .ran) k }
+timely-others t p m n (transacting x s) k h = tt
+
+-- TASK p'S OWN STATEMENT: it is in time afterwards, and if its operation ends, that took no more than it may
+pub record TimelyNext (g : Option Arguments) (t p : ℕ) (m : Memory) (f : Phase) : Type 0 where
+  pub inside : Timely t p m f
+  pub ended : given f ≡ none → RateBy g t
+
+not-none : {A : Type 0} {a : Arguments} → some a ≡ none → A
+not-none e = let z : _≡_ {A = ℕ} 0 1 = cc in absurd (omega arith)
+
+done-timely : (l : List Command) (u : Task) (rs : List ℕ) (ps : List Entry) (cs : List ℕ) (t p : ℕ) (m : Memory) → Timely t p m (doneBy l u rs ps cs .phase)
+unfolding doneBy
+done-timely [] u rs ps cs t p m = tt
+done-timely (c ∷ l) u rs ps cs t p m = tt
+
+-- inside a transaction a task stays there until it is outside
+abbrev Stays : Option Arguments → Option Arguments → Type 0
+Stays none g = Unit {0}
+Stays (some a) none = Unit {0}
+Stays (some a) (some b) = b ≡ a
+
+moves-stay : {u : ℕ} {g g′ : Option Arguments} {b b′ : Bool} {e : Event} {s : Settling} → Moves u g b e s g′ b′ → Stays g g′
+moves-stay outside = tt
+moves-stay begun = tt
+moves-stay goesOn = refl
+moves-stay (answers f) = refl
+moves-stay (readEnds v) = tt
+moves-stay swapCommits = refl
+moves-stay swapEnds = tt
+moves-stay swapCommitsAndEnds = tt
+moves-stay swapRejected = tt
+moves-stay transactionCommits = refl
+moves-stay transactionEnds = tt
+moves-stay transactionCommitsAndEnds = tt
+moves-stay nothingTouched = tt
+moves-stay endsSpent = tt
+
+transaction-timely : (rs : List ℕ) (l : List Command) (t p : ℕ) (m : Memory) (f : Phase) → Stays (some (transactionOf rs l)) (given f) → Timely t p m f
+transaction-timely rs l t p m idle e = tt
+transaction-timely rs l t p m plain e = tt
+transaction-timely rs l t p m (reading r w s) e = let z : _≡_ {A = ℕ} 0 1 = cc in absurd (omega arith)
+transaction-timely rs l t p m (exchanging r x) e = let z : _≡_ {A = ℕ} 0 1 = cc in absurd (omega arith)
+transaction-timely rs l t p m (transacting x s) e = tt
+
+module _ (p : ℕ) (m : Memory) (u : Task) (below : p < length (m .status)) where
+  -- the first tick of an operation
+  plain-timely : u .phase ≡ plain → (l : List Command) → Timely 1 p (plainTick p m u l .memory) (plainTick p m u l .task .phase)
+  unfolding plainTick readTick readBy exchangeTick swapBy
+  plain-timely e [] = rw e tt
+  plain-timely e (LOAD r v ∷ l) = done-timely (rest (u .commands)) u _ _ _ 1 p m
+  plain-timely e (ADD r q ∷ l) = done-timely (rest (u .commands)) u _ _ _ 1 p m
+  plain-timely e (READ r w ∷ l) = goes-on m at-first refl
+  plain-timely e (PAIR w o n ∷ l) = done-timely (rest (u .commands)) u _ _ _ 1 p m
+  plain-timely e (SWAP r ∷ l) = record { entries = u .pairs; pairs = refl; ran = own-tick (before-start m) below refl }
+  plain-timely e (BEGIN ∷ l) = tt
+  plain-timely e (access a ∷ l) = rw e tt
+  plain-timely e (COMMIT ∷ l) = rw e tt
+  plain-timely e (WORD v ∷ l) = rw e tt
+  plain-timely e (BLOCK b ∷ l) = rw e tt
+  plain-timely e (TASK ∷ l) = rw e tt
+  plain-timely e (RELEASE r ∷ l) = rw e tt
+  plain-timely e (END ∷ l) = rw e tt
+
+  module _ (t : ℕ) where
+    read-timely : (r w : ℕ) (s : Reading) (o : Read) → readTick m w s ≡ o → Reads w t s → TimelyNext (some (readOf w)) (suc t) p (readBy m u r w o .memory) (readBy m u r w o .task .phase)
+    unfolding readBy
+    read-timely r w s (reads s′) e h = record { inside = goes-on m h e; ended = λ z. not-none z }
+    read-timely r w s (gives v) e h = record { inside = done-timely (rest (u .commands)) u _ _ _ (suc t) p m; ended = λ z. reading-rate h m v e }
+
+    swap-timely : (r : ℕ) (x : Exchange) (o : Exchanged) → exchangeTick p m x (x .step) ≡ o → InExchange t p m x → TimelyNext (some (swapOf (pairsOf x))) (suc t) p (swapBy u r o .memory) (swapBy u r o .task .phase)
+    unfolding swapBy
+    swap-timely r x (goes m′ x′) e h =
+        let k : Follows p m x (x .step) (goes m′ x′) = subst (λ (o : Exchanged). Follows p m x (x .step) o) e (follows p m x (x .step)) in
+        record { inside = record { entries = h .entries; pairs = h .pairs ∙ sym (k .pairs); ran = own-tick (h .ran) below e }; ended = λ z. not-none z }
+    swap-timely r x (ends m′ yes?) e h = record {
+      inside = done-timely (rest (u .commands)) u _ _ _ (suc t) p m′;
+      ended = λ z. rw (← h .pairs, length-map (h .entries) pairOf) (exchange-rate (h .ran) below e);
+    }
+
+    pub timely-next : (f : Phase) → u .phase ≡ f → Timely t p m f → Inside (given f) → TimelyNext (given f) (suc t) p (statement p m u f .memory) (statement p m u f .task .phase)
+    unfolding statement
+    timely-next idle e h i = absurd i
+    timely-next plain e h i = absurd i
+    timely-next (reading r w s) e h i = read-timely r w s (readTick m w s) refl h
+    timely-next (exchanging r x) e h i = swap-timely r x (exchangeTick p m x (x .step)) refl h
+    timely-next (transacting x s) e h i = record { inside = transaction-timely (x .kept) (untilCommit (x .commands)) (suc t) p (statement p m u (transacting x s) .memory) (statement p m u (transacting x s) .task .phase) (moves-stay (moves 0 p m u (transacting x s) e)); ended = λ z. tt }
+
+  pub timely-first : (f : Phase) → u .phase ≡ f → (Inside (given f) → ⊥) → Timely 1 p (statement p m u f .memory) (statement p m u f .task .phase)
+  unfolding statement
+  timely-first idle e n = rw e tt
+  timely-first plain e n = plain-timely e (u .commands)
+  timely-first (reading r w s) e n = absurd (n tt)
+  timely-first (exchanging r x) e n = absurd (n tt)
+  timely-first (transacting x s) e n = absurd (n tt)
