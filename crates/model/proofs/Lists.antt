@@ -1,5 +1,5 @@
 -- Laws of `at` and `replace`: the element replaced, the others, lengths, and maps. Also two ways to go by cases.
-use Prim.Native.Nat.{ℕ, zero, suc, _<_, _≤_}
+use Prim.Native.Nat.{ℕ, zero, suc, _+_, _<_, _≤_}
 use mathlib.Core.Path.{_≡_, refl, ap}
 use mathlib.Core.Logic.{_≢_}
 use mathlib.Core.Bool.{Bool, true, false}
@@ -7,7 +7,7 @@ use mathlib.Core.List.{List, [], _∷_, _++_, map}
 use native.Mathlib.Decide.{ℕ-discrete, decLt}
 use native.Mathlib.Omega.{arith}
 use lib.ListN.{length, getD, set, replicate, length-set, List·getD-map, List·getD-eq-default, List·getD-append, getD-replicate}
-use lib.Seq.{getD-set-same, getD-set-other, set-out}
+use lib.Seq.{getD-set-same, getD-set-other, set-out, getD-append-add}
 use Rattle.model.specs.Lists.{at, replace}
 
 module _ {A : Type 0} where
@@ -34,6 +34,10 @@ module _ {A : Type 0} where
   pub at-append : (d : A) (l r : List A) (i : ℕ) → i < length l → at d (l ++ r) i ≡ at d l i
   unfolding at
   at-append d l r i h = List·getD-append l r d i h
+
+  pub at-behind : (d : A) (l r : List A) (n i : ℕ) → length l ≡ n → at d (l ++ r) (n + i) ≡ at d r i
+  unfolding at
+  at-behind d l r n i e = rw (← e) (getD-append-add l r i d)
 
   pub at-replicate : (d a : A) (n i : ℕ) → i < n → at d (replicate n a) i ≡ a
   unfolding at

@@ -177,7 +177,7 @@ arrive-now (r ∷ l) m = go (eqb (r .tick) (m .now)) (arrive-now l)
     go true on = released (unfinished (taskAt (m .tasks) (r .task) .phase)) on
     go false on = refl
 
-move-now : (m : Machine) (r : Running) → move m r .now ≡ suc (m .now)
+pub move-now : (m : Machine) (r : Running) → move m r .now ≡ suc (m .now)
 unfolding move
 move-now m nobody = refl
 move-now m (running p) = refl

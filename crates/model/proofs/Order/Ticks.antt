@@ -14,6 +14,7 @@ use Rattle.model.specs.Machine.{Machine, noTask, taskAt, Running, nobody
 use Rattle.model.specs.Plain.{Arguments}
 use Rattle.model.specs.History.{History, operationAt, nothing, observed}
 use Rattle.model.proofs.Lists.{same?, replace-same, replace-other, length-replace}
+use Rattle.model.proofs.Fit.Tick.{move-now}
 use Rattle.model.proofs.Order.Steps.{stateAfter, arrivedAt, historyAfter, state-next, history-next}
 use Rattle.model.proofs.Order.Arrive.{TaskArrived, waits, starts, Arrived, arrived, Runs, runs, none-runs}
 use Rattle.model.proofs.Order.Advance.{Advance, same}
@@ -172,11 +173,6 @@ unfolding at
 no-latest zero p = refl
 no-latest (suc n) zero = refl
 no-latest (suc n) (suc p) = no-latest n p
-
-move-now : (m : Machine) (r : Running) → move m r .now ≡ suc (m .now)
-unfolding move
-move-now m nobody = refl
-move-now m (running p) = refl
 
 module _ {m : Machine} (s : Started m) where
   pub now-is : (t : ℕ) → stateAfter m t .now ≡ t

@@ -24,7 +24,7 @@ use Rattle.model.proofs.Order.Noted.{latestOf}
 use Rattle.model.proofs.Order.Linked.{Inside}
 use Rattle.model.proofs.Order.Ticks.{MachineLinked, next-of, arrived-at, arrived-now, arrived-linked}
 use Rattle.model.proofs.Order.Start.{started}
-use Rattle.model.proofs.Run.Always.{within, holds, holds-at}
+use Rattle.model.proofs.Run.Always.{holds, holds-at}
 use Rattle.model.proofs.Rates.Own.{own-none, own-runs, own-waits}
 use Rattle.model.proofs.Rates.Status.{status-stays}
 use Rattle.model.proofs.Rates.Timely.{Timely, RateBy, timely-inside, timely-others, timely-next, timely-first}
@@ -129,22 +129,22 @@ module _ {s : Sheet} (c : SheetFit s) where
     now = arrivedAt (startMachine s) t
 
     rated-at : Rated who (now .now) now (historyAfter (startMachine s) t)
-    rated-at = subst (λ (u : ℕ). Rated who u now (historyAfter (startMachine s) t)) (sym (arrived-now (started (within c)) t)) (rated-arrived (arrived-at (startMachine s) t) k)
+    rated-at = subst (λ (u : ℕ). Rated who u now (historyAfter (startMachine s) t)) (sym (arrived-now (started c) t)) (rated-arrived (arrived-at (startMachine s) t) k)
 
     step : (r : Running) → runningOf (now .tasks) ≡ r → Rated who (suc (now .now)) (move now r) (observed now r (historyAfter (startMachine s) t))
-    step nobody e = rated-idle (arrived-linked (started (within c)) t) rated-at e
+    step nobody e = rated-idle (arrived-linked (started c) t) rated-at e
     step (running p) e =
         let r = runs (now .tasks) p e in
-        rated-runs (arrived-linked (started (within c)) t) rated-at p r (ap who (arrived-now (started (within c)) t) ∙ e) (below-status t p r)
+        rated-runs (arrived-linked (started c) t) rated-at p r (ap who (arrived-now (started c) t) ∙ e) (below-status t p r)
 
     rated-next : Rated who (suc t) (stateAfter (startMachine s) (suc t)) (historyAfter (startMachine s) (suc t))
     rated-next =
         subst (λ (z : Machine). Rated who (suc t) z (historyAfter (startMachine s) (suc t))) (sym (state-next (startMachine s) t))
         (subst (λ (z : History). Rated who (suc t) (move now (runningOf (now .tasks))) z) (sym (history-next (startMachine s) t))
-        (subst (λ (u : ℕ). Rated who (suc u) (move now (runningOf (now .tasks))) (observed now (runningOf (now .tasks)) (historyAfter (startMachine s) t))) (arrived-now (started (within c)) t)
+        (subst (λ (u : ℕ). Rated who (suc u) (move now (runningOf (now .tasks))) (observed now (runningOf (now .tasks)) (historyAfter (startMachine s) t))) (arrived-now (started c) t)
         (step (runningOf (now .tasks)) refl)))
 
   pub rated : (t : ℕ) → Rated who t (stateAfter (startMachine s) t) (historyAfter (startMachine s) t)
   unfolding stateAfter historyAfter
-  rated zero = record { timely = λ p. rw (started (within c) .idle p) tt; ended = none-ended who }
+  rated zero = record { timely = λ p. rw (started c .idle p) tt; ended = none-ended who }
   rated (suc t) = rated-next t (rated t)
