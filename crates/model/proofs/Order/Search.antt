@@ -8,7 +8,6 @@ use mathlib.Core.Option.{Option, none, some}
 use native.Mathlib.Omega.{arith}
 use lib.ListN.{length, length-append}
 use Rattle.model.specs.Lists.{at}
-use Rattle.model.specs.Machine.{run}
 use Rattle.model.specs.Plain.{Contents, result, plainly}
 use Rattle.model.specs.History.{Operation, History, operationAt}
 use Rattle.model.specs.Claim.{Replays, plain, freely, Sequence, over, then, In, Once, EndedBefore, RespectsTime, WholeOperations}

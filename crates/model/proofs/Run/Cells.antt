@@ -9,11 +9,10 @@ use native.Mathlib.Decide.{decLt}
 use native.Mathlib.Omega.{arith}
 use lib.Dec.{eqb}
 use lib.ListN.{length, length-map}
-use borrow.Author.Tests.{eqb-true, eqb-false}
 use Rattle.model.specs.Lists.{at, replace}
 use Rattle.model.specs.Command.{Command, SWAP}
 use Rattle.model.specs.Word.{Word, Memory, statusOf, setStatus, currentOf, Reading, loading, looking, fetching}
-use Rattle.model.specs.Exchange.{Entry, Step, start, test, load, look, fetch, save, fail, mark, install, commit, clean, cleanMark, Exchange, commitBy, cleanBy, exchangeTick}
+use Rattle.model.specs.Exchange.{Entry, Step, start, save, commit, Exchange, commitBy, cleanBy, exchangeTick}
 use Rattle.model.specs.Job.{between, first, copying, again, committing, Phase, idle, plain, exchanging, transacting, Task}
 use Rattle.model.specs.Job.{reading as readingPhase}
 use Rattle.model.specs.Transaction.{bank, blockOf}
@@ -35,7 +34,7 @@ use Rattle.model.proofs.Whole.Current.{start-current, current-kept, com
 use Rattle.model.proofs.Transactions.Given.{exchangeIn, SaysYes, Cells, swapped, loadedBy, readingIn, SameContent, Given}
 use Rattle.model.proofs.Transactions.Given.{same as sameCells}
 use Rattle.model.proofs.Transactions.Statement.{JobFit}
-use Rattle.model.proofs.Order.Exchange.{saysYes}
+use Rattle.model.proofs.Order.Exchange.{saysYes, says-commit, says-not}
 use Rattle.model.proofs.Order.Arrive.{Runs}
 use Rattle.model.proofs.Run.Acts.{readAct, actIn, taskAct, actsOf, act-at, ExchangeIn, begins, goes-on, commits, Touches, nothing, loads, looks, exchanges}
 
@@ -91,23 +90,6 @@ situation {m} {ts} {p} g size r I = record {
         go (no k) = itself (omega arith)
 
 -- A COMMIT THAT SAYS YES
-pub says-commit : (p : ℕ) (m : Memory) (s : Step) → saysYes p m s ≡ true → (s ≡ commit) × (statusOf m p ≡ 0)
-says-commit p m commit e = (refl, eqb-true _ _ e)
-says-commit p m start e = absurd (true≢false (sym e))
-says-commit p m test e = absurd (true≢false (sym e))
-says-commit p m load e = absurd (true≢false (sym e))
-says-commit p m look e = absurd (true≢false (sym e))
-says-commit p m fetch e = absurd (true≢false (sym e))
-says-commit p m fail e = absurd (true≢false (sym e))
-says-commit p m mark e = absurd (true≢false (sym e))
-says-commit p m install e = absurd (true≢false (sym e))
-says-commit p m (save v) e = absurd (true≢false (sym e))
-says-commit p m (clean j yes?) e = absurd (true≢false (sym e))
-says-commit p m (cleanMark j yes?) e = absurd (true≢false (sym e))
-
-pub says-not : (p : ℕ) (m : Memory) (s : Step) → saysYes p m s ≡ false → s ≡ commit → statusOf m p ≢ 0
-says-not p m s e c = eqb-false _ _ (subst (λ (z : Step). saysYes p m z ≡ false) c e)
-
 clean-memory : (b : Bool) (n : Memory) (x : Exchange) (yes? : Bool) → memoryAfter (cleanBy b n x yes?) ≡ n
 unfolding cleanBy
 clean-memory true n x yes? = refl

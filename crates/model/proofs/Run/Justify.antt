@@ -28,7 +28,7 @@ use Rattle.model.proofs.Whole.Ground.{differs, beaten, GroundsOf}
 use Rattle.model.proofs.Transactions.Given.{exchangeIn, SaysYes, Swapped, Cells, same, swapped}
 use Rattle.model.proofs.Transactions.Machine.{turnOf}
 use Rattle.model.proofs.Transactions.Replay.{blocks-stay, contents-stay, commit-replays, nothing-replays}
-use Rattle.model.proofs.Order.Exchange.{saysYes, pairsOf}
+use Rattle.model.proofs.Order.Exchange.{saysYes, says-commit, says-not, pairsOf}
 use Rattle.model.proofs.Order.Moves.{given, innerCommitted, hasCommitted, readSettles, swapSettles, transactionSettles, commandSettles, innerSettles, settling}
 use Rattle.model.proofs.Order.Noted.{latestOf}
 use Rattle.model.proofs.Order.Linked.{Open, OpenBy, Inside, givenTo}
@@ -37,7 +37,7 @@ use Rattle.model.proofs.Order.Justified.{Found, Ground, differed, hit, 
 use Rattle.model.proofs.Order.Arrive.{Runs}
 use Rattle.model.proofs.Order.Ticks.{MachineLinked, next-of}
 use Rattle.model.proofs.Run.Acts.{actIn, goes-on}
-use Rattle.model.proofs.Run.Cells.{fit-as, says-commit, says-not}
+use Rattle.model.proofs.Run.Cells.{fit-as}
 use Rattle.model.proofs.Run.Past.{knowledge, among-pairs}
 use Rattle.model.proofs.Run.Grounds.{same-pairs, read-seen, no-seen}
 use Rattle.model.proofs.Run.Swap.{word-at, swap-replays}

@@ -11,7 +11,7 @@ use Rattle.model.specs.Lists.{at, replace}
 use Rattle.model.specs.Word.{Word, Memory, statusOf, saved}
 use Rattle.model.specs.Exchange.{Entry, entry, Step, Exchange, entryAt, installed, to, loaded, noted, onward}
 use Rattle.model.proofs.Lists.{replace-same, replace-other, length-replace, at-below, same?}
-use Rattle.model.proofs.Whole.Act.{Act, free, exchanging, working, stage, undecided, uncleaned, undecided-all, here}
+use Rattle.model.proofs.Whole.Act.{Act, free, exchanging, working, stage, undecided, uncleaned, undecided-all, here, stageOf}
 use Rattle.model.proofs.Whole.Invariant.{Held, WellFormed, valid, held, Anyone, Loaded, AtStep, InExchange, Knows, Rank, itself, idle, lower, Situation}
 use Rattle.model.proofs.Whole.Words.{own-valid, not-own}
 use Rattle.model.proofs.Whole.Frame.{Frame, frame-none, settled-frame, Moved, below-clear}
@@ -56,6 +56,10 @@ from-zero h e = omega arith
 module _ {below : ℕ → ℕ → Type 0} {m : Memory} {acts : List Act} {p : ℕ} {x : Exchange} (S : Situation below m acts p (exchanging x)) where
   pub mine : InExchange (λ r. below r p) (m .status) (m .saves) acts p x
   mine = subst (λ (v : Act). Knows (λ r. below r p) (m .status) (m .saves) acts p v) (S .act) (S .invariant .knows p)
+
+  -- the exchange stands at entry i
+  pub inside : (s : Step) → x .step ≡ s → stageOf s ≡ working → x .i < length (x .entries)
+  inside s e w = mine .at-entry (rw e w)
 
   pub at-step-as : (s : Step) → x .step ≡ s → AtStep (λ r. below r p) (m .status) (m .saves) acts p x s
   at-step-as s e = subst (λ (z : Step). AtStep (λ r. below r p) (m .status) (m .saves) acts p x z) e (mine .at-step)
