@@ -16,7 +16,8 @@ use Rattle.model.proofs.Fit.Machine.{Fit}
 use Rattle.model.proofs.Fit.Reading.{FoundAt, good}
 use Rattle.model.proofs.Fit.Declared.{EightValues}
 use Rattle.model.proofs.Fit.Walk.{walk}
-use Rattle.model.proofs.Fit.Tick.{afterTicks, after-ticks-fit, run-fit, run-now}
+use Rattle.model.proofs.Fit.Tick.{after-ticks-fit, run-fit, run-now}
+use Rattle.model.proofs.Order.Steps.{stateAfter}
 use Rattle.model.proofs.Fit.Start.{start-fit}
 
 -- THE TABLE'S ROWS
@@ -65,7 +66,7 @@ accepted-fit bytes e =
 -- EVERY MACHINE OF THE RUN
 module _ (bytes : List ℕ) (e : verdict bytes ≡ accepted) where
   -- after any number of ticks
-  pub every-fit : (n : ℕ) → Fit (sheetOf bytes) (afterTicks n (startMachine (sheetOf bytes)))
+  pub every-fit : (n : ℕ) → Fit (sheetOf bytes) (stateAfter (startMachine (sheetOf bytes)) n)
   every-fit n = let c = accepted-fit bytes e in after-ticks-fit c n (start-fit c)
 
   -- at the end

@@ -1,8 +1,6 @@
 -- What holds after every tick of an accepted sheet's run: the machine is well formed, and so say the exchange and the transaction layer with their knowledge of the past.
 use Prim.Native.Nat.{ℕ, suc, _<_}
-use mathlib.Core.Bool.{true≢false}
 use mathlib.Core.Path.{_≡_, refl, sym, _∙_, ap}
-use native.Mathlib.Decide.{decLt}
 use native.Mathlib.Omega.{arith}
 use lib.ListN.{length, length-map}
 use Rattle.model.specs.Lists.{replace}
@@ -15,6 +13,7 @@ use Rattle.model.proofs.Lists.{map-replace}
 use Rattle.model.proofs.Fit.Sheet.{SheetFit}
 use Rattle.model.proofs.Fit.Machine.{Fit}
 use Rattle.model.proofs.Fit.Statement.{statement-fit}
+use Rattle.model.proofs.Fit.Tick.{tasks-of, declared}
 use Rattle.model.proofs.Whole.Act.{free}
 use Rattle.model.proofs.Whole.Invariant.{Invariant}
 use Rattle.model.proofs.Transactions.Facts.{slotsOf, TaskFacts, Transactions}
@@ -69,26 +68,22 @@ holds-arrived f a k = record {
 
 -- TASK p RUNS
 module _ {s : Sheet} (c : SheetFit s) {values : ℕ → ℕ → ℕ} {m : Machine} {h : History} (linked : MachineLinked m h) (k : Holds s values (m .now) m h) (now : (a : ℕ) → values (m .now) a ≡ currentOf (m .memory) a) (p : ℕ) (r : Runs (m .tasks) p) where
-  pub declared : p < length (s .bodies)
-  declared = go (decLt p (length (s .bodies)))
-    where
-      go : Dec (p < length (s .bodies)) → p < length (s .bodies)
-      go (yes l) = l
-      go (no n) = absurd (true≢false (sym (r .unfinished) ∙ ap (λ (t : Task). unfinished (t .phase)) (k .fit .undeclared p (omega arith))))
+  declared-task : p < length (s .bodies)
+  declared-task = declared c (tasks-of (k .fit)) p (r .unfinished)
 
   pub job : JobFit (length (s .words)) (length (s .blocks)) (taskAt (m .tasks) p)
-  job = k .fit .task p declared .phase
+  job = k .fit .task p declared-task .phase
 
   pub running-task : RunningTask (length (s .words)) (length (s .blocks)) (length (s .bodies)) p (m .memory) (m .tasks) (latestOperation h)
   running-task = record {
     fewWords = c .words;
     fewBlocks = c .blocks;
-    declared = declared;
+    declared = declared-task;
     there = r .below;
     memory = k .fit .memory;
-    copies = k .fit .task p declared .copies;
+    copies = k .fit .task p declared-task .copies;
     fit = λ q l. k .fit .task q l .phase;
-    fitAfter = statement-fit (c .blocks) (k .fit .memory) (taskAt (m .tasks) p) (k .fit .task p declared .registers) (k .fit .task p declared .copies) p job .phase;
+    fitAfter = statement-fit (c .blocks) (k .fit .memory) (taskAt (m .tasks) p) (k .fit .task p declared-task .registers) (k .fit .task p declared-task .copies) p job .phase;
     given = given-after (k .fit .memory) (k .fit .tasks) r (c .words) (c .blocks) job (k .invariant) refl (touches p (m .memory) (taskAt (m .tasks) p) (taskAt (m .tasks) p .phase) refl);
     invariant = k .transactions;
   }
