@@ -37,12 +37,12 @@ use Rattle.model.proofs.Order.Justified.{Found, Ground, differed, hit, 
 use Rattle.model.proofs.Order.Arrive.{Runs}
 use Rattle.model.proofs.Order.Ticks.{MachineLinked, next-of}
 use Rattle.model.proofs.Run.Acts.{actIn, goes-on}
-use Rattle.model.proofs.Run.Cells.{fit-as}
+use Rattle.model.proofs.Run.Cells.{job-as}
 use Rattle.model.proofs.Run.Past.{knowledge, among-pairs}
 use Rattle.model.proofs.Run.Grounds.{same-pairs, read-seen, no-seen}
 use Rattle.model.proofs.Run.Swap.{word-at, swap-replays}
 use Rattle.model.proofs.Run.Latest.{latestOperation}
-use Rattle.model.proofs.Run.State.{Holds, job, running-task}
+use Rattle.model.proofs.Run.State.{Holds, ready, running-task}
 
 -- `memories t` is the shared memory after t ticks
 module _ {s : Sheet} (c : SheetFit s) (memories : ℕ → Memory) {m : Machine} {h : History} (linked : MachineLinked m h) (k : Holds s (λ t a. currentOf (memories t) a) (m .now) m h) (p : ℕ) (r : Runs (m .tasks) p)
@@ -64,8 +64,8 @@ module _ {s : Sheet} (c : SheetFit s) (memories : ℕ → Memory) {m : Machine} 
   module _ (q w : ℕ) (i : Reading) (e : taskAt (m .tasks) p .phase ≡ readingPhase q w i) where
     found : (v : ℕ) → readTick (m .memory) w i ≡ gives v → Found contents (latestOf h p) (m .now) w v
     found v z =
-        let seen = read-seen (k .fit .memory) (k .fit .tasks) r (c .words) (c .blocks) (job c linked k now p r) (k .invariant) (linked .linked) (next-of linked p r) now (k .past .past) q w i v e z in
-        let f = fit-as (c .words) (c .blocks) (taskAt (m .tasks) p) (job c linked k now p r) (readingPhase q w i) e in
+        let seen = read-seen (ready c linked k now p r) (linked .linked) (next-of linked p r) now (k .past .past) q w i v e z in
+        let f = job-as (ready c linked k now p r) (readingPhase q w i) e in
         record { tick = seen .tick; from = rw (← next-of linked p r .stays (rw e tt)) (seen .from); to = omega (arith, seen .before); value = word-at s (memories (seen .tick)) w (f .word) ∙ seen .value }
 
     read-justified : (o : Read) → readTick (m .memory) w i ≡ o → Justified contents (m .now) p h (readSettles w o)
@@ -75,7 +75,7 @@ module _ {s : Sheet} (c : SheetFit s) (memories : ℕ → Memory) {m : Machine} 
   -- SWAP
   module _ (q : ℕ) (x : Exchange) (e : taskAt (m .tasks) p .phase ≡ exchanging q x) where
     fit : ExchangingFit (length (s .words)) (length (s .blocks)) (taskAt (m .tasks) p .commands) (taskAt (m .tasks) p .pairs) q x
-    fit = fit-as (c .words) (c .blocks) (taskAt (m .tasks) p) (job c linked k now p r) (exchanging q x) e
+    fit = job-as (ready c linked k now p r) (exchanging q x) e
 
     swap-yes : saysYes p (m .memory) (x .step) ≡ true → plainly (swapOf (pairsOf x)) (contents (m .now)) ≡ result (contents (suc (m .now))) (1 ∷ [])
     swap-yes y = rw (before, after) (go (running-task c linked k now p r .given .cells))
@@ -118,10 +118,10 @@ module _ {s : Sheet} (c : SheetFit s) (memories : ℕ → Memory) {m : Machine} 
         }
 
     ground : (o : Memory) → exchangeTick p (m .memory) x (x .step) ≡ ends o false → Ground contents (m .now) p h (pairsOf x)
-    ground o z = go (no-seen (k .fit .memory) (k .fit .tasks) r (c .words) (c .blocks) (job c linked k now p r) (k .invariant) (linked .linked) (next-of linked p r) now (k .past .past) x o (goes-on q e) (at-exchange o z) z)
+    ground o z = go (no-seen (ready c linked k now p r) (linked .linked) (next-of linked p r) now (k .past .past) x o (goes-on q e) (at-exchange o z) z)
       where
         pairs : SamePairs (x .entries) (k .past .pairs p)
-        pairs = same-pairs (k .fit .memory) (k .fit .tasks) r (c .words) (c .blocks) (job c linked k now p r) (k .invariant) (linked .linked) (next-of linked p r) now (k .past .past) x (at-exchange o z)
+        pairs = same-pairs (ready c linked k now p r) (linked .linked) (next-of linked p r) now (k .past .past) x (at-exchange o z)
 
         within : (i : ℕ) → i < length (k .past .pairs p) → i < length (x .entries)
         within i l = omega (arith, pairs .size)

@@ -23,15 +23,13 @@ use Rattle.model.proofs.Whole.Act.{free, actAt, actOf, started?}
 use Rattle.model.proofs.Whole.Act.{exchanging as exchangingAct}
 use Rattle.model.proofs.Whole.Ground.{Busy, Passes, SeesNow}
 use Rattle.model.proofs.Whole.Ground.{History as Knowledge}
-use Rattle.model.proofs.Transactions.Statement.{JobFit}
 use Rattle.model.proofs.Order.Exchange.{pairsOf}
 use Rattle.model.proofs.Order.Moves.{given}
 use Rattle.model.proofs.Order.Noted.{latestOf}
 use Rattle.model.proofs.Order.Linked.{Open, Inside, givenTo, Linked, Next}
 use Rattle.model.proofs.Order.Hit.{Hit, hit-kept, hit-lower, hit-by}
-use Rattle.model.proofs.Order.Arrive.{Runs}
 use Rattle.model.proofs.Run.Acts.{readAct, actIn, actsOf, act-at, ExchangeIn, begins, goes-on, commits}
-use Rattle.model.proofs.Run.Cells.{below, fit-as}
+use Rattle.model.proofs.Run.Cells.{below, Ready, job-as}
 
 -- cell c had the value v at the beginning of a tick of task r's latest operation, u ticks being done
 pub record Seen (values : ℕ → ℕ → ℕ) (u : ℕ) (h : History) (r c v : ℕ) : Type 0 where
@@ -89,7 +87,7 @@ at-work t (transacting y (again a v r)) k e = read-not (bank (blockOf a)) r e
 at-work t (transacting y (committing c)) k e = commits y (k ∙ ap (λ (z : Exchange). transacting y (committing z)) (act-is c e))
 
 -- A TICK OF TASK p
-module _ {u p words blocks : ℕ} {ts : List Task} {h h′ : History} {g′ : Option Arguments} {yes? : Bool} (runs : Runs ts p) (fewWords : words ≤ 32) (fewBlocks : blocks ≤ 16) (f : JobFit words blocks (taskAt ts p)) (l : Linked u ts h) (n : Next u p h h′ (givenTo ts p) g′ yes?) where
+module _ {u p words blocks : ℕ} {m : Memory} {ts : List Task} {h h′ : History} {g′ : Option Arguments} {yes? : Bool} (R : Ready words blocks m ts p) (l : Linked u ts h) (n : Next u p h h′ (givenTo ts p) g′ yes?) where
   latest-stays : (r : ℕ) → Inside (givenTo ts r) → latestOf h′ r ≡ latestOf h r
   latest-stays r i = same? r p (λ e. rw e (n .stays (rw e at i))) (λ ne. n .other r ne)
 
@@ -112,7 +110,7 @@ module _ {u p words blocks : ℕ} {ts : List Task} {h h′ : History} {g′ : Op
       rw (← s .cell e) (inr (hit-kept (n .advance) (latest-stays r i) b))
   own-hit {x} {ps} (commits y k) a s r e i lt le ne =
       let in-x : e < length (x .entries) = omega (arith, s .size) in
-      let w = fit-as fewWords fewBlocks (taskAt ts p) f (transacting y (committing x)) k in
+      let w = job-as R (transacting y (committing x)) k in
       inl (omega (arith, w .inner .exchange .entries .from e in-x, s .cell e))
 
   -- the exchange that task p is in has the pairs that are known of it
@@ -134,5 +132,5 @@ module _ {u p words blocks : ℕ} {ts : List Task} {h h′ : History} {g′ : Op
       down r c b bp lt (inl k) = inl k
       down r c b bp lt (inr k) = inr (hit-kept (n .advance) (latest-stays r (busy-inside ts r b)) (hit-lower l r p lt (busy-inside ts r b) (busy-inside ts p bp) c k))
 
-  pub sees-now : {values : ℕ → ℕ → ℕ} (pairs : ℕ → List Entry) (m : Memory) → ((c : ℕ) → values u c ≡ currentOf m c) → SeesNow m p (knowledge values (suc u) h′ pairs)
-  sees-now pairs m now = λ c. record { tick = u; from = latest-now; before = omega arith; value = now c }
+  pub sees-now : {values : ℕ → ℕ → ℕ} (pairs : ℕ → List Entry) → ((c : ℕ) → values u c ≡ currentOf m c) → SeesNow m p (knowledge values (suc u) h′ pairs)
+  sees-now pairs now = λ c. record { tick = u; from = latest-now; before = omega arith; value = now c }

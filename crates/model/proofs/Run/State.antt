@@ -21,12 +21,11 @@ use Rattle.model.proofs.Transactions.Owners.{owners-stay}
 use Rattle.model.proofs.Transactions.Contents.{ext-at}
 use Rattle.model.proofs.Transactions.Machine.{turnOf, Later, statement-keeps}
 use Rattle.model.proofs.Transactions.Machine.{Running as RunningTask}
-use Rattle.model.proofs.Transactions.Statement.{JobFit}
 use Rattle.model.proofs.Order.Arrive.{TaskArrived, waits, starts, Arrived, Runs}
 use Rattle.model.proofs.Order.Statement.{moves}
 use Rattle.model.proofs.Order.Ticks.{MachineLinked, next-of, other-operation}
 use Rattle.model.proofs.Run.Acts.{taskAct, actsOf, act-at, touches}
-use Rattle.model.proofs.Run.Cells.{below, invariant-after, given-after}
+use Rattle.model.proofs.Run.Cells.{below, Ready, invariant-after, given-after}
 use Rattle.model.proofs.Run.Grounds.{PastAfter, past-after}
 use Rattle.model.proofs.Run.Latest.{operationOr, latestOperation, latest-after}
 
@@ -71,8 +70,8 @@ module _ {s : Sheet} (c : SheetFit s) {values : ℕ → ℕ → ℕ} {m : Machin
   declared-task : p < length (s .bodies)
   declared-task = declared c (tasks-of (k .fit)) p (r .unfinished)
 
-  pub job : JobFit (length (s .words)) (length (s .blocks)) (taskAt (m .tasks) p)
-  job = k .fit .task p declared-task .phase
+  pub ready : Ready (length (s .words)) (length (s .blocks)) (m .memory) (m .tasks) p
+  ready = record { fewWords = c .words; fewBlocks = c .blocks; memory = k .fit .memory; size = k .fit .tasks; runs = r; job = k .fit .task p declared-task .phase; invariant = k .invariant }
 
   pub running-task : RunningTask (length (s .words)) (length (s .blocks)) (length (s .bodies)) p (m .memory) (m .tasks) (latestOperation h)
   running-task = record {
@@ -83,8 +82,8 @@ module _ {s : Sheet} (c : SheetFit s) {values : ℕ → ℕ → ℕ} {m : Machin
     memory = k .fit .memory;
     copies = k .fit .task p declared-task .copies;
     fit = λ q l. k .fit .task q l .phase;
-    fitAfter = statement-fit (c .blocks) (k .fit .memory) (taskAt (m .tasks) p) (k .fit .task p declared-task .registers) (k .fit .task p declared-task .copies) p job .phase;
-    given = given-after (k .fit .memory) (k .fit .tasks) r (c .words) (c .blocks) job (k .invariant) refl (touches p (m .memory) (taskAt (m .tasks) p) (taskAt (m .tasks) p .phase) refl);
+    fitAfter = statement-fit (c .blocks) (k .fit .memory) (taskAt (m .tasks) p) (k .fit .task p declared-task .registers) (k .fit .task p declared-task .copies) p (ready .job) .phase;
+    given = given-after ready refl (touches p (m .memory) (taskAt (m .tasks) p) (taskAt (m .tasks) p .phase) refl);
     invariant = k .transactions;
   }
 
@@ -104,7 +103,7 @@ module _ {s : Sheet} (c : SheetFit s) {values : ℕ → ℕ → ℕ} {m : Machin
       let t = touches p (m .memory) (taskAt (m .tasks) p) (taskAt (m .tasks) p .phase) refl in
       record {
         fit = f;
-        invariant = rw acts-after (invariant-after (k .fit .memory) (k .fit .tasks) r (c .words) (c .blocks) job (k .invariant) refl t);
-        past = rw acts-after (past-after (k .fit .memory) (k .fit .tasks) r (c .words) (c .blocks) job (k .invariant) (linked .linked) (next-of linked p r) now (k .past .past) refl t);
+        invariant = rw acts-after (invariant-after ready refl t);
+        past = rw acts-after (past-after ready (linked .linked) (next-of linked p r) now (k .past .past) refl t);
         transactions = statement-keeps running-task (m .now) later;
       }
