@@ -1,6 +1,6 @@
 -- Document 01's worked figures: one table of sheets, limits and figures, and one fact over the whole table, by computation.
 use Prim.Native.Nat.{ℕ, zero, suc, _+_}
-use mathlib.Core.Bool.{Bool, true, false, _&&_}
+use mathlib.Core.Bool.{Bool, true, _&&_}
 use mathlib.Core.Path.{_≡_, refl}
 use mathlib.Core.List.{List, [], _∷_, _++_}
 use lib.Dec.{eqb}

@@ -1,4 +1,4 @@
--- Laws of `at` and `replace`: the element replaced, the others, lengths, and maps. Also two ways to go by cases.
+-- Laws of `at` and `replace`: the element replaced, the others, lengths, and maps. Also two ways to go by cases, and contradictions.
 use Prim.Native.Nat.{ℕ, zero, suc, _+_, _<_, _≤_}
 use mathlib.Core.Path.{_≡_, refl, ap}
 use mathlib.Core.Logic.{_≢_}
@@ -6,7 +6,7 @@ use mathlib.Core.Bool.{Bool, true, false}
 use mathlib.Core.List.{List, [], _∷_, _++_, map}
 use native.Mathlib.Decide.{ℕ-discrete, decLt}
 use native.Mathlib.Omega.{arith}
-use lib.ListN.{length, getD, set, replicate, length-set, List·getD-map, List·getD-eq-default, List·getD-append, getD-replicate}
+use lib.ListN.{length, set, replicate, length-set, List·getD-map, List·getD-eq-default, List·getD-append, getD-replicate}
 use lib.Seq.{getD-set-same, getD-set-other, set-out, getD-append-add}
 use Rattle.model.specs.Lists.{at, replace}
 
@@ -64,6 +64,10 @@ module _ {A B : Type 0} (f : A → B) where
       go [] i = refl
       go (x ∷ l) zero = refl
       go (x ∷ l) (suc i) = ap (λ (z : List B). f x ∷ z) (go l i)
+
+-- equations that contradict each other: `impossible (cc)`
+pub impossible : {P : Type 0} → _≡_ {A = ℕ} 0 1 → P
+impossible e = absurd (omega arith)
 
 -- two numbers are equal or not
 pub same? : {P : Type 0} (i j : ℕ) → (i ≡ j → P) → (i ≢ j → P) → P

@@ -3,7 +3,6 @@ use Prim.Native.Nat.{ℕ, _<_}
 use mathlib.Core.Bool.{Bool, true, false}
 use mathlib.Core.Path.{_≡_, refl, _∙_}
 use mathlib.Core.List.{List, [], _∷_}
-use native.Mathlib.Omega.{arith}
 use lib.Dec.{eqb, ltb}
 use lib.ListN.{length}
 use borrow.Author.Tests.{ltb-true, ltb-false}
@@ -12,7 +11,7 @@ use Rattle.model.specs.Command.{Release}
 use Rattle.model.specs.Job.{Phase, idle, plain, reading, exchanging, transacting, Task, started}
 use Rattle.model.specs.Machine.{Machine, noTask, taskAt, unfinished, nobody, running, runningOf, releaseBy, arriveBy, arrive}
 use Rattle.model.proofs.Fit.Running.{running-highest, nobody-none}
-use Rattle.model.proofs.Lists.{same?, test?, replace-same, replace-other, length-replace, replace-past}
+use Rattle.model.proofs.Lists.{same?, test?, replace-same, replace-other, length-replace, replace-past, impossible}
 
 pub idle-phase : (f : Phase) → unfinished f ≡ false → f ≡ idle
 idle-phase idle e = refl
@@ -30,7 +29,7 @@ arrived-twice : {t t′ t″ : Task} → TaskArrived t t′ → TaskArrived t′
 arrived-twice (waits e) (waits f) = waits (f ∙ e)
 arrived-twice (waits e) (starts i f) = starts (rw e at i) (rw e at f)
 arrived-twice (starts i e) (waits f) = starts i (f ∙ e)
-arrived-twice (starts i e) (starts j f) = let z : _≡_ {A = Phase} plain idle = rw e at j in let y : _≡_ {A = ℕ} 0 1 = cc in absurd (omega arith)
+arrived-twice (starts i e) (starts j f) = let z : _≡_ {A = Phase} plain idle = rw e at j in impossible (cc)
 
 pub record Arrived (m m′ : Machine) : Type 0 where
   pub memory : m′ .memory ≡ m .memory

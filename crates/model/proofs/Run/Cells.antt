@@ -17,7 +17,7 @@ use Rattle.model.specs.Job.{between, first, copying, again, committing, 
 use Rattle.model.specs.Job.{reading as readingPhase}
 use Rattle.model.specs.Transaction.{bank, blockOf}
 use Rattle.model.specs.Machine.{taskAt}
-use Rattle.model.proofs.Lists.{same?, test?}
+use Rattle.model.proofs.Lists.{same?, test?, impossible}
 use Rattle.model.proofs.Fit.Elements.{below?}
 use Rattle.model.proofs.Fit.Memory.{MemoryFit}
 use Rattle.model.proofs.Fit.Exchange.{ExchangeFit, exchange-start}
@@ -121,14 +121,14 @@ start-memory p m x s e = subst (λ (z : Step). memoryAfter (exchangeTick p m x z
 
 -- the act of a task in an exchange
 exchange-act : (f : Phase) (x : Exchange) → exchangeIn f ≡ some x → actIn f ≡ actOf x
-exchange-act idle x e = let z : _≡_ {A = ℕ} 0 1 = cc in absurd (omega arith)
-exchange-act plain x e = let z : _≡_ {A = ℕ} 0 1 = cc in absurd (omega arith)
-exchange-act (readingPhase r w s) x e = let z : _≡_ {A = ℕ} 0 1 = cc in absurd (omega arith)
+exchange-act idle x e = impossible (cc)
+exchange-act plain x e = impossible (cc)
+exchange-act (readingPhase r w s) x e = impossible (cc)
 exchange-act (exchanging r y) x e = let z : y ≡ x = cc in rw z
-exchange-act (transacting y between) x e = let z : _≡_ {A = ℕ} 0 1 = cc in absurd (omega arith)
-exchange-act (transacting y (first a r)) x e = let z : _≡_ {A = ℕ} 0 1 = cc in absurd (omega arith)
-exchange-act (transacting y (copying a n)) x e = let z : _≡_ {A = ℕ} 0 1 = cc in absurd (omega arith)
-exchange-act (transacting y (again a v r)) x e = let z : _≡_ {A = ℕ} 0 1 = cc in absurd (omega arith)
+exchange-act (transacting y between) x e = impossible (cc)
+exchange-act (transacting y (first a r)) x e = impossible (cc)
+exchange-act (transacting y (copying a n)) x e = impossible (cc)
+exchange-act (transacting y (again a v r)) x e = impossible (cc)
 exchange-act (transacting y (committing c)) x e = let z : c ≡ x = cc in rw z
 
 yes-act : {p : ℕ} {m : Memory} {f : Phase} {x : Exchange} → SaysYes p m f x → actIn f ≡ exchangingAct x
@@ -137,12 +137,12 @@ yes-act {f = f} {x} y = exchange-act f x (y .exchange) ∙ rw (y .step)
 -- WHAT A READING HAS LOADED
 module _ (of : ℕ → Type 0) (status : List ℕ) (saves : List (List ℕ)) (acts : List Act) (q : ℕ) where
   loaded-in : (c : ℕ) (r : Reading) (w : Word) → loadedBy r ≡ some w → Knows of status saves acts q (readAct c r) → (c : ℕ) × WellFormed of acts c w
-  loaded-in c loading w e k = let z : _≡_ {A = ℕ} 0 1 = cc in absurd (omega arith)
+  loaded-in c loading w e k = impossible (cc)
   loaded-in c (looking v) w e k = let z : v ≡ w = cc in (c, rw z at k)
   loaded-in c (fetching v) w e k = let z : v ≡ w = cc in (c, rw z at (k .0))
 
   nothing-loaded : {P : Type 0} {w : Word} → _≡_ {A = Option Word} none (some w) → P
-  nothing-loaded e = let z : _≡_ {A = ℕ} 0 1 = cc in absurd (omega arith)
+  nothing-loaded e = impossible (cc)
 
   loaded-content : (f : Phase) (w : Word) → loadedBy (readingIn f) ≡ some w → Knows of status saves acts q (actIn f) → (c : ℕ) × WellFormed of acts c w
   loaded-content idle w e k = nothing-loaded e
@@ -176,7 +176,7 @@ module _ {words blocks : ℕ} {m : Memory} {ts : List Task} {p : ℕ} (R : Ready
   quiet-cells e ne h = sameCells (λ x y. ne x (sym e ∙ yes-act y)) h
 
   exchange-is : {x : Exchange} → ExchangeIn (taskAt ts p) x → x .step ≡ commit → exchangeIn (taskAt ts p .phase) ≡ some x
-  exchange-is (begins q l e k) c = let z : _≡_ {A = ℕ} 0 1 = cc in absurd (omega arith)
+  exchange-is (begins q l e k) c = impossible (cc)
   exchange-is (goes-on q e) c = rw e
   exchange-is (commits y e) c = rw e
 
@@ -188,12 +188,12 @@ module _ {words blocks : ℕ} {m : Memory} {ts : List Task} {p : ℕ} (R : Ready
       (λ n. sameCells (λ y Y. let z : x ≡ y = cc (e, yes-act Y) in says-not p m (x .step) n (rw z (Y .step)) (Y .status)) (current-kept (situation R e) (room R i) (outcome p m x) (says-not p m (x .step) n)))
 
   cells-after : {v v′ : Act} {n : Memory} → actIn (taskAt ts p .phase) ≡ v → Touches p m (taskAt ts p) v n v′ → Cells p m (taskAt ts p .phase) n
-  cells-after e (nothing s) = quiet-cells e (λ x k. let z : _≡_ {A = ℕ} 0 1 = cc in omega arith) (λ c. rw (s .is) refl)
-  cells-after e (loads c) = quiet-cells e (λ x k. let z : _≡_ {A = ℕ} 0 1 = cc in omega arith) (λ c. refl)
-  cells-after e (looks c k q) = quiet-cells e (λ x k. let z : _≡_ {A = ℕ} 0 1 = cc in omega arith) (λ c. refl)
+  cells-after e (nothing s) = quiet-cells e (λ x k. impossible (cc)) (λ c. rw (s .is) refl)
+  cells-after e (loads c) = quiet-cells e (λ x k. impossible (cc)) (λ c. refl)
+  cells-after e (looks c k q) = quiet-cells e (λ x k. impossible (cc)) (λ c. refl)
   cells-after e (exchanges x i) = started? x
       (λ s. let k : actOf x ≡ free = rw s in
-      quiet-cells (e ∙ k) (λ y q. let z : _≡_ {A = ℕ} 0 1 = cc in omega arith) (λ c. rw (start-memory p m x (x .step) s) (start-current (situation R (e ∙ k)) tt c)))
+      quiet-cells (e ∙ k) (λ y q. impossible (cc)) (λ c. rw (start-memory p m x (x .step) s) (start-current (situation R (e ∙ k)) tt c)))
       (λ k. exchange-cells x i (e ∙ k))
 
   readings-after : {n : Memory} → Frame p m n → (q : ℕ) → q ≢ p → (w : Word) → loadedBy (readingIn (taskAt ts q .phase)) ≡ some w → SameContent m n w
@@ -204,7 +204,7 @@ module _ {words blocks : ℕ} {m : Memory} {ts : List Task} {p : ℕ} (R : Ready
           let k : Knows (λ z. below z q) (m .status) (m .saves) (actsOf ts) q (actIn (taskAt ts q .phase)) = subst (λ (v : Act). Knows (λ z. below z q) (m .status) (m .saves) (actsOf ts) q v) (act-at ts q) (R .invariant .knows q) in
           let c = loaded-content (λ z. below z q) (m .status) (m .saves) (actsOf ts) q (taskAt ts q .phase) w e k in
           record { value = current-frame F (λ z b d. omega arith) (c .1); counts = own-frame F (λ z b d. omega arith) (c .1) }
-      go (no k) = let z : _≡_ {A = ℕ} 0 1 = cc (rw (R .runs .highest q (omega arith)) at e) in absurd (omega arith)
+      go (no k) = impossible (cc (rw (R .runs .highest q (omega arith)) at e))
 
   pub given-after : {v v′ : Act} {n : Memory} → actIn (taskAt ts p .phase) ≡ v → Touches p m (taskAt ts p) v n v′ → Given p m ts n
   given-after e t = record { cells = cells-after e t; readings = readings-after (frame-after e t) }

@@ -4,7 +4,6 @@ use mathlib.Core.Bool.{Bool, true, false}
 use mathlib.Core.Path.{_≡_, refl, _∙_, ap, subst}
 use mathlib.Core.List.{List}
 use mathlib.Core.Option.{Option}
-use native.Mathlib.Omega.{arith}
 use lib.Dec.{eqb}
 use borrow.Author.Tests.{eq-eqb, ne-eqb}
 use Rattle.model.specs.Lists.{replace}
@@ -15,7 +14,7 @@ use Rattle.model.specs.Job.{reading as readingPhase}
 use Rattle.model.specs.Machine.{taskAt}
 use Rattle.model.specs.Plain.{Arguments}
 use Rattle.model.specs.History.{History}
-use Rattle.model.proofs.Lists.{same?}
+use Rattle.model.proofs.Lists.{same?, impossible}
 use Rattle.model.proofs.Fit.Exchange.{SamePairs, same-refl}
 use Rattle.model.proofs.Whole.Act.{Act, free, actAt, actBy, actOf, actAfter, memoryAfter, started?}
 use Rattle.model.proofs.Whole.Act.{exchanging as exchangingAct}
@@ -55,7 +54,7 @@ module _ {u p words blocks : ℕ} {m : Memory} {ts : List Task} {h h′ : Histor
   module _ (x : Exchange) (i : ExchangeIn (taskAt ts p) x) (s : x .step ≡ start) (e : actIn (taskAt ts p .phase) ≡ actOf x) where
     others-keep : (q : ℕ) → Busy (actsOf ts) q → pairsWith p (x .entries) pairs q ≡ pairs q
     others-keep q b = same? q p
-        (λ k. let a : actIn (taskAt ts p .phase) ≡ free = e ∙ rw s in let z : _≡_ {A = ℕ} 0 1 = cc (b .act, ap (actAt (actsOf ts)) k, act-at ts p) in absurd (omega arith))
+        (λ k. let a : actIn (taskAt ts p .phase) ≡ free = e ∙ rw s in impossible (cc (b .act, ap (actAt (actsOf ts)) k, act-at ts p)))
         (λ ne. rw (ne-eqb q p ne))
 
     start-passes : Passes below (actsOf ts) p (knowledge values u h pairs) (knowledge values (suc u) h′ (pairsWith p (x .entries) pairs))
@@ -72,12 +71,12 @@ module _ {u p words blocks : ℕ} {m : Memory} {ts : List Task} {h h′ : Histor
   past-after e (looks c k q) = record { pairs = pairs; past = rw q (reading-past c T sees P k (situation R e)) }
   past-after e (exchanges x i) = started? x
       (λ s. record { pairs = pairsWith p (x .entries) pairs; past = start-past-after x i s e })
-      (λ k. record { pairs = pairs; past = exchange-past T sees P x (situation R e) (room R i) (λ s. let z : _≡_ {A = ℕ} 0 1 = cc (k, ap (λ (z : Step). actBy z x) s) in absurd (omega arith)) })
+      (λ k. record { pairs = pairs; past = exchange-past T sees P x (situation R e) (room R i) (λ s. impossible (cc (k, ap (λ (z : Step). actBy z x) s))) })
 
   -- a READ gives a value that its word had
   pub read-seen : (q w : ℕ) (s : Reading) (v : ℕ) → taskAt ts p .phase ≡ readingPhase q w s → readTick m w s ≡ gives v → Seen values (suc u) h′ p w v
   unfolding readTick
-  read-seen q w loading v e k = let z : _≡_ {A = ℕ} 0 1 = cc in absurd (omega arith)
+  read-seen q w loading v e k = impossible (cc)
   read-seen q w (looking c) v e k = reading-gives w T sees P (looking c) v (situation R (ap actIn e)) k
   read-seen q w (fetching c) v e k = reading-gives w T sees P (fetching c) v (situation R (ap actIn e)) k
 

@@ -19,6 +19,7 @@ use Rattle.model.specs.Machine.{Machine, taskAt, running}
 use Rattle.model.specs.Plain.{Contents, transactionOf, swapOf, result, plainly}
 use Rattle.model.specs.History.{Operation, History, operationAt, pairOf, untilCommit, observed}
 use Rattle.model.specs.Claim.{contentsOf}
+use Rattle.model.proofs.Lists.{impossible}
 use Rattle.model.proofs.Fit.Sheet.{SheetFit}
 use Rattle.model.proofs.Fit.Machine.{ExchangingFit}
 use Rattle.model.proofs.Fit.Exchange.{entryOf, SamePairs}
@@ -58,7 +59,7 @@ module _ {s : Sheet} (c : SheetFit s) (memories : ℕ → Memory) {m : Machine} 
   stays f = rw (before, after) (sym (contents-stay s (running-task c linked k now p r) f))
 
   no-exchange : {f : Phase} → taskAt (m .tasks) p .phase ≡ f → exchangeIn f ≡ none → (x : Exchange) → SaysYes p (m .memory) (taskAt (m .tasks) p .phase) x → ⊥
-  no-exchange e z x y = let w : _≡_ {A = ℕ} 0 1 = cc (y .exchange, ap exchangeIn e) in omega arith
+  no-exchange e z x y = impossible (cc (y .exchange, ap exchangeIn e))
 
   -- READ
   module _ (q w : ℕ) (i : Reading) (e : taskAt (m .tasks) p .phase ≡ readingPhase q w i) where
@@ -85,7 +86,7 @@ module _ {s : Sheet} (c : SheetFit s) (memories : ℕ → Memory) {m : Machine} 
         go (swapped z Y i X) =
             let w : z ≡ x = cc (Y .exchange, ap exchangeIn e) in
             swap-replays s (x .entries) (subst (λ (b : Exchange). Swapped (m .memory) (turnOf p (m .memory) (m .tasks) .memory) (b .entries)) w X) (fit .exchange .entries .below) (fit .exchange .entries .different)
-            (blocks-stay s (running-task c linked k now p r) (λ Z. let y : _≡_ {A = ℕ} 0 1 = cc (Z .phase) in omega arith))
+            (blocks-stay s (running-task c linked k now p r) (λ Z. impossible (cc (Z .phase))))
 
     not-yes : saysYes p (m .memory) (x .step) ≡ false → contents (m .now) ≡ contents (suc (m .now))
     not-yes y = stays (λ z Y. let w : z ≡ x = cc (Y .exchange, ap exchangeIn e) in says-not p (m .memory) (x .step) y (rw w at (Y .step)) (Y .status))
@@ -94,7 +95,7 @@ module _ {s : Sheet} (c : SheetFit s) (memories : ℕ → Memory) {m : Machine} 
     at-exchange : (o : Memory) → exchangeTick p (m .memory) x (x .step) ≡ ends o false → actIn (taskAt (m .tasks) p .phase) ≡ exchangingAct x
     unfolding exchangeTick
     at-exchange o z = rw e (started? x
-        (λ st. let y : exchangeTick p (m .memory) x start ≡ ends o false = subst (λ (b : Step). exchangeTick p (m .memory) x b ≡ ends o false) st z in let w : _≡_ {A = ℕ} 0 1 = cc in absurd (omega arith))
+        (λ st. let y : exchangeTick p (m .memory) x start ≡ ends o false = subst (λ (b : Step). exchangeTick p (m .memory) x b ≡ ends o false) st z in impossible (cc))
         (λ w. w))
 
     -- a hit that is known after the tick was there before it
@@ -106,7 +107,7 @@ module _ {s : Sheet} (c : SheetFit s) (memories : ℕ → Memory) {m : Machine} 
         record {
           by = b .by;
           other = b .other;
-          began = sym (t .else (b .by) (λ z. let y : _≡_ {A = ℕ} 0 1 = cc (b .began, t .none-begun inside, ap (operationAt (observed m (running p) h)) z) in omega arith) (λ i z. omega (arith, b .after))) ∙ b .began;
+          began = sym (t .else (b .by) (λ z. impossible (cc (b .began, t .none-begun inside, ap (operationAt (observed m (running p) h)) z))) (λ i z. omega (arith, b .after))) ∙ b .began;
           higher = b .higher;
           after = rw (← same-latest) (b .after);
           pairs = b .pairs;

@@ -16,6 +16,7 @@ use Rattle.model.specs.Transaction.{bank, stays, takenBack, committed, t
 use Rattle.model.specs.Plain.{transactionOf}
 use Rattle.model.specs.History.{Operation, untilCommit, stepEvent, committingEvent, transactionEvent}
 use Rattle.model.specs.History.{committed as committedOperation, commitBy as commitEventBy}
+use Rattle.model.proofs.Lists.{impossible}
 use Rattle.model.proofs.Fit.Transaction.{TransactionFit}
 use Rattle.model.proofs.Whole.Outcome.{outcome}
 use Rattle.model.proofs.Order.Exchange.{saidYes, saysYes, says-not}
@@ -96,7 +97,7 @@ module _ {words blocks p : ℕ} {m : Memory} {t : Task} {x : Transaction} {e : E
       record {
         facts = record {
           arguments = E .arguments ∙ T .arguments;
-          pass = λ f. rw (E .answers) (inner-step (committing y) tt (pass-apart A x (T .pass (sym ey ∙ f) .past) (committing e) fit (λ w l. let z : _≡_ {A = ℕ} 0 1 = cc in absurd (omega arith)) (T .pass (sym ey ∙ f))));
+          pass = λ f. rw (E .answers) (inner-step (committing y) tt (pass-apart A x (T .pass (sym ey ∙ f) .past) (committing e) fit (λ w l. impossible (cc)) (T .pass (sym ey ∙ f))));
         };
         effect = quiet (not-now ny) (λ b. h (bank b)) (rw (phase, ey));
         stores = λ i ne. rw st;

@@ -17,7 +17,7 @@ use Rattle.model.specs.Transaction.{bank, versionOf, storeOf, blockOf, r
 use Rattle.model.specs.Plain.{transactionOf, computes, passBy}
 use Rattle.model.specs.Plain.{Pass as Plain}
 use Rattle.model.specs.History.{Operation, Event, nothing, begins, amends, answering, untilCommit, commitEvent, commandEvent, checkEvent, againEvent, transactionEvent}
-use Rattle.model.proofs.Lists.{replace-other}
+use Rattle.model.proofs.Lists.{replace-other, impossible}
 use Rattle.model.proofs.Whole.Words.{current-own, current-other}
 use Rattle.model.proofs.Fit.Memory.{MemoryFit}
 use Rattle.model.proofs.Fit.Transaction.{touched?, AgainFit, TransactionFit}
@@ -171,8 +171,8 @@ module _ {words blocks : ℕ} {m : Memory} {t : Task} {x : Transaction} {s : Inn
   command-turned : (p now : ℕ) (l : List Command) → innerCommitted s ≡ false → t .commands ≡ l → PutRoom x (t .commands) → Turned blocks m t (commandTick m t x l) (operationAfter p (commandEvent now x l) o)
   unfolding commandTick commandEvent passBy untilCommit
   command-turned p now [] y e room = nothing-turned y
-  command-turned p now (LOAD r v ∷ l) y e room = computed-turned (LOAD r v) (loaded (t .registers) r v) l e (λ b w. let z : _≡_ {A = ℕ} 0 1 = cc (w .commands) in omega arith) refl (λ bs q h. rw h)
-  command-turned p now (ADD r k ∷ l) y e room = computed-turned (ADD r k) (added (t .registers) r k) l e (λ b w. let z : _≡_ {A = ℕ} 0 1 = cc (w .commands) in omega arith) refl (λ bs q h. rw h)
+  command-turned p now (LOAD r v ∷ l) y e room = computed-turned (LOAD r v) (loaded (t .registers) r v) l e (λ b w. impossible (cc (w .commands))) refl (λ bs q h. rw h)
+  command-turned p now (ADD r k ∷ l) y e room = computed-turned (ADD r k) (added (t .registers) r k) l e (λ b w. impossible (cc (w .commands))) refl (λ bs q h. rw h)
   command-turned p now (access a ∷ l) y e room = access-turned a e room (touchedOf x (blockOf a)) refl
   command-turned p now (COMMIT ∷ l) y e room = commit-turned p now (nothing? (x .blocks)) (spent? (x .blocks))
   command-turned p now (READ r w ∷ l) y e room = nothing-turned y

@@ -10,7 +10,7 @@ use borrow.Author.Tests.{not-true}
 use Rattle.model.specs.Lists.{at, replace}
 use Rattle.model.specs.Word.{fresh, Memory, cellOf, statusOf, saved, setCell, setStatus, setSave, own}
 use Rattle.model.specs.Exchange.{Entry, Step, test, load, look, fetch, fail, mark, install, commit, save, Exchange, changing, installed, to, loaded, noted, onward}
-use Rattle.model.proofs.Lists.{replace-same, replace-other, same?}
+use Rattle.model.proofs.Lists.{replace-same, replace-other, same?, impossible}
 use Rattle.model.proofs.Whole.Act.{Act, exchanging, working, stageOf, undecided, uncleaned, here}
 use Rattle.model.proofs.Whole.Invariant.{WellFormed, held, Anyone, Loaded, Found, AtStep, InExchange, Situation, Room}
 use Rattle.model.proofs.Whole.Words.{current-own, current-other, changes, unchanging}
@@ -19,7 +19,7 @@ use Rattle.model.proofs.Whole.Early.{follows-to, follows-onward, noted-
 
 module _ {below : ℕ → ℕ → Type 0} {m : Memory} {acts : List Act} {p : ℕ} {x : Exchange} (S : Situation below m acts p (exchanging x)) where
   pub test-done-moved : x .step ≡ test → (x .i ≡ length (x .entries)) ⊎ (statusOf m p ≡ 1) → Moved below m m acts p (exchanging (to x commit))
-  test-done-moved s h = early-quiet S (to x commit) (follows-to x commit) refl (rw s) refl (λ w. let z : _≡_ {A = ℕ} 0 1 = cc in absurd (omega arith)) (go h)
+  test-done-moved s h = early-quiet S (to x commit) (follows-to x commit) refl (rw s) refl (λ w. impossible (cc)) (go h)
     where
       go : (x .i ≡ length (x .entries)) ⊎ (statusOf m p ≡ 1) → (x .i ≡ length (x .entries)) ⊎ (statusOf m p ≢ 0)
       go (inl e) = inl e
@@ -68,7 +68,7 @@ module _ {below : ℕ → ℕ → Type 0} {m : Memory} {acts : List Act} {p : �
   pub fail-moved : x .step ≡ fail → Moved below m (setStatus m p 1) acts p (exchanging (to x test))
   fail-moved s =
       early-moved S (to x test) (follows-to x test) refl (rw s) refl refl (frame-status p m 1) (λ e h. refl)
-      (rw (replace-same 0 (m .status) p 1 (rw (S .sizes) (S .task))) (omega arith)) (λ w. let z : _≡_ {A = ℕ} 0 1 = cc in absurd (omega arith)) tt
+      (rw (replace-same 0 (m .status) p 1 (rw (S .sizes) (S .task))) (omega arith)) (λ w. impossible (cc)) tt
 
   pub mark-moved : x .step ≡ mark → Moved below m (setStatus m (here x .init .task) 1) acts p (exchanging (to x install))
   mark-moved s =
@@ -141,7 +141,7 @@ module _ {below : ℕ → ℕ → Type 0} {m : Memory} {acts : List Act} {p : �
   onward-content s l0 c = keep-content S (exchanging (onward x s)) (λ e l h d i. held-on S (onward x s) (follows-onward x s) e (from-zero l0 e) (omega arith) d) (S .invariant .contents c)
 
   pub miss-moved : x .step ≡ install → Moved below m m acts p (exchanging (onward x fail))
-  miss-moved e = record { frame = frame-none p m; contents = onward-content fail refl; knows = installed-knows fail e refl (λ w. let z : _≡_ {A = ℕ} 0 1 = cc in omega arith) tt }
+  miss-moved e = record { frame = frame-none p m; contents = onward-content fail refl; knows = installed-knows fail e refl (λ w. impossible (cc)) tt }
 
   pub install-moved : Room m p (x .entries) → x .step ≡ install → Moved below m (setCell m (here x .cell) (installed p (here x) (x .i))) acts p (exchanging (onward x test))
   install-moved R e =
@@ -154,5 +154,5 @@ module _ {below : ℕ → ℕ → Type 0} {m : Memory} {acts : List Act} {p : �
             rw (k, replace-same (fresh 0) (m .cells) (here x .cell) w (R .cells (x .i) l))
             (held tt (held-on S (onward x test) (follows-onward x test) (x .i) (omega arith) (omega arith) refl)))
             (λ ne. rw (replace-other (fresh 0) (m .cells) (here x .cell) c w ne) (onward-content test refl c));
-        knows = installed-knows test e refl (λ w. let z : _≡_ {A = ℕ} 0 1 = cc in omega arith) tt;
+        knows = installed-knows test e refl (λ w. impossible (cc)) tt;
       }
