@@ -14,7 +14,7 @@
 --             2. that one changes exactly its entries' cells, from old to new: `commit-all`, `-installed`, `-old`, `-new`, `-others`
 --   Grounded  3. what a reading gives was the current value at its Load: `reading-gives`; N is kept: `exchange-past`, `start-past`,
 --             `reading-past`, `free-past`; a no has its grounds: `no-has-grounds`
---   Rates     a reading ends in its 2nd or 3rd tick, an exchange of k entries by its (9k + 4)th: `reading-rate`, `exchange-rate`, `exchange-ends`
+--   Rates     a reading ends in its 2nd or 3rd tick, an exchange of k entries by its (9k + 4)th: `reading-rate`, `reading-ends`, `exchange-rate`, `exchange-ends`
 -- N (Ground) asks a History for what was seen and hit and how that passes a tick (Passes, SeesNow); it does not say how one is kept.
 --
 -- THE MACHINE: Run/Acts walks over all statements, by act before and after, and Run/Cells draws the conclusions, also what the transaction layer asks.

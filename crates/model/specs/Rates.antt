@@ -4,10 +4,9 @@ use mathlib.Core.Bool.{Bool, true, false, _&&_}
 use mathlib.Core.Path.{_≡_}
 use mathlib.Core.Logic.{_⊎_}
 use mathlib.Core.List.{List}
-use mathlib.Core.Option.{some}
+use mathlib.Core.Option.{none, some}
 use lib.Dec.{eqb, leb}
 use lib.ListN.{length}
-use Rattle.model.specs.Lists.{at}
 use Rattle.model.specs.Sheet.{sheetOf}
 use Rattle.model.specs.Word.{Memory}
 use Rattle.model.specs.Exchange.{Exchange, start, ends, exchangeTick}
@@ -63,14 +62,20 @@ pub record Ends (m : Machine) (p u : ℕ) : Type 0 where
   pub yes? : Bool
   pub ends : exchangeTick p (inTick m u .memory) (does .exchange) (does .exchange .step) ≡ ends memory yes?
 
--- THE RATES of a run of a sheet with a limit
-pub record Rates (sheet : List ℕ) (limit : ℕ) : Type 0 where
+-- THE RATES of a run with a limit. One that the limit cuts short has done fewer, so that so many ticks of its own are always enough.
+pub record RunRates (limit : ℕ) (m : Machine) : Type 0 where
+  -- the ticks that a task has used, as its T line says, are its own from tick 0 on
+  pub used : (p : ℕ) → taskAt (run limit m .tasks) p .ticks ≡ ownBefore (runningIn m) p 0 (run limit m .now)
   -- a READ that ends takes 2 or 3 ticks of its own
-  pub read : (a w l : ℕ) (o : Operation) → operationAt (historyOf limit (startMachine (sheetOf sheet))) a ≡ some o → o .arguments ≡ readOf w → o .last ≡ some l
-      → (ownTicks (startMachine (sheetOf sheet)) (o .task) a l ≡ 2) ⊎ (ownTicks (startMachine (sheetOf sheet)) (o .task) a l ≡ 3)
+  pub read : (a w l : ℕ) (o : Operation) → operationAt (historyOf limit m) a ≡ some o → o .arguments ≡ readOf w → o .last ≡ some l → (ownTicks m (o .task) a l ≡ 2) ⊎ (ownTicks m (o .task) a l ≡ 3)
+  pub readCutShort : (a w : ℕ) (o : Operation) → operationAt (historyOf limit m) a ≡ some o → o .arguments ≡ readOf w → o .last ≡ none → ownBefore (runningIn m) (o .task) a (run limit m .now) < 3
   -- a SWAP of k words that ends takes at most 9k + 4
-  pub swap : (a l : ℕ) (ps : List Pair) (o : Operation) → operationAt (historyOf limit (startMachine (sheetOf sheet))) a ≡ some o → o .arguments ≡ swapOf ps → o .last ≡ some l
-      → ownTicks (startMachine (sheetOf sheet)) (o .task) a l ≤ 9 * length ps + 4
-  -- and so does the exchange of a COMMIT, from its Start to the first tick after that in which task p ends one
-  pub commit : (p a l k : ℕ) → l < limit → Starts (startMachine (sheetOf sheet)) p a k → a ≤ l → Ends (startMachine (sheetOf sheet)) p l → ((u : ℕ) → a ≤ u → u < l → Ends (startMachine (sheetOf sheet)) p u → ⊥)
-      → ownTicks (startMachine (sheetOf sheet)) p a l ≤ 9 * k + 4
+  pub swap : (a l : ℕ) (ps : List Pair) (o : Operation) → operationAt (historyOf limit m) a ≡ some o → o .arguments ≡ swapOf ps → o .last ≡ some l → ownTicks m (o .task) a l ≤ 9 * length ps + 4
+  pub swapCutShort : (a : ℕ) (ps : List Pair) (o : Operation) → operationAt (historyOf limit m) a ≡ some o → o .arguments ≡ swapOf ps → o .last ≡ none → ownBefore (runningIn m) (o .task) a (run limit m .now) < 9 * length ps + 4
+  -- and so does the exchange of a COMMIT, from its Start to the first tick from there on in which its task ends one
+  pub commit : (p a l k : ℕ) → l < limit → Starts m p a k → a ≤ l → Ends m p l → ((u : ℕ) → a ≤ u → u < l → Ends m p u → ⊥) → ownTicks m p a l ≤ 9 * k + 4
+  pub commitCutShort : (p a n k : ℕ) → n ≤ limit → Starts m p a k → a < n → ((u : ℕ) → a ≤ u → u < n → Ends m p u → ⊥) → ownBefore (runningIn m) p a n < 9 * k + 4
+
+-- of a sheet's run
+abbrev pub Rates : List ℕ → ℕ → Type 0
+Rates sheet limit = RunRates limit (startMachine (sheetOf sheet))

@@ -24,7 +24,7 @@ use Rattle.model.proofs.Order.Noted.{latestOf, number-below, noted-noth
 use Rattle.model.proofs.Order.Linked.{OpenBy, Inside, givenTo, Linked, Next, next}
 
 -- a task whose release has come stands where it stood: outside
-given-arrived : {t t′ : Task} → TaskArrived t t′ → given (t′ .phase) ≡ given (t .phase)
+pub given-arrived : {t t′ : Task} → TaskArrived t t′ → given (t′ .phase) ≡ given (t .phase)
 given-arrived (waits e) = rw e refl
 given-arrived (starts i e) = rw (e, i) refl
 

@@ -1,10 +1,9 @@
 -- The exchange of a COMMIT: from its Start on it is under way, in time, until the tick that ends it.
 use Prim.Native.Nat.{ℕ, zero, suc, _+_, _*_, _<_, _≤_}
-use mathlib.Core.Bool.{Bool, false}
-use mathlib.Core.Path.{_≡_, refl, sym, _∙_, ap, subst}
+use mathlib.Core.Bool.{Bool}
+use mathlib.Core.Path.{_≡_, refl, sym, _∙_}
 use mathlib.Core.Logic.{_≢_, _⊎_, inl, inr}
 use mathlib.Core.List.{List}
-use native.Mathlib.Decide.{decLt}
 use native.Mathlib.Omega.{arith}
 use lib.ListN.{length}
 use Rattle.model.specs.Sheet.{Sheet}
@@ -16,13 +15,13 @@ use Rattle.model.specs.Machine.{Machine, noTask, taskAt, Running, nobody
 use Rattle.model.specs.Rates.{ownBefore}
 use Rattle.model.proofs.Lists.{same?, replace-same, replace-other}
 use Rattle.model.proofs.Fit.Sheet.{SheetFit}
-use Rattle.model.proofs.Whole.Rates.{Ran, before-start, own-tick, others, exchange-rate}
+use Rattle.model.proofs.Whole.Rates.{Ran, before-start, own-tick, others, exchange-rate, exchange-ends}
 use Rattle.model.proofs.Order.Steps.{stateAfter, arrivedAt, state-next}
-use Rattle.model.proofs.Order.Arrive.{TaskArrived, waits, starts, Arrived, Runs, runs, none-runs}
+use Rattle.model.proofs.Order.Arrive.{TaskArrived, waits, starts, Arrived, runs, none-runs}
 use Rattle.model.proofs.Order.Ticks.{arrived-at}
-use Rattle.model.proofs.Rates.Own.{own-none, own-runs, own-waits}
+use Rattle.model.proofs.Rates.Own.{other-task, own-none, own-runs, own-waits}
 use Rattle.model.proofs.Rates.Status.{status-stays}
-use Rattle.model.proofs.Rates.Run.{other-task, who, below-status}
+use Rattle.model.proofs.Rates.Run.{who, below-status}
 
 -- task p is in the exchange x of a COMMIT
 pub record In (m : Machine) (p : ℕ) (x : Exchange) : Type 0 where
@@ -135,6 +134,14 @@ module _ {s : Sheet} (c : SheetFit s) (p a : ℕ) {x : Exchange} (runs-first : w
           next (inl k) = inl k
           next (inr e) = inr (record { tick = n; after = omega arith; before = omega arith; ending = e })
       go (inr k) = inr (record { tick = k .tick; after = k .after; before = omega (arith, k .before); ending = k .ending })
+
+  -- while no tick has ended it
+  pub commit-fewer : (n : ℕ) → a < n → ((u : ℕ) → a ≤ u → u < n → Ending p (arrivedAt (startMachine s) u) → ⊥) → own n < 9 * length (x .entries) + 4
+  commit-fewer n l none = go (underway n l)
+    where
+      go : Underway p (x .entries) (own n) (stateAfter (startMachine s) n) ⊎ Ended n → own n < 9 * length (x .entries) + 4
+      go (inl w) = exchange-ends (w .ran)
+      go (inr d) = absurd (none (d .tick) (d .after) (d .before) (d .ending))
 
   -- it does not end with its Start
   start-only : {A : Type 0} → Ending p (arrivedAt (startMachine s) a) → A

@@ -1,7 +1,7 @@
 -- Every operation of a history that has ended took no more ticks of its own than it may, and a tick keeps that if the operation it ends did.
 use Prim.Native.Nat.{ℕ, suc}
 use mathlib.Core.Bool.{Bool}
-use mathlib.Core.Path.{_≡_, refl, sym, _∙_, subst}
+use mathlib.Core.Path.{_≡_, refl, sym, _∙_}
 use mathlib.Core.Option.{Option, none, some}
 use native.Mathlib.Omega.{arith}
 use lib.ListN.{length}
@@ -12,7 +12,7 @@ use Rattle.model.specs.Rates.{ownBefore}
 use Rattle.model.proofs.Lists.{same?}
 use Rattle.model.proofs.Order.Advance.{Changed}
 use Rattle.model.proofs.Order.Moves.{Settling, Moves, outside, begun, goesOn, answers, readEnds, swapCommits, swapEnds, swapCommitsAndEnds, swapRejected, transactionCommits, transactionEnds, transactionCommitsAndEnds, nothingTouched, endsSpent}
-use Rattle.model.proofs.Order.Noted.{latestOf, newOperation, noted-nothing, noted-begins, noted-amends}
+use Rattle.model.proofs.Order.Noted.{latestOf, noted-nothing, noted-begins, noted-amends}
 use Rattle.model.proofs.Order.Linked.{Open, OpenBy}
 use Rattle.model.proofs.Rates.Timely.{Rate, RateBy}
 
@@ -21,10 +21,10 @@ pub record InTime (who : ℕ → Running) (h : History) : Type 0 where
   pub ended : (a l : ℕ) (o : Operation) → operationAt h a ≡ some o → o .last ≡ some l → Rate (o .arguments) (ownBefore who (o .task) a (suc l))
 
 -- none is not some
-not-some : {A B : Type 0} {a : A} → none ≡ some a → B
+pub not-some : {A B : Type 0} {a : A} → none ≡ some a → B
 not-some e = let z : _≡_ {A = ℕ} 0 1 = cc in absurd (omega arith)
 
-the-same : {A : Type 0} {a b : A} → some a ≡ some b → a ≡ b
+pub the-same : {A : Type 0} {a b : A} → some a ≡ some b → a ≡ b
 the-same e = cc
 
 module _ (who : ℕ → Running) (u p : ℕ) (h : History) (size : length (h .began) ≡ u) (k : InTime who h) where

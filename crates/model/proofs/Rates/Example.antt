@@ -1,9 +1,9 @@
 -- The rates by computation: P7's READ takes 3 ticks and 2, an exchange of one word takes 13, all that it may, and P9's COMMIT has an exchange of 9.
 use Prim.Native.Nat.{ℕ, _*_, _+_}
-use mathlib.Core.Bool.{Bool, true, false}
+use mathlib.Core.Bool.{true, false}
 use mathlib.Core.Path.{_≡_, refl}
 use mathlib.Core.List.{List, [], _∷_, _++_}
-use mathlib.Core.Option.{none, some}
+use mathlib.Core.Option.{some}
 use lib.ListN.{replicate}
 use Rattle.model.specs.Lists.{at}
 use Rattle.model.specs.Sheet.{sheetOf}
@@ -11,12 +11,12 @@ use Rattle.model.specs.Exchange.{exchangeTick}
 use Rattle.model.specs.Machine.{run, startMachine}
 use Rattle.model.specs.Plain.{readOf, swapOf}
 use Rattle.model.specs.History.{Operation, operationAt, historyOf}
-use Rattle.model.specs.Rates.{inTick, ownBefore, ownTicks, Committing, Starts, Ends}
+use Rattle.model.specs.Rates.{inTick, ownBefore, ownTicks, Starts, Ends}
 use Rattle.model.proofs.Bytes.{word, block, task, release, end, load, add, read, pair, swap, begin, get, put, commit}
 
--- operation a of a run of the sheet is o, and ended in tick l, after n ticks of its own
+-- operation a of the sheet's run is o, and ended in tick l, after n ticks of its own
 record Took (sheet : List ℕ) (a l n : ℕ) (o : Operation) : Type 0 where
-  is : operationAt (historyOf 65535 (startMachine (sheetOf sheet))) a ≡ some o
+  is : operationAt (historyOf 100 (startMachine (sheetOf sheet))) a ≡ some o
   last : o .last ≡ some l
   ticks : ownTicks (startMachine (sheetOf sheet)) (o .task) a l ≡ n
 

@@ -2,11 +2,11 @@
 use Prim.Native.Nat.{ℕ, zero, suc, _+_, _≤_}
 use mathlib.Core.Bool.{Bool, true, false, _&&_, true≢false}
 use mathlib.Core.Path.{_≡_, refl, sym, _∙_, ap}
-use mathlib.Core.Logic.{_⊎_, inl, inr}
+use mathlib.Core.Logic.{_≢_, _⊎_, inl, inr}
 use mathlib.Core.List.{List, [], _∷_}
 use native.Mathlib.Omega.{arith}
 use lib.Dec.{leb}
-use borrow.Author.Tests.{le-leb, lt-leb, eq-eqb}
+use borrow.Author.Tests.{le-leb, lt-leb, eq-eqb, ne-eqb}
 use Rattle.model.specs.Command.{Release}
 use Rattle.model.specs.Machine.{Machine, Running, nobody, running, runningOf, arrive, moveAny, move, tick, over, noneToCome, nobody?, runBy, run}
 use Rattle.model.specs.Rates.{inTick, isTask, oneIf, ownBefore}
@@ -15,6 +15,9 @@ use Rattle.model.proofs.Fit.Elements.{and-left, and-right}
 use Rattle.model.proofs.Order.Steps.{stateAfter, arrivedAt}
 
 -- COUNTING
+pub other-task : {p q : ℕ} (r : Running) → q ≢ p → r ≡ running p → isTask q r ≡ false
+other-task {p} {q} r ne e = rw e (ne-eqb p q (λ z. ne (sym z)))
+
 module _ (who : ℕ → Running) (p a : ℕ) where
   pub own-none : (n : ℕ) → n ≤ a → ownBefore who p a n ≡ 0
   unfolding ownBefore

@@ -1,39 +1,41 @@
 -- Every tick of a run keeps its tasks in time, and every operation that has ended took no more ticks of its own than it may.
 use Prim.Native.Nat.{ℕ, zero, suc, _<_}
 use mathlib.Core.Bool.{false}
-use mathlib.Core.Path.{_≡_, refl, sym, _∙_, ap, subst}
-use mathlib.Core.Logic.{_≢_, _⊎_, inl, inr}
+use mathlib.Core.Path.{_≡_, refl, sym, _∙_, ap, subst, fun-ext}
+use mathlib.Core.Logic.{_⊎_, inl, inr}
+use mathlib.Core.List.{List}
 use mathlib.Core.Option.{Option, none, some}
 use native.Mathlib.Omega.{arith}
 use lib.ListN.{length}
-use borrow.Author.Tests.{ne-eqb}
-use Rattle.model.specs.Lists.{at}
+use Rattle.model.specs.Lists.{at, replace}
 use Rattle.model.specs.Sheet.{Sheet}
 use Rattle.model.specs.Job.{Phase, idle, plain, reading, exchanging, transacting, Task, Turn, ticked}
 use Rattle.model.specs.Machine.{Machine, noTask, taskAt, Running, nobody, running, runningOf, move, statement, startMachine}
 use Rattle.model.specs.Plain.{Arguments}
 use Rattle.model.specs.History.{History, noHistory, observed}
-use Rattle.model.specs.Rates.{isTask, ownBefore}
+use Rattle.model.specs.Rates.{ownBefore}
 use Rattle.model.proofs.Lists.{same?, replace-same, replace-other}
 use Rattle.model.proofs.Fit.Sheet.{SheetFit}
 use Rattle.model.proofs.Order.Steps.{stateAfter, arrivedAt, historyAfter, state-next, history-next}
 use Rattle.model.proofs.Order.Arrive.{TaskArrived, waits, starts, Arrived, Runs, runs, none-runs}
-use Rattle.model.proofs.Order.Moves.{given}
+use Rattle.model.proofs.Order.Moves.{given, outside}
 use Rattle.model.proofs.Order.Statement.{moves}
 use Rattle.model.proofs.Order.Noted.{latestOf}
-use Rattle.model.proofs.Order.Linked.{Inside}
-use Rattle.model.proofs.Order.Ticks.{MachineLinked, next-of, arrived-at, arrived-now, arrived-linked}
+use Rattle.model.proofs.Order.Linked.{Inside, givenTo}
+use Rattle.model.proofs.Order.Ticks.{given-arrived, MachineLinked, next-of, arrived-at, arrived-now, arrived-linked}
 use Rattle.model.proofs.Order.Start.{started}
 use Rattle.model.proofs.Run.Always.{holds, holds-at}
-use Rattle.model.proofs.Rates.Own.{own-none, own-runs, own-waits}
+use Rattle.model.proofs.Rates.Own.{other-task, own-none, own-runs, own-waits}
 use Rattle.model.proofs.Rates.Status.{status-stays}
 use Rattle.model.proofs.Rates.Timely.{Timely, RateBy, timely-inside, timely-others, timely-next, timely-first}
 use Rattle.model.proofs.Rates.Ended.{InTime, nothing-in-time, in-time}
+use Rattle.model.proofs.Rates.Open.{Unended, unended}
 
 -- after n ticks, `who` having done their statements
 pub record Rated (who : ℕ → Running) (n : ℕ) (m : Machine) (h : History) : Type 0 where
   pub timely : (p : ℕ) → Timely (ownBefore who p (latestOf h p) n) p (m .memory) (taskAt (m .tasks) p .phase)
   pub ended : InTime who h
+  pub unended : Unended h (givenTo (m .tasks))
 
 inside? : {P : Type 0} (f : Phase) → (Inside (given f) → P) → ((Inside (given f) → ⊥) → P) → P
 inside? idle f g = g (λ i. i)
@@ -46,17 +48,22 @@ rate-outside : (g : Option Arguments) (t : ℕ) → (Inside g → ⊥) → RateB
 rate-outside none t n = tt
 rate-outside (some a) t n = absurd (n tt)
 
-pub other-task : {p q : ℕ} (r : Running) → q ≢ p → r ≡ running p → isTask q r ≡ false
-other-task {p} {q} r ne e = rw e (ne-eqb p q (λ z. ne (sym z)))
-
 none-ended : (who : ℕ → Running) → InTime who noHistory
 unfolding at
 none-ended who = record { ended = λ a l o is e. let z : _≡_ {A = ℕ} 0 1 = cc in absurd (omega arith) }
 
+none-open : (inside : ℕ → Option Arguments) → Unended noHistory inside
+unfolding at
+none-open inside = record { stands = λ a o is e. let z : _≡_ {A = ℕ} 0 1 = cc in absurd (omega arith) }
+
 module _ {who : ℕ → Running} {h : History} where
   -- RELEASES ARRIVE
   rated-arrived : {n : ℕ} {m m′ : Machine} → Arrived m m′ → Rated who n m h → Rated who n m′ h
-  rated-arrived {n} {m} {m′} a k = record { timely = λ p. rw (a .memory) (go p (a .task p)); ended = k .ended }
+  rated-arrived {n} {m} {m′} a k = record {
+    timely = λ p. rw (a .memory) (go p (a .task p));
+    ended = k .ended;
+    unended = subst (λ (g : ℕ → Option Arguments). Unended h g) (sym (fun-ext (λ p. given-arrived (a .task p)))) (k .unended);
+  }
     where
       go : (p : ℕ) → TaskArrived (taskAt (m .tasks) p) (taskAt (m′ .tasks) p) → Timely (ownBefore who p (latestOf h p) n) p (m .memory) (taskAt (m′ .tasks) p .phase)
       go p (waits e) = rw e (k .timely p)
@@ -66,7 +73,16 @@ module _ {who : ℕ → Running} {h : History} where
     -- AN IDLE TICK
     rated-idle : runningOf (m .tasks) ≡ nobody → Rated who (suc (m .now)) (move m nobody) (observed m nobody h)
     unfolding move observed
-    rated-idle e = record { timely = λ p. rw (none-runs (m .tasks) e p) tt; ended = nothing-in-time who (m .now) 0 h (linked .linked .size) (k .ended) }
+    rated-idle e = record {
+      timely = λ p. rw (none-runs (m .tasks) e p) tt;
+      ended = nothing-in-time who (m .now) 0 h (linked .linked .size) (k .ended);
+      unended =
+          unended (m .now) 0 h (linked .linked .size) (omega (arith, linked .linked .latest)) (givenTo (m .tasks)) (givenTo (m .tasks)) (λ q ne. refl) (k .unended)
+          (outside {b = false} {c = false}) tt none-inside none-inside;
+    }
+      where
+        none-inside : givenTo (m .tasks) 0 ≡ none
+        none-inside = rw (none-runs (m .tasks) e 0) refl
 
     -- TASK p RUNS
     module _ (p : ℕ) (r : Runs (m .tasks) p) (w : who (m .now) ≡ running p) (below : p < length (m .memory .status)) where
@@ -105,9 +121,19 @@ module _ {who : ℕ → Running} {h : History} where
       unfolding observed
       ended-runs = in-time who (m .now) p h (linked .linked .size) (k .ended) (moves (m .now) p (m .memory) task (task .phase) refl) (linked .linked .opened p) rate
 
+      abbrev next : List Task
+      next = replace (m .tasks) p (ticked (after .task))
+
+      open-runs : Unended (observed m (running p) h) (givenTo next)
+      unfolding observed
+      open-runs =
+          unended (m .now) p h (linked .linked .size) (omega (arith, linked .linked .latest, linked .size, r .below)) (givenTo (m .tasks)) (givenTo next)
+          (λ q ne. rw (replace-other noTask (m .tasks) p q (ticked (after .task)) ne) refl) (k .unended)
+          (moves (m .now) p (m .memory) task (task .phase) refl) (linked .linked .opened p) refl (rw (replace-same noTask (m .tasks) p (ticked (after .task)) (r .below)) refl)
+
       rated-runs : Rated who (suc (m .now)) (move m (running p)) (observed m (running p) h)
       unfolding move
-      rated-runs = record { timely = timely; ended = ended-runs }
+      rated-runs = record { timely = timely; ended = ended-runs; unended = open-runs }
         where
           timely : (q : ℕ) → Timely (ownBefore who q (latestOf (observed m (running p) h) q) (suc (m .now))) q (move m (running p) .memory) (taskAt (move m (running p) .tasks) q .phase)
           timely q = same? q p
@@ -146,5 +172,5 @@ module _ {s : Sheet} (c : SheetFit s) where
 
   pub rated : (t : ℕ) → Rated who t (stateAfter (startMachine s) t) (historyAfter (startMachine s) t)
   unfolding stateAfter historyAfter
-  rated zero = record { timely = λ p. rw (started c .idle p) tt; ended = none-ended who }
+  rated zero = record { timely = λ p. rw (started c .idle p) tt; ended = none-ended who; unended = none-open (givenTo (startMachine s .tasks)) }
   rated (suc t) = rated-next t (rated t)

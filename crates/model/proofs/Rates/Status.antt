@@ -7,13 +7,13 @@ use lib.Dec.{ltb}
 use lib.ListN.{length}
 use borrow.Author.Tests.{ltb-true, ltb-false}
 use Rattle.model.specs.Word.{Memory, statusOf, setStatus}
-use Rattle.model.specs.Exchange.{Exchange, Exchanged, exchangeTick}
-use Rattle.model.specs.Job.{Phase, Task}
+use Rattle.model.specs.Exchange.{Exchange, Exchanged}
+use Rattle.model.specs.Job.{Task}
 use Rattle.model.specs.Machine.{statement}
 use Rattle.model.proofs.Lists.{same?, test?, replace-same, replace-other, replace-past}
 use Rattle.model.proofs.Whole.Act.{Act, memoryAfter}
 use Rattle.model.proofs.Whole.Outcome.{Decides, commits, refuses, Cleans, renews, passes, gives-back, leaves, marks-after, Outcome, starts, tests-done, tests-on, loads, looks-own, looks-other, fetches, saves-differing, saves-to-mark, saves, fails, marks, installs, misses, decides, decides-last, cleans, cleans-last, cleans-to-mark, outcome}
-use Rattle.model.proofs.Run.Acts.{actIn, Touches, nothing, looks, exchanges, touches}
+use Rattle.model.proofs.Run.Acts.{Touches, nothing, looks, exchanges, touches}
 use Rattle.model.proofs.Run.Acts.{loads as loadsWord}
 
 module _ (p q : ℕ) (ne : q ≢ p) where

@@ -7,15 +7,14 @@ use mathlib.Core.List.{List, [], _∷_, map}
 use mathlib.Core.Option.{Option, none, some}
 use native.Mathlib.Omega.{arith}
 use lib.ListN.{length, length-map}
-use Rattle.model.specs.Lists.{replace}
 use Rattle.model.specs.Command.{Command, WORD, BLOCK, TASK, RELEASE, END, LOAD, ADD, READ, PAIR, SWAP, BEGIN, access, COMMIT}
-use Rattle.model.specs.Word.{Memory, statusOf, Reading, loading, Read, reads, gives, readTick}
-use Rattle.model.specs.Exchange.{Entry, Exchange, exchangeOf, start, Exchanged, goes, ends, exchangeTick}
+use Rattle.model.specs.Word.{Memory, statusOf, Reading, Read, reads, gives, readTick}
+use Rattle.model.specs.Exchange.{Entry, Exchange, Exchanged, goes, ends, exchangeTick}
 use Rattle.model.specs.Job.{Phase, idle, plain, reading, exchanging, transacting, Task, rest, doneBy}
-use Rattle.model.specs.Machine.{answer, readBy, swapBy, plainTick, statement}
-use Rattle.model.specs.Plain.{Pair, Arguments, readOf, swapOf, transactionOf}
+use Rattle.model.specs.Machine.{readBy, swapBy, plainTick, statement}
+use Rattle.model.specs.Plain.{Arguments, readOf, swapOf, transactionOf}
 use Rattle.model.specs.History.{pairOf, Event, untilCommit}
-use Rattle.model.proofs.Whole.Rates.{Reads, at-first, goes-on, reading-rate, Ran, before-start, own-tick, others, exchange-rate}
+use Rattle.model.proofs.Whole.Rates.{Reads, at-first, goes-on, reading-rate, reading-ends, Ran, before-start, own-tick, others, exchange-rate, exchange-ends}
 use Rattle.model.proofs.Order.Exchange.{pairsOf, Follows, follows}
 use Rattle.model.proofs.Order.Moves.{given, Settling, Moves, outside, begun, goesOn, answers, readEnds, swapCommits, swapEnds, swapCommitsAndEnds, swapRejected, transactionCommits, transactionEnds, transactionCommitsAndEnds, nothingTouched, endsSpent}
 use Rattle.model.proofs.Order.Statement.{moves}
@@ -26,6 +25,9 @@ pub record InExchange (t p : ℕ) (m : Memory) (x : Exchange) : Type 0 where
   pub entries : List Entry
   pub pairs : map pairOf entries ≡ pairsOf x
   pub ran : Ran p entries t m x
+
+not-none : {A : Type 0} {a : Arguments} → some a ≡ none → A
+not-none e = let z : _≡_ {A = ℕ} 0 1 = cc in absurd (omega arith)
 
 -- IN TIME after t ticks of its own
 abbrev pub Timely : ℕ → ℕ → Memory → Phase → Type 0
@@ -61,13 +63,23 @@ timely-others t p m n (reading r w s) k h = h
 timely-others t p m n (exchanging r x) k h = record { entries = h .entries; pairs = h .pairs; ran = others (h .ran) k }
 timely-others t p m n (transacting x s) k h = tt
 
+-- one that goes on with these arguments has done fewer ticks than it may
+abbrev pub Fewer : Arguments → ℕ → Type 0
+Fewer (readOf w) t = t < 3
+Fewer (swapOf ps) t = t < 9 * length ps + 4
+Fewer (transactionOf rs l) t = Unit {0}
+
+pub timely-fewer : (t p : ℕ) (m : Memory) (f : Phase) (a : Arguments) → given f ≡ some a → Timely t p m f → Fewer a t
+timely-fewer t p m idle a e h = not-none (sym e)
+timely-fewer t p m plain a e h = not-none (sym e)
+timely-fewer t p m (reading r w s) a e h = let z : readOf w ≡ a = cc in rw (← z) (reading-ends h)
+timely-fewer t p m (exchanging r x) a e h = let z : swapOf (pairsOf x) ≡ a = cc in rw (← z, ← h .pairs, length-map (h .entries) pairOf) (exchange-ends (h .ran))
+timely-fewer t p m (transacting x s) a e h = let z : transactionOf (x .kept) (untilCommit (x .commands)) ≡ a = cc in rw (← z) tt
+
 -- TASK p'S OWN STATEMENT: it is in time afterwards, and if its operation ends, that took no more than it may
 pub record TimelyNext (g : Option Arguments) (t p : ℕ) (m : Memory) (f : Phase) : Type 0 where
   pub inside : Timely t p m f
   pub ended : given f ≡ none → RateBy g t
-
-not-none : {A : Type 0} {a : Arguments} → some a ≡ none → A
-not-none e = let z : _≡_ {A = ℕ} 0 1 = cc in absurd (omega arith)
 
 done-timely : (l : List Command) (u : Task) (rs : List ℕ) (ps : List Entry) (cs : List ℕ) (t p : ℕ) (m : Memory) → Timely t p m (doneBy l u rs ps cs .phase)
 unfolding doneBy

@@ -67,7 +67,7 @@ holds-arrived f a k = record {
 
 -- TASK p RUNS
 module _ {s : Sheet} (c : SheetFit s) {values : ℕ → ℕ → ℕ} {m : Machine} {h : History} (linked : MachineLinked m h) (k : Holds s values (m .now) m h) (now : (a : ℕ) → values (m .now) a ≡ currentOf (m .memory) a) (p : ℕ) (r : Runs (m .tasks) p) where
-  declared-task : p < length (s .bodies)
+  pub declared-task : p < length (s .bodies)
   declared-task = declared c (tasks-of (k .fit)) p (r .unfinished)
 
   pub ready : Ready (length (s .words)) (length (s .blocks)) (m .memory) (m .tasks) p

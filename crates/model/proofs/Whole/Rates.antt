@@ -50,6 +50,15 @@ reading-rate {c} {t} {r} R m v e = go r (reading-at R) e
     go (looking w) h e = inl (ap suc h)
     go (fetching w) h e = inr (ap suc h)
 
+-- and one that goes on has done fewer than 3
+pub reading-ends : {c t : ℕ} {r : Reading} → Reads c t r → t < 3
+reading-ends {c} {t} {r} R = go r (reading-at R)
+  where
+    go : (r : Reading) → ReadingAt t r → t < 3
+    go loading h = omega arith
+    go (looking w) h = omega arith
+    go (fetching w) h = omega arith
+
 -- EXCHANGES
 -- task p's exchange of those entries has done t ticks of its own and not ended; what the others do keeps p's status if it is 1
 pub data Ran (p : ℕ) (es : List Entry) : ℕ → Memory → Exchange → Type 0 where
