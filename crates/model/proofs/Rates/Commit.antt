@@ -17,7 +17,8 @@ use Rattle.model.proofs.Lists.{same?, replace-same, replace-other}
 use Rattle.model.proofs.Fit.Sheet.{SheetFit}
 use Rattle.model.proofs.Whole.Rates.{Ran, before-start, own-tick, others, exchange-rate, exchange-ends}
 use Rattle.model.proofs.Order.Steps.{stateAfter, arrivedAt, state-next}
-use Rattle.model.proofs.Order.Arrive.{TaskArrived, waits, starts, Arrived, runs, none-runs}
+use Rattle.model.proofs.Fit.Running.{running-highest}
+use Rattle.model.proofs.Order.Arrive.{TaskArrived, waits, starts, Arrived, none-runs}
 use Rattle.model.proofs.Order.Ticks.{arrived-at}
 use Rattle.model.proofs.Rates.Own.{other-task, own-none, own-runs, own-waits}
 use Rattle.model.proofs.Rates.Status.{status-stays}
@@ -71,7 +72,7 @@ module _ {p : ℕ} {es : List Entry} {t : ℕ} where
       unfolding move statement transactionTick committed
       committed-goes {m′} {x′} e n = record {
         exchange = x′;
-        inside = record { transaction = i .transaction; phase = rw (replace-same noTask (m .tasks) p (ticked (statement p (m .memory) (taskAt (m .tasks) p) (taskAt (m .tasks) p .phase) .task)) (runs (m .tasks) p r .below), i .phase, e) refl };
+        inside = record { transaction = i .transaction; phase = rw (replace-same noTask (m .tasks) p (ticked (statement p (m .memory) (taskAt (m .tasks) p) (taskAt (m .tasks) p .phase) .task)) (running-highest r .below), i .phase, e) refl };
         ran = rw (i .phase, e) n;
       }
 
@@ -105,7 +106,7 @@ module _ {s : Sheet} (c : SheetFit s) (p a : ℕ) {x : Exchange} (runs-first : w
   started : Underway p (x .entries) (own (suc a)) (stateAfter (startMachine s) (suc a))
   started =
       let m = arrivedAt (startMachine s) a in
-      let k : Underway p (x .entries) 1 (move m (running p)) = committed-goes runs-first first (start-goes p (m .memory) x at-start) (own-tick (before-start (m .memory)) (below-status c a p (runs (m .tasks) p runs-first)) (start-goes p (m .memory) (exchangeOf (x .entries)) refl)) in
+      let k : Underway p (x .entries) 1 (move m (running p)) = committed-goes runs-first first (start-goes p (m .memory) x at-start) (own-tick (before-start (m .memory)) (below-status c a p (running-highest runs-first)) (start-goes p (m .memory) (exchangeOf (x .entries)) refl)) in
       rw (own-runs (who c) p a a (omega arith) runs-first, own-none (who c) p a a (omega arith), state-next (startMachine s) a, runs-first) k
 
   step : (n : ℕ) → a ≤ n → Underway p (x .entries) (own n) (stateAfter (startMachine s) n) → Underway p (x .entries) (own (suc n)) (stateAfter (startMachine s) (suc n)) ⊎ Ending p (arrivedAt (startMachine s) n)
@@ -120,7 +121,7 @@ module _ {s : Sheet} (c : SheetFit s) (p a : ℕ) {x : Exchange} (runs-first : w
       go : (r : Running) → who c n ≡ r → Underway p (x .entries) (own (suc n)) (move m r) ⊎ Ending p m
       go nobody e = not-idle (sym (none-runs (m .tasks) e p) ∙ now .inside .phase)
       go (running q) e = same? p q
-          (λ z. rw (← z, own-runs (who c) p a n l (rw (← z) at e)) (let r : who c n ≡ running p = rw (← z) at e in committing-next r (now .inside) (exchangeTick p (m .memory) (now .exchange) (now .exchange .step)) refl (λ m′ x′ f. own-tick (now .ran) (below-status c n p (runs (m .tasks) p r)) f)))
+          (λ z. rw (← z, own-runs (who c) p a n l (rw (← z) at e)) (let r : who c n ≡ running p = rw (← z) at e in committing-next r (now .inside) (exchangeTick p (m .memory) (now .exchange) (now .exchange .step)) refl (λ m′ x′ f. own-tick (now .ran) (below-status c n p (running-highest r)) f)))
           (λ ne. rw (own-waits (who c) p a n (other-task (who c n) ne e)) (inl (underway-others q ne now)))
 
   underway : (n : ℕ) → a < n → Underway p (x .entries) (own n) (stateAfter (startMachine s) n) ⊎ Ended n
@@ -154,5 +155,5 @@ module _ {s : Sheet} (c : SheetFit s) (p a : ℕ) {x : Exchange} (runs-first : w
       go : Underway p (x .entries) (own l) (stateAfter (startMachine s) l) ⊎ Ended l → own (suc l) ≤ 9 * length (x .entries) + 4
       go (inl w) =
           let now : Underway p (x .entries) (own l) (arrivedAt (startMachine s) l) = underway-arrived (arrived-at (startMachine s) l) w in
-          rw (own-runs (who c) p a l h (k .runs)) (exchange-rate (now .ran) (below-status c l p (runs (arrivedAt (startMachine s) l .tasks) p (k .runs))) (rw (one-exchange (k .inside) (now .inside)) at (k .ends)))
+          rw (own-runs (who c) p a l h (k .runs)) (exchange-rate (now .ran) (below-status c l p (running-highest (k .runs))) (rw (one-exchange (k .inside) (now .inside)) at (k .ends)))
       go (inr d) = absurd (none (d .tick) (d .after) (d .before) (d .ending))

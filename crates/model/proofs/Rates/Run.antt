@@ -17,7 +17,8 @@ use Rattle.model.specs.Rates.{ownBefore}
 use Rattle.model.proofs.Lists.{same?, replace-same, replace-other}
 use Rattle.model.proofs.Fit.Sheet.{SheetFit}
 use Rattle.model.proofs.Order.Steps.{stateAfter, arrivedAt, historyAfter, state-next, history-next}
-use Rattle.model.proofs.Order.Arrive.{TaskArrived, waits, starts, Arrived, Runs, runs, none-runs}
+use Rattle.model.proofs.Fit.Running.{Highest, running-highest}
+use Rattle.model.proofs.Order.Arrive.{TaskArrived, waits, starts, Arrived, none-runs}
 use Rattle.model.proofs.Order.Moves.{given, outside}
 use Rattle.model.proofs.Order.Statement.{moves}
 use Rattle.model.proofs.Order.Noted.{latestOf}
@@ -85,7 +86,7 @@ module _ {who : ℕ → Running} {h : History} where
         none-inside = rw (none-runs (m .tasks) e 0) refl
 
     -- TASK p RUNS
-    module _ (p : ℕ) (r : Runs (m .tasks) p) (w : who (m .now) ≡ running p) (below : p < length (m .memory .status)) where
+    module _ (p : ℕ) (r : Highest (m .tasks) p) (w : who (m .now) ≡ running p) (below : p < length (m .memory .status)) where
       abbrev task : Task
       task = taskAt (m .tasks) p
 
@@ -147,7 +148,7 @@ module _ {s : Sheet} (c : SheetFit s) where
   abbrev pub who : ℕ → Running
   who t = runningOf (arrivedAt (startMachine s) t .tasks)
 
-  pub below-status : (t p : ℕ) → Runs (arrivedAt (startMachine s) t .tasks) p → p < length (arrivedAt (startMachine s) t .memory .status)
+  pub below-status : (t p : ℕ) → Highest (arrivedAt (startMachine s) t .tasks) p → p < length (arrivedAt (startMachine s) t .memory .status)
   below-status t p r = let f = holds-at c t (holds c t) .fit in omega (arith, r .below, f .tasks, f .memory .status)
 
   module _ (t : ℕ) (k : Rated who t (stateAfter (startMachine s) t) (historyAfter (startMachine s) t)) where
@@ -160,7 +161,7 @@ module _ {s : Sheet} (c : SheetFit s) where
     step : (r : Running) → runningOf (now .tasks) ≡ r → Rated who (suc (now .now)) (move now r) (observed now r (historyAfter (startMachine s) t))
     step nobody e = rated-idle (arrived-linked (started c) t) rated-at e
     step (running p) e =
-        let r = runs (now .tasks) p e in
+        let r = running-highest e in
         rated-runs (arrived-linked (started c) t) rated-at p r (ap who (arrived-now (started c) t) ∙ e) (below-status t p r)
 
     rated-next : Rated who (suc t) (stateAfter (startMachine s) (suc t)) (historyAfter (startMachine s) (suc t))

@@ -23,7 +23,8 @@ use Rattle.model.proofs.Whole.Preserve.{invariant-at-first}
 use Rattle.model.proofs.Whole.Ground.{past-at-first}
 use Rattle.model.proofs.Transactions.Start.{start-transactions}
 use Rattle.model.proofs.Order.Steps.{stateAfter, arrivedAt, historyAfter, state-next, history-next}
-use Rattle.model.proofs.Order.Arrive.{runs, none-runs}
+use Rattle.model.proofs.Fit.Running.{running-highest}
+use Rattle.model.proofs.Order.Arrive.{none-runs}
 use Rattle.model.proofs.Order.Ticks.{arrived-at, arrived-now, arrived-linked}
 use Rattle.model.proofs.Order.Start.{started, firstStore, wordCells, bankCells, start-cells, start-memory}
 use Rattle.model.proofs.Run.Acts.{actsOf, act-at}
@@ -105,7 +106,7 @@ module _ {s : Sheet} (c : SheetFit s) where
     step : (r : Running) → runningOf (arrivedAt (startMachine s) t .tasks) ≡ r → Fit s (move (arrivedAt (startMachine s) t) r)
         → Holds s valueAfter (suc (arrivedAt (startMachine s) t .now)) (move (arrivedAt (startMachine s) t) r) (observed (arrivedAt (startMachine s) t) r (historyAfter (startMachine s) t))
     step nobody e f = holds-idle (none-runs (arrivedAt (startMachine s) t .tasks) e) holds-at f
-    step (running p) e f = holds-runs c (arrived-linked (started c) t) holds-at value-now p (runs (arrivedAt (startMachine s) t .tasks) p e) f
+    step (running p) e f = holds-runs c (arrived-linked (started c) t) holds-at value-now p (running-highest e) f
 
     holds-next : Holds s valueAfter (suc t) (stateAfter (startMachine s) (suc t)) (historyAfter (startMachine s) (suc t))
     holds-next =

@@ -36,7 +36,8 @@ use Rattle.model.proofs.Transactions.Given.{exchangeIn, SaysYes, Cells,
 use Rattle.model.proofs.Transactions.Given.{same as sameCells}
 use Rattle.model.proofs.Transactions.Statement.{JobFit}
 use Rattle.model.proofs.Order.Exchange.{saysYes, says-commit, says-not}
-use Rattle.model.proofs.Order.Arrive.{Runs}
+use Rattle.model.proofs.Fit.Running.{Highest}
+use Rattle.model.proofs.Order.Arrive.{above-idle}
 use Rattle.model.proofs.Run.Acts.{readAct, actIn, taskAct, actsOf, act-at, ExchangeIn, begins, goes-on, commits, Touches, nothing, loads, looks, exchanges}
 
 -- THE ORDER OF URGENCY, now by task number
@@ -60,7 +61,7 @@ pub record Ready (words blocks : ℕ) (m : Memory) (ts : List Task) (p : ℕ) : 
   pub fewBlocks : blocks ≤ 16
   pub memory : MemoryFit m
   pub size : length ts ≡ 8
-  pub runs : Runs ts p
+  pub runs : Highest ts p
   pub job : JobFit words blocks (taskAt ts p)
   pub invariant : Invariant below m (actsOf ts)
 
@@ -87,7 +88,7 @@ module _ {words blocks : ℕ} {m : Memory} {ts : List Task} {p : ℕ} (R : Ready
 
   -- THE SITUATION of a statement
   rank : (q : ℕ) → Rank below (actsOf ts) p q
-  rank q = same? q p itself (λ ne. below? q p (λ l. lower l) (λ l. idleRank (act-at ts q ∙ ap actIn (R .runs .highest q (omega arith)))))
+  rank q = same? q p itself (λ ne. below? q p (λ l. lower l) (λ l. idleRank (act-at ts q ∙ ap actIn (above-idle (R .runs) q (omega arith)))))
 
   pub situation : {v : Act} → actIn (taskAt ts p .phase) ≡ v → Situation below m (actsOf ts) p v
   situation e = record {
@@ -204,7 +205,7 @@ module _ {words blocks : ℕ} {m : Memory} {ts : List Task} {p : ℕ} (R : Ready
           let k : Knows (λ z. below z q) (m .status) (m .saves) (actsOf ts) q (actIn (taskAt ts q .phase)) = subst (λ (v : Act). Knows (λ z. below z q) (m .status) (m .saves) (actsOf ts) q v) (act-at ts q) (R .invariant .knows q) in
           let c = loaded-content (λ z. below z q) (m .status) (m .saves) (actsOf ts) q (taskAt ts q .phase) w e k in
           record { value = current-frame F (λ z b d. omega arith) (c .1); counts = own-frame F (λ z b d. omega arith) (c .1) }
-      go (no k) = impossible (cc (rw (R .runs .highest q (omega arith)) at e))
+      go (no k) = impossible (cc (rw (above-idle (R .runs) q (omega arith)) at e))
 
   pub given-after : {v v′ : Act} {n : Memory} → actIn (taskAt ts p .phase) ≡ v → Touches p m (taskAt ts p) v n v′ → Given p m ts n
   given-after e t = record { cells = cells-after e t; readings = readings-after (frame-after e t) }

@@ -35,7 +35,7 @@ use Rattle.model.proofs.Order.Noted.{latestOf}
 use Rattle.model.proofs.Order.Linked.{Open, OpenBy, Inside, givenTo}
 use Rattle.model.proofs.Order.Hit.{Hit}
 use Rattle.model.proofs.Order.Justified.{Found, Ground, differed, hit, Justified}
-use Rattle.model.proofs.Order.Arrive.{Runs}
+use Rattle.model.proofs.Fit.Running.{Highest}
 use Rattle.model.proofs.Order.Ticks.{MachineLinked, next-of}
 use Rattle.model.proofs.Run.Acts.{actIn, goes-on}
 use Rattle.model.proofs.Run.Cells.{job-as}
@@ -46,7 +46,7 @@ use Rattle.model.proofs.Run.Latest.{latestOperation}
 use Rattle.model.proofs.Run.State.{Holds, ready, running-task}
 
 -- `memories t` is the shared memory after t ticks
-module _ {s : Sheet} (c : SheetFit s) (memories : ℕ → Memory) {m : Machine} {h : History} (linked : MachineLinked m h) (k : Holds s (λ t a. currentOf (memories t) a) (m .now) m h) (p : ℕ) (r : Runs (m .tasks) p)
+module _ {s : Sheet} (c : SheetFit s) (memories : ℕ → Memory) {m : Machine} {h : History} (linked : MachineLinked m h) (k : Holds s (λ t a. currentOf (memories t) a) (m .now) m h) (p : ℕ) (r : Highest (m .tasks) p)
     (before : memories (m .now) ≡ m .memory) (after : memories (suc (m .now)) ≡ turnOf p (m .memory) (m .tasks) .memory) where
   abbrev contents : ℕ → Contents
   contents t = contentsOf s (memories t)

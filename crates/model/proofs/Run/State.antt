@@ -21,7 +21,8 @@ use Rattle.model.proofs.Transactions.Owners.{owners-stay}
 use Rattle.model.proofs.Transactions.Contents.{ext-at}
 use Rattle.model.proofs.Transactions.Machine.{turnOf, Later, statement-keeps}
 use Rattle.model.proofs.Transactions.Machine.{Running as RunningTask}
-use Rattle.model.proofs.Order.Arrive.{TaskArrived, waits, starts, Arrived, Runs}
+use Rattle.model.proofs.Fit.Running.{Highest}
+use Rattle.model.proofs.Order.Arrive.{TaskArrived, waits, starts, Arrived}
 use Rattle.model.proofs.Order.Statement.{moves}
 use Rattle.model.proofs.Order.Ticks.{MachineLinked, next-of, other-operation}
 use Rattle.model.proofs.Run.Acts.{taskAct, actsOf, act-at, touches}
@@ -66,7 +67,7 @@ holds-arrived f a k = record {
 }
 
 -- TASK p RUNS
-module _ {s : Sheet} (c : SheetFit s) {values : ℕ → ℕ → ℕ} {m : Machine} {h : History} (linked : MachineLinked m h) (k : Holds s values (m .now) m h) (now : (a : ℕ) → values (m .now) a ≡ currentOf (m .memory) a) (p : ℕ) (r : Runs (m .tasks) p) where
+module _ {s : Sheet} (c : SheetFit s) {values : ℕ → ℕ → ℕ} {m : Machine} {h : History} (linked : MachineLinked m h) (k : Holds s values (m .now) m h) (now : (a : ℕ) → values (m .now) a ≡ currentOf (m .memory) a) (p : ℕ) (r : Highest (m .tasks) p) where
   pub declared-task : p < length (s .bodies)
   declared-task = declared c (tasks-of (k .fit)) p (r .unfinished)
 

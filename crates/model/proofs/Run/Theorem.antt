@@ -10,7 +10,7 @@ use Rattle.model.proofs.Fit.Sheet.{SheetFit}
 use Rattle.model.proofs.Fit.Accepted.{accepted-fit}
 use Rattle.model.proofs.Transactions.Machine.{turnOf}
 use Rattle.model.proofs.Order.Steps.{stateAfter, arrivedAt, historyAfter, state-next}
-use Rattle.model.proofs.Order.Arrive.{runs}
+use Rattle.model.proofs.Fit.Running.{running-highest}
 use Rattle.model.proofs.Order.Ticks.{arrived-at, arrived-now, arrived-linked}
 use Rattle.model.proofs.Order.Start.{started}
 use Rattle.model.proofs.Order.Justified.{Justified}
@@ -41,7 +41,7 @@ module _ {s : Sheet} (c : SheetFit s) where
   justified-run = record {
     justified = λ t p e.
         subst (λ (u : ℕ). Justified (contentsAfter s (startMachine s)) u p (historyAfter (startMachine s) t) (settledBy (arrivedAt (startMachine s) t) p)) (arrived-now (started c) t)
-        (justified c memories (arrived-linked (started c) t) (holds-at c t (holds c t)) p (runs (arrivedAt (startMachine s) t .tasks) p e) (memory-before t) (memory-after t p e));
+        (justified c memories (arrived-linked (started c) t) (holds-at c t (holds c t)) p (running-highest e) (memory-before t) (memory-after t p e));
   }
 
 -- DEMAND 3
