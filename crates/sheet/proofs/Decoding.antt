@@ -11,7 +11,7 @@ use lib.Dec.{ltb, leb, eqb}
 use lib.ListN.{length, getD}
 use Rattle.model.specs.Refusal.{cutShort, noCommand}
 use Rattle.model.specs.Command.{GET, PUT, Release, Block, WORD, BLOCK, TASK, RELEASE, END, LOAD, ADD, READ, PAIR, SWAP, BEGIN, access, COMMIT, Row, table, rowOf, total, bigEndian, Found, found, refused, commandAt}
-use Rattle.sheet.specs.Stages.{indexOf, widthAt, valuesFrom, rowFrom, operandsOf}
+use Rattle.sheet.specs.Stages.{indexOf, byteAt, widthAt, valuesFrom, rowFrom, operandsOf}
 use Rattle.sheet.specs.declared.commands.Index.{Index}
 use Rattle.sheet.specs.declared.commands.Index.the-variants.{At, Unknown}
 
@@ -25,7 +25,7 @@ pub record RowOf (b width : ℕ) : Type 0 where
 -- what the place in the table says of the byte's row
 abbrev pub IndexSays : ℕ → Index → Type 0
 IndexSays b Unknown = rowOf b table ≡ none
-IndexSays b (At i) = (i < 14) × RowOf b (widthAt i)
+IndexSays b (At i) = (i < 14) × RowOf b (widthAt i) × (byteAt i ≡ b)
 
 hasWidth : Option Row → ℕ → Bool
 unfolding total
@@ -39,7 +39,7 @@ hasNone (some r) = false
 agrees : ℕ → Index → Bool
 unfolding hasNone hasWidth rowOf table
 agrees b Unknown = hasNone (rowOf b table)
-agrees b (At i) = ltb i 14 && hasWidth (rowOf b table) (widthAt i)
+agrees b (At i) = ltb i 14 && (hasWidth (rowOf b table) (widthAt i) && eqb (byteAt i) b)
 
 -- every byte below n
 allAgree : ℕ → Bool
@@ -75,8 +75,9 @@ says : (b : ℕ) (i : Index) → agrees b i ≡ true → IndexSays b i
 unfolding agrees
 says b Unknown e = isNone (rowOf b table) e
 says b (At i) e =
-    let parts = and-eq-true-iff (ltb i 14) (hasWidth (rowOf b table) (widthAt i)) .0 e in
-    (ltb-true i 14 (parts .0), isRow b (rowOf b table) (widthAt i) refl (parts .1))
+    let parts = and-eq-true-iff (ltb i 14) (hasWidth (rowOf b table) (widthAt i) && eqb (byteAt i) b) .0 e in
+    let row = and-eq-true-iff (hasWidth (rowOf b table) (widthAt i)) (eqb (byteAt i) b) .0 (parts .1) in
+    (ltb-true i 14 (parts .0), isRow b (rowOf b table) (widthAt i) refl (row .0), eqb-true (byteAt i) b (row .1))
 
 -- all 256 bytes, by one computed test
 pub index-says : (b : ℕ) → b < 256 → IndexSays b (indexOf b)

@@ -1,4 +1,4 @@
--- At one command the lowest number wins: the fault by the rules that hold.
+-- At one command the lowest number wins: the fault is that of the first rule that is broken.
 use Prim.Native.Nat.{ℕ}
 use native.Mathlib.Omega.{arith}
 use mathlib.Core.Path.{_≡_, refl, sym, _∙_}
@@ -6,6 +6,7 @@ use mathlib.Core.Bool.{Bool, true, false}
 use mathlib.Core.Option.{Option, none, some}
 use Rattle.model.specs.Refusal.{Refusal, misplaced, ceilingPassed, outOfRange, wordRepeated, releasesNotRising}
 use Rattle.model.specs.Command.{Command}
+use Rattle.sheet.specs.WellFormed.{Broken, place, ceiling, range, repeated, falling}
 use Rattle.model.specs.Fault.{Known, inPlace, underCeiling, inRange, newWord, rising, firstOf, faultOf}
 
 none≢some : {f : Refusal} → some f ≡ none → ⊥
@@ -16,35 +17,28 @@ module _ (k : Known) (c : Command) where
   unfolding faultOf
   fault-is = refl
 
-  pub is-misplaced : inPlace k c ≡ false → faultOf k c ≡ some misplaced
+  -- the rule that is broken gives the fault, and the fault the rule
+  pub is-fault : {f : Refusal} → Broken k c f → faultOf k c ≡ some f
   unfolding firstOf
-  is-misplaced place = rw (fault-is, place)
+  is-fault (place a) = rw (fault-is, a)
+  is-fault (ceiling a b) = rw (fault-is, a, b)
+  is-fault (range a b d) = rw (fault-is, a, b, d)
+  is-fault (repeated a b d e) = rw (fault-is, a, b, d, e)
+  is-fault (falling a b d e g) = rw (fault-is, a, b, d, e, g)
 
-  pub is-ceiling : inPlace k c ≡ true → underCeiling k c ≡ false → faultOf k c ≡ some ceilingPassed
+  broken-by :
+      (x y z u v : Bool) → inPlace k c ≡ x → underCeiling k c ≡ y → inRange (k .counts) c ≡ z → newWord (k .body) c ≡ u → rising k c ≡ v
+      → {f : Refusal} → firstOf x y z u v ≡ some f → Broken k c f
   unfolding firstOf
-  is-ceiling place under = rw (fault-is, place, under)
+  broken-by false y z u v a b d e g {f} h = let is : misplaced ≡ f = cc in rw (← is) (place a)
+  broken-by true false z u v a b d e g {f} h = let is : ceilingPassed ≡ f = cc in rw (← is) (ceiling a b)
+  broken-by true true false u v a b d e g {f} h = let is : outOfRange ≡ f = cc in rw (← is) (range a b d)
+  broken-by true true true false v a b d e g {f} h = let is : wordRepeated ≡ f = cc in rw (← is) (repeated a b d e)
+  broken-by true true true true false a b d e g {f} h = let is : releasesNotRising ≡ f = cc in rw (← is) (falling a b d e g)
+  broken-by true true true true true a b d e g h = absurd (none≢some (sym h))
 
-  pub is-range : inPlace k c ≡ true → underCeiling k c ≡ true → inRange (k .counts) c ≡ false → faultOf k c ≡ some outOfRange
-  unfolding firstOf
-  is-range place under range = rw (fault-is, place, under, range)
-
-  pub is-repeated :
-      inPlace k c ≡ true → underCeiling k c ≡ true → inRange (k .counts) c ≡ true
-      → newWord (k .body) c ≡ false → faultOf k c ≡ some wordRepeated
-  unfolding firstOf
-  is-repeated place under range new = rw (fault-is, place, under, range, new)
-
-  pub is-not-rising :
-      inPlace k c ≡ true → underCeiling k c ≡ true → inRange (k .counts) c ≡ true
-      → newWord (k .body) c ≡ true → rising k c ≡ false → faultOf k c ≡ some releasesNotRising
-  unfolding firstOf
-  is-not-rising place under range new rise = rw (fault-is, place, under, range, new, rise)
-
-  pub is-good :
-      inPlace k c ≡ true → underCeiling k c ≡ true → inRange (k .counts) c ≡ true
-      → newWord (k .body) c ≡ true → rising k c ≡ true → faultOf k c ≡ none
-  unfolding firstOf
-  is-good place under range new rise = rw (fault-is, place, under, range, new, rise)
+  pub is-broken : {f : Refusal} → faultOf k c ≡ some f → Broken k c f
+  is-broken e = broken-by _ _ _ _ _ refl refl refl refl refl (sym fault-is ∙ e)
 
 -- A command without a fault keeps every rule.
 pub record Keeps (k : Known) (c : Command) : Type 0 where

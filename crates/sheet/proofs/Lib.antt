@@ -3,3 +3,9 @@ pub mod Membership
 pub mod Faults
 pub mod Reading
 pub mod Values
+pub mod Accepted
+pub mod Places
+pub mod Sections
+pub mod Declared
+pub mod Indexing
+pub mod Gaps

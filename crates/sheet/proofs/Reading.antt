@@ -48,11 +48,11 @@ module _ (n : ℕ) (s : List ℕ) (at : ℕ) (k : Known) where
   unfolding verdictFrom
   judged = refl
 
-  judged-refused : {f : Refusal} {p : ℕ} → commandAt s at ≡ refused f p → verdictFrom (suc n) s at k ≡ turnedDown f p
+  pub judged-refused : {f : Refusal} {p : ℕ} → commandAt s at ≡ refused f p → verdictFrom (suc n) s at k ≡ turnedDown f p
   unfolding judge
   judged-refused e = judged ∙ ap (judge (verdictFrom n s) s at k) e
 
-  judged-found : {c : Command} {next : ℕ} → commandAt s at ≡ found c next → verdictFrom (suc n) s at k ≡ judgeFault (verdictFrom n s) s at k c next (faultOf k c)
+  pub judged-found : {c : Command} {next : ℕ} → commandAt s at ≡ found c next → verdictFrom (suc n) s at k ≡ judgeFault (verdictFrom n s) s at k c next (faultOf k c)
   unfolding judge
   judged-found e = judged ∙ ap (judge (verdictFrom n s) s at k) e
 

@@ -56,6 +56,9 @@ entries =
     ∷ entry 0x23 0
     ∷ []
 
+abbrev pub byteAt : ℕ → ℕ
+byteAt i = getD entries i (entry 0 0) .byte
+
 abbrev pub widthAt : ℕ → ℕ
 widthAt i = getD entries i (entry 0 0) .width
 

@@ -206,7 +206,7 @@ fn value2(s: &[u8], at: usize) -> u16
     half(byte(s, at)) * 256 + half(byte(s, at + 1))
 }
 
-fn value4(s: &[u8], at: usize) -> u32
+pub fn value4(s: &[u8], at: usize) -> u32
     requires { ⌜ at ≤ length (now s) + 36 ⌝ }
     ensures { λ r. ⌜ r ≡ bigEndian (now (s .entry)) at 4 ⌝ }
 {

@@ -349,25 +349,37 @@ fn rising(k: Known, c: Command) -> bool
 }
 
 // At one command the lowest number wins.
+fn first_of(place: bool, under: bool, range: bool, new: bool, rise: bool) -> Flaw
+    ensures { λ r. ⌜ viewFlaw r ≡ rule.firstOf place under range new rise ⌝ }
+{
+    if !place {
+        return Flaw::Some(Refusal::Misplaced);
+    }
+    if !under {
+        return Flaw::Some(Refusal::CeilingPassed);
+    }
+    if !range {
+        return Flaw::Some(Refusal::OutOfRange);
+    }
+    if !new {
+        return Flaw::Some(Refusal::WordRepeated);
+    }
+    if !rise {
+        return Flaw::Some(Refusal::ReleasesNotRising);
+    }
+    Flaw::None
+}
+
 pub fn fault(k: Known, c: Command) -> Flaw
     ensures { λ r. ⌜ viewFlaw r ≡ rule.faultOf (viewKnown k) (viewCommand [] c) ⌝ }
 {
     let counts = k.counts;
     let body = k.body;
-    if !in_place(k, c) {
-        return Flaw::Some(Refusal::Misplaced);
-    }
-    if !under_ceiling(k, c) {
-        return Flaw::Some(Refusal::CeilingPassed);
-    }
-    if !in_range(counts, c) {
-        return Flaw::Some(Refusal::OutOfRange);
-    }
-    if !new_word(body, c) {
-        return Flaw::Some(Refusal::WordRepeated);
-    }
-    if !rising(k, c) {
-        return Flaw::Some(Refusal::ReleasesNotRising);
-    }
-    Flaw::None
+    first_of(
+        in_place(k, c),
+        under_ceiling(k, c),
+        in_range(counts, c),
+        new_word(body, c),
+        rising(k, c),
+    )
 }

@@ -1,0 +1,140 @@
+-- The commands from a place on are the command there and those from the next place on; so are a body's commands and the releases.
+use Prim.Native.Nat.{ℕ, zero, suc, _+_, _<_, _≤_}
+use mathlib.Core.Path.{_≡_, refl, sym, _∙_, ap}
+use mathlib.Core.Bool.{Bool, true, false, false≢true}
+use mathlib.Core.List.{List, [], _∷_, _++_}
+use native.Mathlib.Omega.{arith}
+use lib.ListN.{length}
+use Rattle.model.specs.Refusal.{Refusal}
+use Rattle.model.specs.Command.{Command, WORD, BLOCK, TASK, RELEASE, END, LOAD, ADD, READ, PAIR, SWAP, BEGIN, access, COMMIT, Release, Found, found, refused, commandAt}
+use Rattle.model.specs.Sheet.{Sheet, listed, commandsFrom, Declared, declares, inOpenBody, declare, declared, sheetOf}
+use Rattle.sheet.specs.Places.{commandsAt, declaredAt, bodyAt, releasesAt, ofBody}
+use Rattle.sheet.specs.WellFormed.{Stand, nothing, first}
+use Rattle.sheet.proofs.Decoding.{past-the-end}
+use Rattle.sheet.proofs.Reading.{next-after}
+
+-- COMMANDS
+module _ (n : ℕ) (s : List ℕ) (p : ℕ) where
+  from-is : commandsFrom (suc n) s p ≡ listed (commandsFrom n s) (commandAt s p)
+  unfolding commandsFrom
+  from-is = refl
+
+  from-found : {c : Command} {next : ℕ} → commandAt s p ≡ found c next → commandsFrom (suc n) s p ≡ c ∷ commandsFrom n s next
+  unfolding listed
+  from-found e = from-is ∙ ap (listed (commandsFrom n s)) e
+
+  from-refused : {f : Refusal} {q : ℕ} → commandAt s p ≡ refused f q → commandsFrom (suc n) s p ≡ []
+  unfolding listed
+  from-refused e = from-is ∙ ap (listed (commandsFrom n s)) e
+
+past : (n : ℕ) (s : List ℕ) (p : ℕ) → length s ≤ p → commandsFrom n s p ≡ []
+unfolding commandsFrom
+past zero s p h = refl
+past (suc n) s p h = from-refused n s p (past-the-end s p h)
+
+-- the number of commands allowed plays no part, if it is enough
+same-from :
+    (n m : ℕ) (s : List ℕ) (p : ℕ) → ((next : ℕ) → p < next → commandsFrom n s next ≡ commandsFrom m s next)
+    → (o : Found) → commandAt s p ≡ o → commandsFrom (suc n) s p ≡ commandsFrom (suc m) s p
+same-from n m s p go (refused f q) e = from-refused n s p e ∙ sym (from-refused m s p e)
+same-from n m s p go (found c next) e =
+    from-found n s p e ∙ ap (λ (l : List Command). c ∷ l) (go next (next-after s p e .0)) ∙ sym (from-found m s p e)
+
+enough : (n m : ℕ) (s : List ℕ) (p : ℕ) → length s ≤ n + p → length s ≤ m + p → commandsFrom n s p ≡ commandsFrom m s p
+enough zero m s p h k = past zero s p (omega arith) ∙ sym (past m s p (omega arith))
+enough (suc n) zero s p h k = past (suc n) s p (omega arith) ∙ sym (past zero s p (omega arith))
+enough (suc n) (suc m) s p h k = same-from n m s p (λ next less. enough n m s next (omega arith) (omega arith)) (commandAt s p) refl
+
+at-is : (s : List ℕ) (p : ℕ) → commandsAt s p ≡ commandsFrom (length s) s p
+unfolding commandsAt
+at-is s p = refl
+
+module _ (s : List ℕ) (p : ℕ) where
+  one-more : commandsAt s p ≡ commandsFrom (suc (length s)) s p
+  one-more = at-is s p ∙ enough (length s) (suc (length s)) s p (omega arith) (omega arith)
+
+  pub commands-found : {c : Command} {next : ℕ} → commandAt s p ≡ found c next → commandsAt s p ≡ c ∷ commandsAt s next
+  commands-found {c} {next} e = one-more ∙ from-found (length s) s p e ∙ ap (λ (l : List Command). c ∷ l) (sym (at-is s next))
+
+  pub commands-refused : {f : Refusal} {q : ℕ} → commandAt s p ≡ refused f q → commandsAt s p ≡ []
+  commands-refused e = one-more ∙ from-refused (length s) s p e
+
+pub commands-stand : {s : List ℕ} {o p : ℕ} {l : List Command} → Stand s o l p → commandsAt s o ≡ l ++ commandsAt s p
+commands-stand nothing = refl
+commands-stand {s} {o} (first {c = c} e r) = commands-found s o e ∙ ap (λ (l : List Command). c ∷ l) (commands-stand r)
+
+-- WHAT THEY DECLARE
+pub declared-is : (s : List ℕ) (p : ℕ) → declaredAt s p ≡ declared (commandsAt s p)
+unfolding declaredAt
+declared-is s p = refl
+
+pub declared-cons : (c : Command) (l : List Command) → declared (c ∷ l) ≡ declare c (declared l)
+unfolding declared
+declared-cons c l = refl
+
+declared-nil : declared [] ≡ declares [] [] [] [] []
+unfolding declared
+declared-nil = refl
+
+module _ (s : List ℕ) (p : ℕ) where
+  pub declared-found : {c : Command} {next : ℕ} → commandAt s p ≡ found c next → declaredAt s p ≡ declare c (declaredAt s next)
+  declared-found {c} {next} e =
+      declared-is s p ∙ ap declared (commands-found s p e) ∙ declared-cons c (commandsAt s next) ∙ ap (declare c) (sym (declared-is s next))
+
+  pub declared-refused : {f : Refusal} {q : ℕ} → commandAt s p ≡ refused f q → declaredAt s p ≡ declares [] [] [] [] []
+  declared-refused e = declared-is s p ∙ ap declared (commands-refused s p e) ∙ declared-nil
+
+pub sheet-is : (s : List ℕ) → sheetOf s ≡ declaredAt s 0 .sheet
+unfolding sheetOf declaredAt
+sheet-is s = refl
+
+-- A BODY
+pub declare-body : (c : Command) (d : Declared) → ofBody c ≡ true → declare c d ≡ inOpenBody c d
+unfolding declare
+declare-body (LOAD r v) d e = refl
+declare-body (ADD r q) d e = refl
+declare-body (READ r w) d e = refl
+declare-body (PAIR w o n) d e = refl
+declare-body (SWAP r) d e = refl
+declare-body BEGIN d e = refl
+declare-body (access a) d e = refl
+declare-body COMMIT d e = refl
+declare-body (WORD v) d e = absurd (false≢true e)
+declare-body (BLOCK b) d e = absurd (false≢true e)
+declare-body TASK d e = absurd (false≢true e)
+declare-body (RELEASE r) d e = absurd (false≢true e)
+declare-body END d e = absurd (false≢true e)
+
+pub declare-other : (c : Command) (d : Declared) → ofBody c ≡ false → declare c d .body ≡ []
+unfolding declare
+declare-other (WORD v) d e = refl
+declare-other (BLOCK b) d e = refl
+declare-other TASK d e = refl
+declare-other (RELEASE r) d e = refl
+declare-other END d e = refl
+declare-other (LOAD r v) d e = absurd (false≢true (sym e))
+declare-other (ADD r q) d e = absurd (false≢true (sym e))
+declare-other (READ r w) d e = absurd (false≢true (sym e))
+declare-other (PAIR w o n) d e = absurd (false≢true (sym e))
+declare-other (SWAP r) d e = absurd (false≢true (sym e))
+declare-other BEGIN d e = absurd (false≢true (sym e))
+declare-other (access a) d e = absurd (false≢true (sym e))
+declare-other COMMIT d e = absurd (false≢true (sym e))
+
+module _ (s : List ℕ) (p : ℕ) {c : Command} {next : ℕ} (e : commandAt s p ≡ found c next) where
+  -- a body command is the first of the body's rest; any other command ends the body
+  pub body-found : ofBody c ≡ true → bodyAt s p ≡ c ∷ bodyAt s next
+  body-found b = ap (λ (d : Declared). d .body) (declared-found s p e ∙ declare-body c (declaredAt s next) b)
+
+  pub body-over : ofBody c ≡ false → bodyAt s p ≡ []
+  body-over b = ap (λ (d : Declared). d .body) (declared-found s p e) ∙ declare-other c (declaredAt s next) b
+
+-- THE RELEASES
+module _ (s : List ℕ) (p : ℕ) where
+  pub release-found : {r : Release} {next : ℕ} → commandAt s p ≡ found (RELEASE r) next → releasesAt s p ≡ r ∷ releasesAt s next
+  unfolding declare
+  release-found e = ap (λ (d : Declared). d .sheet .releases) (declared-found s p e)
+
+  pub releases-over : {next : ℕ} → commandAt s p ≡ found END next → releasesAt s p ≡ []
+  unfolding declare
+  releases-over e = ap (λ (d : Declared). d .sheet .releases) (declared-found s p e)

@@ -1,0 +1,167 @@
+-- The byte and operands of a command that is found at a place, and the sections that each command may stand in.
+use Prim.Native.Nat.{ℕ, zero, suc, _+_, _*_, _<_, _≤_}
+use mathlib.Core.Path.{_≡_, refl, sym, _∙_, ap, subst}
+use mathlib.Core.Bool.{Bool, true, false, _&&_, _||_, false≢true}
+use mathlib.Core.List.{List, [], _∷_, _++_}
+use mathlib.Core.Option.{Option, none, some}
+use native.Mathlib.Omega.{arith}
+use borrow.Author.Tests.{eqb-true}
+use lib.Dec.{eqb, ltb, leb}
+use lib.ListN.{length, getD}
+use Rattle.model.specs.Refusal.{Refusal, noCommand}
+use Rattle.model.specs.Command.{Block, Release, Command, GET, PUT, WORD, BLOCK, TASK, RELEASE, END, LOAD, ADD, READ, PAIR, SWAP, BEGIN, access, COMMIT, Row, table, rowBy, rowOf, total, operand, bigEndian, Found, found, refused, foundWhole, foundRow, foundByte, commandAt}
+use Rattle.model.specs.Fault.{Section, wordSection, blockSection, bodySection, releaseSection, words?, blocks?, body?, releases?, Known, inPlace, faultOf}
+use Rattle.model.specs.Sheet.{end?, after, declare, declared}
+use Rattle.sheet.specs.Stages.{valuesFrom, rowFrom, operandsOf}
+use Rattle.sheet.specs.Places.{ofBody}
+use Rattle.sheet.specs.WellFormed.{Stand, nothing, first, Faultless, unread, good}
+use Rattle.sheet.proofs.Decoding.{word-operands, block-operands}
+use Rattle.sheet.proofs.Faults.{keeps}
+use Rattle.sheet.proofs.Places.{declared-cons, declare-body}
+
+-- THE BYTE OF A COMMAND
+abbrev pub byteOf : Command → ℕ
+byteOf (WORD v) = 0x01
+byteOf (BLOCK b) = 0x02
+byteOf TASK = 0x03
+byteOf (RELEASE r) = 0x04
+byteOf END = 0x05
+byteOf (LOAD r v) = 0x10
+byteOf (ADD r q) = 0x11
+byteOf (READ r w) = 0x12
+byteOf (PAIR w o n) = 0x13
+byteOf (SWAP r) = 0x14
+byteOf BEGIN = 0x20
+byteOf (access (GET r b o)) = 0x21
+byteOf (access (PUT b o r)) = 0x22
+byteOf COMMIT = 0x23
+
+-- each row makes a command of its own byte
+abbrev Right : List Row → Type 0
+Right [] = 0 ≤ 0
+Right (r ∷ l) = ((o : ℕ → ℕ) → byteOf (r .command o) ≡ r .byte) × Right l
+
+right : Right table
+unfolding table
+right =
+    (λ o. refl, (λ o. refl, (λ o. refl, (λ o. refl, (λ o. refl, (λ o. refl, (λ o. refl, (λ o. refl, (λ o. refl, (λ o. refl, (λ o. refl, (λ o. refl, (λ o. refl, (λ o. refl, omega arith))))))))))))))
+
+module _ (b : ℕ) (o : ℕ → ℕ) {r : Row} where
+  picked :
+      (x : Row) (other : Option Row) → byteOf (x .command o) ≡ x .byte → (other ≡ some r → byteOf (r .command o) ≡ b)
+      → (t : Bool) → eqb b (x .byte) ≡ t → rowBy t x other ≡ some r → byteOf (r .command o) ≡ b
+  unfolding rowBy
+  picked x other h go true q f = let is : x ≡ r = cc in rw (← is) (h ∙ sym (eqb-true b (x .byte) q))
+  picked x other h go false q f = go f
+
+  row-byte : (l : List Row) → Right l → rowOf b l ≡ some r → byteOf (r .command o) ≡ b
+  unfolding rowOf
+  row-byte [] h e = let z : _≡_ {A = ℕ} 0 1 = cc in absurd (omega arith)
+  row-byte (x ∷ l) h e = picked x (rowOf b l) (h .0 o) (row-byte l (h .1)) (eqb b (x .byte)) refl e
+
+-- a command found at a place has its byte there, and the operands behind it
+pub record At (s : List ℕ) (p : ℕ) (c : Command) (next : ℕ) : Type 0 where
+  pub byte : getD s p 0 ≡ byteOf c
+  pub operands : operandsOf s (suc p) (getD s p 0) ≡ found c next
+
+module _ (s : List ℕ) (p : ℕ) {c : Command} {next : ℕ} where
+  whole-row : (r : Row) → rowOf (getD s p 0) table ≡ some r → (b : Bool) → foundWhole b s p r ≡ found c next → (getD s p 0 ≡ byteOf c) × (rowFrom s (suc p) (some r) ≡ found c next)
+  unfolding foundWhole rowFrom
+  whole-row r e true f =
+      let is : r .command (λ n. operand s (suc p) (r .widths) n) ≡ c = cc in
+      (sym (ap byteOf (sym is) ∙ row-byte (getD s p 0) (λ n. operand s (suc p) (r .widths) n) table right e), f)
+  whole-row r e false f = let z : _≡_ {A = ℕ} 0 1 = cc in absurd (omega arith)
+
+  whole-option : (o : Option Row) → rowOf (getD s p 0) table ≡ o → foundRow s p o ≡ found c next → (getD s p 0 ≡ byteOf c) × (rowFrom s (suc p) o ≡ found c next)
+  unfolding foundRow
+  whole-option none e f = let z : _≡_ {A = ℕ} 0 1 = cc in absurd (omega arith)
+  whole-option (some r) e f = whole-row r e (leb (suc p + total (r .widths)) (length s)) f
+
+  whole-byte : (b : Bool) → foundByte b s p ≡ found c next → (getD s p 0 ≡ byteOf c) × (rowFrom s (suc p) (rowOf (getD s p 0) table) ≡ found c next)
+  unfolding foundByte
+  whole-byte true f = whole-option (rowOf (getD s p 0) table) refl f
+  whole-byte false f = let z : _≡_ {A = ℕ} 0 1 = cc in absurd (omega arith)
+
+  pub found-at : commandAt s p ≡ found c next → At s p c next
+  unfolding commandAt operandsOf
+  found-at e = let w = whole-byte (ltb p (length s)) e in record { byte = w .0; operands = w .1 }
+
+module _ (s : List ℕ) (p : ℕ) where
+  pub word-at : {v next : ℕ} → commandAt s p ≡ found (WORD v) next → (v ≡ bigEndian s (suc p) 4) × (next ≡ suc p + 4)
+  word-at {v} {next} e =
+      let a = found-at s p e in
+      let f : operandsOf s (suc p) 0x01 ≡ found (WORD v) next = rw (a .byte) at (a .operands) in
+      let g : found (WORD v) next ≡ found (WORD (bigEndian s (suc p) 4)) (suc p + 4) = sym f ∙ word-operands s (suc p) in
+      (cc, cc)
+
+  pub block-at : {b : Block} {next : ℕ} → commandAt s p ≡ found (BLOCK b) next → (b ≡ record { version = bigEndian s (suc p) 4; values = valuesFrom s (suc p) }) × (next ≡ suc p + 36)
+  block-at {b} {next} e =
+      let a = found-at s p e in
+      let f : operandsOf s (suc p) 0x02 ≡ found (BLOCK b) next = rw (a .byte) at (a .operands) in
+      let g : found (BLOCK b) next ≡ found (BLOCK (record { version = bigEndian s (suc p) 4; values = valuesFrom s (suc p) })) (suc p + 36) = sym f ∙ block-operands s (suc p) in
+      (cc, cc)
+
+-- THE ORDER OF SECTIONS
+abbrev pub rank : Section → ℕ
+rank wordSection = 0
+rank blockSection = 1
+rank bodySection = 2
+rank releaseSection = 3
+
+-- where each command may stand
+pub data Kind (k : Known) : Command → Type 0 where
+  isWord : {v : ℕ} → rank (k .section) ≡ 0 → Kind k (WORD v)
+  isBlock : {b : Block} → rank (k .section) ≤ 1 → Kind k (BLOCK b)
+  isTask : rank (k .section) ≤ 2 → Kind k TASK
+  isRelease : {r : Release} → 2 ≤ rank (k .section) → Kind k (RELEASE r)
+  isBody : {c : Command} → ofBody c ≡ true → rank (k .section) ≡ 2 → Kind k c
+
+for-word : (s : Section) → words? s ≡ true → rank s ≡ 0
+for-word wordSection e = refl
+for-word blockSection e = absurd (false≢true e)
+for-word bodySection e = absurd (false≢true e)
+for-word releaseSection e = absurd (false≢true e)
+
+for-block : (s : Section) → words? s || blocks? s ≡ true → rank s ≤ 1
+for-block wordSection e = omega arith
+for-block blockSection e = omega arith
+for-block bodySection e = absurd (false≢true e)
+for-block releaseSection e = absurd (false≢true e)
+
+for-task : (s : Section) (b : Bool) → words? s || blocks? s || body? s && b ≡ true → rank s ≤ 2
+for-task wordSection b e = omega arith
+for-task blockSection b e = omega arith
+for-task bodySection b e = omega arith
+for-task releaseSection b e = absurd (false≢true e)
+
+for-release : (s : Section) (b : Bool) → releases? s || body? s && b ≡ true → 2 ≤ rank s
+for-release wordSection b e = absurd (false≢true e)
+for-release blockSection b e = absurd (false≢true e)
+for-release bodySection b e = omega arith
+for-release releaseSection b e = omega arith
+
+for-body : (s : Section) → body? s ≡ true → rank s ≡ 2
+for-body wordSection e = absurd (false≢true e)
+for-body blockSection e = absurd (false≢true e)
+for-body bodySection e = refl
+for-body releaseSection e = absurd (false≢true e)
+
+left-of : (a b : Bool) → a && b ≡ true → a ≡ true
+left-of true b e = refl
+left-of false b e = e
+
+pub kind : (k : Known) (c : Command) → inPlace k c ≡ true → end? c ≡ false → Kind k c
+unfolding inPlace
+kind k (WORD v) p e = isWord (for-word (k .section) p)
+kind k (BLOCK b) p e = isBlock (for-block (k .section) p)
+kind k TASK p e = isTask (for-task (k .section) _ p)
+kind k (RELEASE r) p e = isRelease (for-release (k .section) _ p)
+kind k END p e = absurd (false≢true (sym e))
+kind k (LOAD r v) p e = isBody refl (for-body (k .section) p)
+kind k (ADD r q) p e = isBody refl (for-body (k .section) p)
+kind k (READ r w) p e = isBody refl (for-body (k .section) (left-of _ _ p))
+kind k (PAIR w o n) p e = isBody refl (for-body (k .section) (left-of _ _ p))
+kind k (SWAP r) p e = isBody refl (for-body (k .section) (left-of _ _ (left-of _ _ p)))
+kind k BEGIN p e = isBody refl (for-body (k .section) (left-of _ _ (left-of _ _ p)))
+kind k (access a) p e = isBody refl (for-body (k .section) (left-of _ _ p))
+kind k COMMIT p e = isBody refl (for-body (k .section) (left-of _ _ p))

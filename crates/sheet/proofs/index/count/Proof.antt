@@ -1,0 +1,166 @@
+-- `count` meets its contract.
+use Prim.Native.Nat.{_<_}
+use Rattle.model.specs.Fault.{room}
+use Rattle.sheet.specs.Indexed.{counted}
+use native.Mathlib.Omega.{arith}
+use borrow.Author.Needs.{needs}
+use Rattle.sheet.proofs.index.count.Statement.{statement}
+use Rattle.sheet.proofs.index.count.Tie as tie
+
+enum-told : tie.Need-enum-told
+enum-told c = search needs
+
+add-y : tie.Need-add-y
+add-y c = let room : c .before .before .before .args .x .words < 32 = rw (c .before .enum-told .given .1) at (c .before .before .before .pre) in omega arith
+
+enum-told-2 : tie.Need-enum-told-2
+enum-told-2 c = search needs
+
+add-y-2 : tie.Need-add-y-2
+add-y-2 c = let room : c .before .before .before .args .x .blocks < 16 = rw (c .before .enum-told2 .given .1) at (c .before .before .before .pre) in omega arith
+
+enum-told-3 : tie.Need-enum-told-3
+enum-told-3 c = search needs
+
+size-requires : tie.Need-size-requires
+size-requires c κs = search needs
+
+mul-y : tie.Need-mul-y
+mul-y c = search needs
+
+element-write-y : tie.Need-element-write-y
+element-write-y c = let room : c .before .before .before .args .x .tasks < 8 = rw (c .before .enum-told3 .given .1) at (c .before .before .before .pre) in omega arith
+
+add-y-3 : tie.Need-add-y-3
+add-y-3 c = let room : c .before .before .before .before .args .x .tasks < 8 = rw (c .before .before .enum-told3 .given .1) at (c .before .before .before .before .pre) in omega arith
+
+enum-told-4 : tie.Need-enum-told-4
+enum-told-4 c = search needs
+
+first-place-requires : tie.Need-first-place-requires
+first-place-requires c κs = search needs
+
+add-y-4 : tie.Need-add-y-4
+add-y-4 c = let room : c .before .before .before .before .args .x .releases < 256 = rw (c .before .before .enum-told4 .given .1) at (c .before .before .before .before .pre) in omega arith
+
+enum-told-5 : tie.Need-enum-told-5
+enum-told-5 c = search needs
+
+first-place-requires-2 : tie.Need-first-place-requires-2
+first-place-requires-2 c κs = search needs
+
+enum-told-6 : tie.Need-enum-told-6
+enum-told-6 c = search needs
+
+enum-told-7 : tie.Need-enum-told-7
+enum-told-7 c = search needs
+
+enum-told-8 : tie.Need-enum-told-8
+enum-told-8 c = search needs
+
+enum-told-9 : tie.Need-enum-told-9
+enum-told-9 c = search needs
+
+enum-told-10 : tie.Need-enum-told-10
+enum-told-10 c = search needs
+
+enum-told-11 : tie.Need-enum-told-11
+enum-told-11 c = search needs
+
+enum-told-12 : tie.Need-enum-told-12
+enum-told-12 c = search needs
+
+enum-told-13 : tie.Need-enum-told-13
+enum-told-13 c = search needs
+
+returns : tie.Need-returns
+unfolding counted
+returns c = rw (c .before .enum-told .given .1)
+
+returns-2 : tie.Need-returns-2
+unfolding counted
+returns-2 c = rw (c .before .enum-told2 .given .1)
+
+returns-3 : tie.Need-returns-3
+unfolding counted
+returns-3 c = rw (c .before .before .enum-told3 .given .1, c .before .size .ensures)
+
+returns-4 : tie.Need-returns-4
+unfolding counted
+returns-4 c = rw (c .before .before .enum-told4 .given .1, c .before .first-place .ensures)
+
+returns-5 : tie.Need-returns-5
+unfolding counted
+returns-5 c = rw (c .before .enum-told5 .given .1, c .first-place2 .ensures)
+
+returns-6 : tie.Need-returns-6
+unfolding counted
+returns-6 c = rw (c .enum-told6 .given .1)
+
+returns-7 : tie.Need-returns-7
+unfolding counted
+returns-7 c = rw (c .enum-told7 .given .1)
+
+returns-8 : tie.Need-returns-8
+unfolding counted
+returns-8 c = rw (c .enum-told8 .given .1)
+
+returns-9 : tie.Need-returns-9
+unfolding counted
+returns-9 c = rw (c .enum-told9 .given .1)
+
+returns-10 : tie.Need-returns-10
+unfolding counted
+returns-10 c = rw (c .enum-told10 .given .1)
+
+returns-11 : tie.Need-returns-11
+unfolding counted
+returns-11 c = rw (c .enum-told11 .given .1)
+
+returns-12 : tie.Need-returns-12
+unfolding counted
+returns-12 c = rw (c .enum-told12 .given .1)
+
+returns-13 : tie.Need-returns-13
+unfolding counted
+returns-13 c = rw (c .enum-told13 .given .1)
+
+pub count-spec : {M : Type 1} → statement M
+count-spec =
+    tie.close
+    (tie.spec
+    enum-told
+    add-y
+    enum-told-2
+    add-y-2
+    enum-told-3
+    size-requires
+    mul-y
+    element-write-y
+    add-y-3
+    enum-told-4
+    first-place-requires
+    add-y-4
+    enum-told-5
+    first-place-requires-2
+    enum-told-6
+    enum-told-7
+    enum-told-8
+    enum-told-9
+    enum-told-10
+    enum-told-11
+    enum-told-12
+    enum-told-13
+    returns
+    returns-2
+    returns-3
+    returns-4
+    returns-5
+    returns-6
+    returns-7
+    returns-8
+    returns-9
+    returns-10
+    returns-11
+    returns-12
+    returns-13)
