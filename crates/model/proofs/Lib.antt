@@ -1,5 +1,6 @@
 pub mod Lists
 pub mod Bytes
+pub mod Sheets
 pub mod WholeCases
 pub mod Cases
 pub mod Fit

@@ -15,7 +15,8 @@ use Rattle.model.specs.Plain.{Contents, Pair, readOf, swapOf, result, pl
 use Rattle.model.specs.History.{Operation, History, historyOf}
 use Rattle.model.specs.Claim.{Counts, each, Interfered, Replays, plain, freely, over, then, In, EndedBefore, WholeOperations}
 use Rattle.model.proofs.WholeCases.{listedBy, counted}
-use Rattle.model.proofs.Bytes.{word, task, release, end, load, read, pair, swap}
+use Rattle.model.proofs.Sheets.{body₁, bodyTwoWords, against}
+use Rattle.model.proofs.Bytes.{word, task, release, end, read}
 use Rattle.model.proofs.Order.Counted.{in-counted}
 use Rattle.model.proofs.Order.Ordered.{Ordered, whole-operations, ended-before}
 
@@ -75,11 +76,7 @@ reads-whole = whole-operations reads 65535 refl refl refl reads-ordered
 
 -- P4: task 0 exchanges 12 for 5 in word 0. Task 1 comes after its Commit, finds 5 instead of 12 and says no; only the answers decide the order.
 pub sheetP4 : List ℕ
-sheetP4 =
-    word 12
-    ++ task ++ load 1 12 ++ load 2 5 ++ pair 0 1 2 ++ swap 0
-    ++ task ++ load 1 12 ++ load 2 7 ++ pair 0 1 2 ++ swap 0
-    ++ release 0 0 ++ release 11 1 ++ end
+sheetP4 = against (word 12) body₁ 11
 
 abbrev lowerP4 : Operation
 lowerP4 = record { task = 0; arguments = swapOf (pairOf 0 12 5 ∷ []); last = some 22; committed = true; spent = false; answers = 1 ∷ [] }
@@ -123,11 +120,7 @@ cut-whole = whole-operations sheetP4 11 refl refl refl cut-ordered
 -- P5: task 1 also names word 1, which is 22 and not 0, so its no rests on that word. Task 0's word was 12 all the while:
 -- its no rests on the free answer alone, since task 1's exchange with a changing pair on word 0 began inside it.
 pub sheetP5 : List ℕ
-sheetP5 =
-    word 12 ++ word 22
-    ++ task ++ load 1 12 ++ load 2 5 ++ pair 0 1 2 ++ swap 0
-    ++ task ++ load 1 12 ++ load 2 7 ++ pair 0 1 2 ++ pair 1 3 2 ++ swap 0
-    ++ release 0 0 ++ release 9 1 ++ end
+sheetP5 = against (word 12 ++ word 22) bodyTwoWords 9
 
 abbrev lowerP5 : Operation
 lowerP5 = record { task = 0; arguments = swapOf (pairOf 0 12 5 ∷ []); last = some 31; committed = false; spent = false; answers = 0 ∷ [] }
