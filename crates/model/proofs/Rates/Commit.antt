@@ -13,7 +13,7 @@ use Rattle.model.specs.Job.{Transaction, committing, idle, transacting, 
 use Rattle.model.specs.Transaction.{committed, transactionTick}
 use Rattle.model.specs.Machine.{Machine, noTask, taskAt, Running, nobody, running, runningOf, move, statement, startMachine}
 use Rattle.model.specs.Rates.{ownBefore}
-use Rattle.model.proofs.Lists.{same?, replace-same, replace-other}
+use Rattle.model.proofs.Lists.{same?, replace-same, replace-other, impossible}
 use Rattle.model.proofs.Fit.Sheet.{SheetFit}
 use Rattle.model.proofs.Whole.Rates.{Ran, before-start, own-tick, others, exchange-rate, exchange-ends}
 use Rattle.model.proofs.Order.Steps.{stateAfter, arrivedAt, state-next}
@@ -45,7 +45,7 @@ pub record Ending (p : ℕ) (m : Machine) : Type 0 where
   pub ends : exchangeTick p (m .memory) exchange (exchange .step) ≡ ends memory yes?
 
 not-idle : {A : Type 0} {y : Transaction} {x : Exchange} → idle ≡ transacting y (committing x) → A
-not-idle e = let z : _≡_ {A = ℕ} 0 1 = cc in absurd (omega arith)
+not-idle e = impossible (cc)
 
 module _ {p : ℕ} {es : List Entry} {t : ℕ} where
   -- RELEASES ARRIVE
@@ -89,7 +89,7 @@ one-exchange : {m : Machine} {p : ℕ} {x y : Exchange} → In m p x → In m p 
 one-exchange i j = let e = sym (i .phase) ∙ j .phase in cc
 
 goes-not-ends : {A : Type 0} {m m′ : Memory} {x : Exchange} {yes? : Bool} → goes m x ≡ ends m′ yes? → A
-goes-not-ends e = let z : _≡_ {A = ℕ} 0 1 = cc in absurd (omega arith)
+goes-not-ends e = impossible (cc)
 
 -- FROM ITS START in tick a
 module _ {s : Sheet} (c : SheetFit s) (p a : ℕ) {x : Exchange} (runs-first : who c a ≡ running p) (first : In (arrivedAt (startMachine s) a) p x) (at-start : x .step ≡ start) where

@@ -14,7 +14,7 @@ use Rattle.model.specs.Machine.{Machine, noTask, taskAt, Running, nobody
 use Rattle.model.specs.Plain.{Arguments}
 use Rattle.model.specs.History.{History, noHistory, observed}
 use Rattle.model.specs.Rates.{ownBefore}
-use Rattle.model.proofs.Lists.{same?, replace-same, replace-other}
+use Rattle.model.proofs.Lists.{same?, replace-same, replace-other, impossible}
 use Rattle.model.proofs.Fit.Sheet.{SheetFit}
 use Rattle.model.proofs.Order.Steps.{stateAfter, arrivedAt, historyAfter, state-next, history-next}
 use Rattle.model.proofs.Fit.Running.{Highest, running-highest}
@@ -51,11 +51,11 @@ rate-outside (some a) t n = absurd (n tt)
 
 none-ended : (who : ℕ → Running) → InTime who noHistory
 unfolding at
-none-ended who = record { ended = λ a l o is e. let z : _≡_ {A = ℕ} 0 1 = cc in absurd (omega arith) }
+none-ended who = record { ended = λ a l o is e. impossible (cc) }
 
 none-open : (inside : ℕ → Option Arguments) → Unended noHistory inside
 unfolding at
-none-open inside = record { stands = λ a o is e. let z : _≡_ {A = ℕ} 0 1 = cc in absurd (omega arith) }
+none-open inside = record { stands = λ a o is e. impossible (cc) }
 
 module _ {who : ℕ → Running} {h : History} where
   -- RELEASES ARRIVE
