@@ -1,4 +1,4 @@
--- Every tick keeps history and machine linked, and move-advances the history by at most one operation.
+-- Every tick keeps history and machine linked, and advances the history by at most one operation.
 use Prim.Native.Nat.{ℕ, zero, suc, _<_, _≤_}
 use mathlib.Core.Bool.{Bool}
 use mathlib.Core.Path.{_≡_, refl, sym, _∙_, ap, subst}
