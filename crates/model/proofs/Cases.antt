@@ -1,6 +1,6 @@
 -- Document 01's worked figures: one table of sheets, limits and figures, and one fact over the whole table, by computation.
 use Prim.Native.Nat.{ℕ, zero, suc, _+_}
-use mathlib.Core.Bool.{Bool, true, false, _&&_}
+use mathlib.Core.Bool.{Bool, true, _&&_}
 use mathlib.Core.Path.{_≡_, refl}
 use mathlib.Core.List.{List, [], _∷_, _++_}
 use lib.Dec.{eqb}
@@ -12,7 +12,8 @@ use Rattle.model.specs.Machine.{Machine, run, startMachine, taskAt}
 use Rattle.model.specs.Sheet.{sheetOf}
 use Rattle.model.specs.Answer.{Answer, runAnswer, finalOf}
 use Rattle.model.proofs.WholeCases.{sameNumbers}
-use Rattle.model.proofs.Bytes.{join, word, block, task, release, end, load, add, read, pair, swap, begin, get, put, commit}
+use Rattle.model.proofs.Sheets.{body₁, bodyTwoWords, bodyRead, sheetA, against, sheetU, sheetUU}
+use Rattle.model.proofs.Bytes.{join, word, block, task, release, end, load, add, pair, begin, get}
 
 -- FIGURES
 pub data Figure : Type 0 where
@@ -77,8 +78,7 @@ unfolding passes
 allPass [] = true
 allPass (c ∷ l) = passes c && allPass l
 
--- SHEETS
--- a case with limit 65,535 and no report buffer, and one with all of them
+-- A CASE with limit 65,535 and no report buffer, and one with all of them
 figures : List ℕ → List Figure → Case
 figures s fs = record { sheet = s; limit = 65535; buffer = []; figures = fs }
 
@@ -86,14 +86,7 @@ report : List ℕ → ℕ → List ℕ → Case
 unfolding fill
 report s limit text = record { sheet = s; limit = limit; buffer = replicate (length text + 2) fill; figures = prints text ∷ [] }
 
--- sheet A: word 0 starts with 12, task 0 exchanges 12 for 5
-body₀ : List ℕ
-body₀ = task ++ load 1 12 ++ load 2 5 ++ pair 0 1 2 ++ swap 0
-
-sheetA : List ℕ
-unfolding body₀
-sheetA = word 12 ++ body₀ ++ release 0 0 ++ end
-
+-- sheet A as document 01 writes it
 bytesA : List ℕ
 bytesA =
     0x01 ∷ 0x00 ∷ 0x00 ∷ 0x00 ∷ 0x0C
@@ -125,39 +118,6 @@ untouchedA =
     ∷ 0x45 ∷ 0x20 ∷ 0x30 ∷ 0x20 ∷ 0x30 ∷ 0x0A
     ∷ []
 
--- task 1 exchanges 12 for 7 in word 0
-body₁ : List ℕ
-body₁ = task ++ load 1 12 ++ load 2 7 ++ pair 0 1 2 ++ swap 0
-
--- task 1 also names word 1, whose old value r3 is never loaded
-bodyTwoWords : List ℕ
-bodyTwoWords = task ++ load 1 12 ++ load 2 7 ++ pair 0 1 2 ++ pair 1 3 2 ++ swap 0
-
--- task 1 only reads word 0
-bodyRead : List ℕ
-bodyRead = task ++ read 0 0
-
--- the words, task 0 and task 1, which is released at tick t
-against : List ℕ → List ℕ → ℕ → List ℕ
-unfolding body₀
-against words body t = words ++ body₀ ++ body ++ release 0 0 ++ release t 1 ++ end
-
--- task U adds 1 to value 0 of block 0
-bodyU : List ℕ
-bodyU = task ++ begin ++ get 0 0 0 ++ load 1 1 ++ add 0 1 ++ put 0 0 0 ++ commit
-
-oneBlock : ℕ → List ℕ
-oneBlock version = block version (41 ∷ 0 ∷ 0 ∷ 0 ∷ 0 ∷ 0 ∷ 0 ∷ 77 ∷ [])
-
-sheetU : ℕ → List ℕ
-unfolding oneBlock bodyU
-sheetU version = oneBlock version ++ bodyU ++ release 0 0 ++ end
-
--- two of U, the upper released at tick 6
-sheetUU : List ℕ
-unfolding oneBlock bodyU
-sheetUU = oneBlock 3 ++ bodyU ++ bodyU ++ release 0 0 ++ release 6 1 ++ end
-
 -- THE TABLE
 -- row 5 of the refusal table: 33 WORDs
 words33 : List ℕ
@@ -172,7 +132,7 @@ getsTo zero = []
 getsTo (suc n) = get 0 n 0 ∷ getsTo n
 
 pub table : List Case
-unfolding nineBlocks getsTo figures report sheetA bytesA reportA untouchedA body₁ bodyTwoWords bodyRead against sheetU sheetUU words33
+unfolding nineBlocks getsTo figures report bytesA reportA untouchedA words33
 table =
     -- P1, byte for byte, and the sheet as document 01 writes it
     report sheetA 65535 reportA

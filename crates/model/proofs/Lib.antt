@@ -1,10 +1,15 @@
 pub mod Lists
+-- two tables proved by computation: demand 3 on small runs, document 01's figures
 pub mod Bytes
+pub mod Sheets
 pub mod WholeCases
 pub mod Cases
+-- well formed machines
 pub mod Fit
+-- demand 3 (`demand-3` in Run/Theorem.antt): exchanges, transactions, history and order, and how they join
 pub mod Whole
 pub mod Transactions
 pub mod Order
 pub mod Run
+-- the rates (`rates` in Rates/Theorem.antt)
 pub mod Rates

@@ -1,13 +1,13 @@
--- Laws of `at` and `replace`: the element replaced, the others, lengths, and maps. Also two ways to go by cases.
-use Prim.Native.Nat.{ℕ, zero, suc, _<_, _≤_}
+-- Laws of `at` and `replace`: the element replaced, the others, lengths, and maps. Also two ways to go by cases, and contradictions.
+use Prim.Native.Nat.{ℕ, zero, suc, _+_, _<_, _≤_}
 use mathlib.Core.Path.{_≡_, refl, ap}
 use mathlib.Core.Logic.{_≢_}
 use mathlib.Core.Bool.{Bool, true, false}
 use mathlib.Core.List.{List, [], _∷_, _++_, map}
 use native.Mathlib.Decide.{ℕ-discrete, decLt}
 use native.Mathlib.Omega.{arith}
-use lib.ListN.{length, getD, set, replicate, length-set, List·getD-map, List·getD-eq-default, List·getD-append, getD-replicate}
-use lib.Seq.{getD-set-same, getD-set-other, set-out}
+use lib.ListN.{length, set, replicate, length-set, List·getD-map, List·getD-eq-default, List·getD-append, getD-replicate}
+use lib.Seq.{getD-set-same, getD-set-other, set-out, getD-append-add}
 use Rattle.model.specs.Lists.{at, replace}
 
 module _ {A : Type 0} where
@@ -35,6 +35,10 @@ module _ {A : Type 0} where
   unfolding at
   at-append d l r i h = List·getD-append l r d i h
 
+  pub at-behind : (d : A) (l r : List A) (n i : ℕ) → length l ≡ n → at d (l ++ r) (n + i) ≡ at d r i
+  unfolding at
+  at-behind d l r n i e = rw (← e) (getD-append-add l r i d)
+
   pub at-replicate : (d a : A) (n i : ℕ) → i < n → at d (replicate n a) i ≡ a
   unfolding at
   at-replicate d a n i h = getD-replicate n i a d h
@@ -60,6 +64,10 @@ module _ {A B : Type 0} (f : A → B) where
       go [] i = refl
       go (x ∷ l) zero = refl
       go (x ∷ l) (suc i) = ap (λ (z : List B). f x ∷ z) (go l i)
+
+-- equations that contradict each other: `impossible (cc)`
+pub impossible : {P : Type 0} → _≡_ {A = ℕ} 0 1 → P
+impossible e = absurd (omega arith)
 
 -- two numbers are equal or not
 pub same? : {P : Type 0} (i j : ℕ) → (i ≡ j → P) → (i ≢ j → P) → P

@@ -1,8 +1,11 @@
 -- Demand 3, history and order: the claim of a run follows once each tick justifies what it settles (Justified.antt says what that is;
 -- `whole` in Theorem.antt draws the conclusion).
--- the claim about any history, and about three small runs by computation
+-- the claim about any history, and about three small runs with their orders; the search of WholeCases decides it
 pub mod Ordered
+pub mod Counted
 pub mod Example
+pub mod Tests
+pub mod Search
 -- an order as a log by ticks, and how it grows with the history: the abstract theorem
 pub mod Log
 pub mod Advance

@@ -22,8 +22,5 @@ pub mod Committing
 pub mod Statement
 pub mod Machine
 pub mod Replay
--- a run: its start, the operations in its history, every tick, what a tick settles
+-- the start of a run; Run has every tick
 pub mod Start
-pub mod Latest
-pub mod Run
-pub mod Justified

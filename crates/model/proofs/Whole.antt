@@ -1,6 +1,6 @@
 -- Demand 3, the exchange layer: what READ, SWAP and the inner readings and exchanges of transactions do to cells, statuses and save places.
 -- Of a task only its act counts: free, reading a cell, exchanging (Act). `below p q` says that q's job runs before p's; Order and Rank in
--- Invariant are all that is used of it, and Reorder lets it change between ticks. Tasks has now's order, by task number.
+-- Invariant are all that is used of it, and Reorder lets it change between ticks. Run/Cells has now's order, by task number.
 --
 -- THE INVARIANT (Invariant), document 01's rules as they hold between ticks:
 --   contents (O)  a cell's word is valid, or stands for an uncleaned entry of its task's exchange;
@@ -17,8 +17,7 @@
 --   Rates     a reading ends in its 2nd or 3rd tick, an exchange of k entries by its (9k + 4)th: `reading-rate`, `reading-ends`, `exchange-rate`, `exchange-ends`
 -- N (Ground) asks a History for what was seen and hit and how that passes a tick (Passes, SeesNow); it does not say how one is kept.
 --
--- THE MACHINE: Touch walks over all statements, by act before and after; Machine draws the conclusions; Given is what the transaction layer
--- asks; Run has the invariant at every tick of a run of a well formed sheet.
+-- THE MACHINE: Run/Acts walks over all statements, by act before and after, and Run/Cells draws the conclusions, also what the transaction layer asks.
 pub mod Act
 pub mod Invariant
 pub mod Words
@@ -40,8 +39,3 @@ pub mod GroundStatement
 pub mod GroundKept
 pub mod Grounded
 pub mod Reorder
-pub mod Tasks
-pub mod Touch
-pub mod Machine
-pub mod Given
-pub mod Run

@@ -1,5 +1,5 @@
--- Demand 3 on small runs, one at least for each slip that breaks it: an order of the run's operations is searched for,
--- and one fact over the whole table says that there is one, by computation.
+-- Demand 3 on small runs, one for each slip that breaks it: all orders of a run's operations are tried, and one fact over the
+-- whole table says that each run has one, by computation. Order/Search.antt proves that the test `whole` decides the claim.
 use Prim.Native.Nat.{ℕ, zero, suc}
 use mathlib.Core.Bool.{Bool, true, false, not, _&&_, _||_}
 use mathlib.Core.Path.{_≡_, refl}
@@ -15,7 +15,8 @@ use Rattle.model.specs.Machine.{run, startMachine}
 use Rattle.model.specs.Plain.{Contents, Pair, Arguments, readOf, swapOf, transactionOf, plainly}
 use Rattle.model.specs.History.{Operation, History, operationAt, historyOf}
 use Rattle.model.specs.Claim.{countedBy, contentsOf, declaredContents, each}
-use Rattle.model.proofs.Bytes.{word, block, task, release, end, load, read, pair, swap, begin, get, put, commit}
+use Rattle.model.proofs.Sheets.{body₀, body₁, bodyRead, against}
+use Rattle.model.proofs.Bytes.{word, block, task, release, end, load, pair, swap, begin, get, put, commit}
 
 -- EQUAL NUMBERS AND CONTENTS
 unfoldable pub sameNumbers : List ℕ → List ℕ → Bool
@@ -124,26 +125,14 @@ whole sheet limit =
     let h : History = historyOf limit (startMachine (sheetOf sheet)) in
     orderedAll h (contentsOf (sheetOf sheet) (run limit (startMachine (sheetOf sheet)) .memory)) (counted 0 (h .began)) (declaredContents (sheetOf sheet))
 
--- THE SHEETS: task 0 exchanges 12 for 5 in word 0, task 1 comes when that is installed and not yet committed
-lower : List ℕ
-lower = task ++ load 1 12 ++ load 2 5 ++ pair 0 1 2 ++ swap 0
-
-upper : List ℕ
-upper = task ++ load 1 12 ++ load 2 7 ++ pair 0 1 2 ++ swap 0
-
+-- THE SHEETS: task 1 comes when the exchange of sheet A's task is installed and not yet committed
 -- P5 with the second word's old value loaded: task 1 Marks while its second word may still differ, and says yes
 marking : List ℕ
-unfolding lower
-marking =
-    word 12 ++ word 22
-    ++ lower
-    ++ task ++ load 1 12 ++ load 2 7 ++ load 3 22 ++ pair 0 1 2 ++ pair 1 3 2 ++ swap 0
-    ++ release 0 0 ++ release 9 1 ++ end
+marking = against (word 12 ++ word 22) (task ++ load 1 12 ++ load 2 7 ++ load 3 22 ++ pair 0 1 2 ++ pair 1 3 2 ++ swap 0) 9
 
 -- P7: the value comes from the save place
 reading : List ℕ
-unfolding lower
-reading = word 12 ++ lower ++ task ++ read 0 0 ++ release 0 0 ++ release 9 1 ++ end
+reading = against (word 12) bodyRead 9
 
 -- a read-only pair
 readOnly : List ℕ
@@ -151,18 +140,17 @@ readOnly = task ++ load 1 12 ++ pair 0 1 1 ++ swap 0
 
 -- it gives the word back to task 0, which commits
 givenBack : List ℕ
-unfolding lower readOnly
-givenBack = word 12 ++ lower ++ readOnly ++ release 0 0 ++ release 9 1 ++ end
+unfolding readOnly
+givenBack = against (word 12) readOnly 9
 
 -- task 2 overtakes it before its Commit: it says no, and Marks task 0 in Clean
 overtaken : List ℕ
-unfolding lower readOnly upper
-overtaken = word 12 ++ lower ++ readOnly ++ upper ++ release 0 0 ++ release 9 1 ++ release 18 2 ++ end
+unfolding readOnly
+overtaken = word 12 ++ body₀ ++ readOnly ++ body₁ ++ release 0 0 ++ release 9 1 ++ release 18 2 ++ end
 
 -- task 2 leaves in word 0 the value that task 1 has loaded there, from task 0
 sameValue : List ℕ
-unfolding lower upper
-sameValue = word 12 ++ lower ++ upper ++ lower ++ release 0 0 ++ release 9 1 ++ release 17 2 ++ end
+sameValue = word 12 ++ body₀ ++ body₁ ++ body₀ ++ release 0 0 ++ release 9 1 ++ release 17 2 ++ end
 
 zeroBlock : List ℕ
 zeroBlock = block 0 (replicate 8 0)
@@ -215,10 +203,11 @@ accepts : Verdict → Bool
 accepts accepted = true
 accepts (turnedDown f place) = false
 
+-- all these runs end before tick 200; a slip may let one go on for ever
 pub allWhole : List (List ℕ) → Bool
 unfolding accepts verdict whole
 allWhole [] = true
-allWhole (s ∷ l) = accepts (verdict s) && whole s 65535 && allWhole l
+allWhole (s ∷ l) = accepts (verdict s) && whole s 200 && allWhole l
 
 -- every sheet of the table is accepted, and its run is a sequence of whole operations
 pub all-whole : allWhole table ≡ true

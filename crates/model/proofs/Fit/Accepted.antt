@@ -11,12 +11,14 @@ use Rattle.model.specs.Lists.{at}
 use Rattle.model.specs.Command.{Command, Row, table, rowBy, rowOf, operand}
 use Rattle.model.specs.Sheet.{Sheet, accepted, verdict, commandsFrom, declared, sheetOf}
 use Rattle.model.specs.Machine.{run, startMachine}
+use Rattle.model.proofs.Lists.{impossible}
 use Rattle.model.proofs.Fit.Sheet.{SheetFit}
 use Rattle.model.proofs.Fit.Machine.{Fit}
 use Rattle.model.proofs.Fit.Reading.{FoundAt, good}
 use Rattle.model.proofs.Fit.Declared.{EightValues}
 use Rattle.model.proofs.Fit.Walk.{walk}
-use Rattle.model.proofs.Fit.Tick.{afterTicks, after-ticks-fit, run-fit, run-now}
+use Rattle.model.proofs.Fit.Tick.{after-ticks-fit, run-fit, run-now}
+use Rattle.model.proofs.Order.Steps.{stateAfter}
 use Rattle.model.proofs.Fit.Start.{start-fit}
 
 -- THE TABLE'S ROWS
@@ -27,7 +29,7 @@ EachRow Q (r ∷ l) = Q r × EachRow Q l
 -- what holds of each row holds of the one that a byte names
 pub row-each : (Q : Row → Type 0) (b : ℕ) (rows : List Row) → EachRow Q rows → (r : Row) → rowOf b rows ≡ some r → Q r
 unfolding rowOf
-row-each Q b [] f r e = let z : _≡_ {A = ℕ} 0 1 = cc in absurd (omega arith)
+row-each Q b [] f r e = impossible (cc)
 row-each Q b (x ∷ rows) f r e = go (eqb b (x .byte)) e (row-each Q b rows (f .1) r)
   where
     go : (t : Bool) → rowBy t x (rowOf b rows) ≡ some r → (rowOf b rows ≡ some r → Q r) → Q r
@@ -65,7 +67,7 @@ accepted-fit bytes e =
 -- EVERY MACHINE OF THE RUN
 module _ (bytes : List ℕ) (e : verdict bytes ≡ accepted) where
   -- after any number of ticks
-  pub every-fit : (n : ℕ) → Fit (sheetOf bytes) (afterTicks n (startMachine (sheetOf bytes)))
+  pub every-fit : (n : ℕ) → Fit (sheetOf bytes) (stateAfter (startMachine (sheetOf bytes)) n)
   every-fit n = let c = accepted-fit bytes e in after-ticks-fit c n (start-fit c)
 
   -- at the end

@@ -14,7 +14,7 @@ use Rattle.model.specs.Fault.{among, Body}
 use Rattle.model.specs.Job.{Touched, untouched, remembered, copied}
 use Rattle.model.specs.Exchange.{Entry, entry}
 use Rattle.model.specs.Transaction.{bank, bankValue, versionOf, nothing?, gather}
-use Rattle.model.proofs.Lists.{same?, replace-same, replace-other, length-replace, at-past, at-replicate}
+use Rattle.model.proofs.Lists.{same?, replace-same, replace-other, length-replace, at-past, at-replicate, impossible}
 use Rattle.model.proofs.Fit.Elements.{or-cases, or-left, or-right}
 use Rattle.model.proofs.Fit.Transaction.{countBy, count, touched?, copied?, BlocksFit}
 use Rattle.model.proofs.Fit.Exchange.{entryOf, EntriesFit}
@@ -114,7 +114,7 @@ not-touched : {P : Type 0} {t : Touched} → t ≡ untouched → touched? t ≡ 
 not-touched e h = absurd (false≢true (rw e at h))
 
 not-copied : {P : Type 0} {t : Touched} {v k : ℕ} → t ≡ untouched → t ≡ copied v k → P
-not-copied e h = let z : _≡_ {A = ℕ} 0 1 = cc in absurd (omega arith)
+not-copied e h = impossible (cc)
 
 copied-touched : (t : Touched) → copied? t ≡ true → touched? t ≡ true
 copied-touched untouched e = e
@@ -161,12 +161,12 @@ module _ {blocks : ℕ} {b : Body} {ts : List Touched} {used : ℕ} (f : BlocksF
         touched = λ q h. by-block (remembered v) q (λ s r. rw s named) (λ r. f .touched q (rw r at h));
         put = λ q h. by-block (remembered v) q (λ s r. absurd (false≢true (rw r at h))) (λ r. f .put q (rw r at h));
         slots = omega (arith, f .slots, count-new (remembered v), not-counted (rw e));
-        slot = λ q w k h. by-block (remembered v) q (λ s r. let z : _≡_ {A = ℕ} 0 1 = cc in absurd (omega arith)) (λ r. f .slot q w k (rw r at h));
+        slot = λ q w k h. by-block (remembered v) q (λ s r. impossible (cc)) (λ r. f .slot q w k (rw r at h));
         different = λ p q u w k h g.
             by-block (remembered v) p
-            (λ s r. let z : _≡_ {A = ℕ} 0 1 = cc in absurd (omega arith))
+            (λ s r. impossible (cc))
             (λ r. by-block (remembered v) q
-            (λ s o. let z : _≡_ {A = ℕ} 0 1 = cc in absurd (omega arith))
+            (λ s o. impossible (cc))
             (λ o. f .different p q u w k (rw r at h) (rw o at g)));
       }
 

@@ -11,6 +11,7 @@ use borrow.Author.Tests.{ltb-true, leb-true, not-true}
 use Rattle.model.specs.Command.{GET, PUT, Command, WORD, BLOCK, TASK, RELEASE, END, LOAD, ADD, READ, PAIR, SWAP, BEGIN, access, COMMIT}
 use Rattle.model.specs.Fault.{bodySection, Body, Known, mayEnd, among, none?, room, faultOf, outside, body?, inPlace, underCeiling, inRange, newWord, rising, firstOf}
 use Rattle.model.specs.Sheet.{after}
+use Rattle.model.proofs.Lists.{impossible}
 use Rattle.model.proofs.Fit.Elements.{and-left, and-right}
 
 -- the commands that stand in a body
@@ -115,11 +116,11 @@ pub record Passed (place ceiling range word rise : Bool) : Type 0 where
 
 pub passed : (a b c d e : Bool) → firstOf a b c d e ≡ none → Passed a b c d e
 unfolding firstOf
-passed false b c d e q = let z : _≡_ {A = ℕ} 0 1 = cc in absurd (omega arith)
-passed true false c d e q = let z : _≡_ {A = ℕ} 0 1 = cc in absurd (omega arith)
-passed true true false d e q = let z : _≡_ {A = ℕ} 0 1 = cc in absurd (omega arith)
-passed true true true false e q = let z : _≡_ {A = ℕ} 0 1 = cc in absurd (omega arith)
-passed true true true true false q = let z : _≡_ {A = ℕ} 0 1 = cc in absurd (omega arith)
+passed false b c d e q = impossible (cc)
+passed true false c d e q = impossible (cc)
+passed true true false d e q = impossible (cc)
+passed true true true false e q = impossible (cc)
+passed true true true true false q = impossible (cc)
 passed true true true true true q = record { inPlace = refl; underCeiling = refl; inRange = refl; newWord = refl; rising = refl }
 
 pub passedOf : (k : Known) (c : Command) → faultOf k c ≡ none → Passed (inPlace k c) (underCeiling k c) (inRange (k .counts) c) (newWord (k .body) c) (rising k c)

@@ -19,7 +19,7 @@ use Rattle.model.proofs.Fit.RangesTransaction.{no-entry-range}
 use Rattle.model.proofs.Fit.RangesStatement.{zeros-range, after-ticks-range}
 use Rattle.model.proofs.Fit.Reading.{FoundAt, Good, ending, going, good}
 use Rattle.model.proofs.Fit.Accepted.{EachRow, row-each, accepted-fit}
-use Rattle.model.proofs.Fit.Tick.{ran, afterTicks}
+use Rattle.model.proofs.Order.Steps.{stateAfter, stopped}
 use Rattle.model.proofs.Fit.Start.{start-fit}
 
 -- the numbers of a sheet
@@ -177,8 +177,8 @@ module _ (bytes : List ℕ) (small : (i : ℕ) → getD bytes i 0 < 256) (e : ve
   unfolding sheetOf
   sheet-range = walk-range (good bytes Numbers (numbers bytes small) e) .sheet
 
-  pub every-range : (n : ℕ) → Ranges (afterTicks n (startMachine (sheetOf bytes)))
+  pub every-range : (n : ℕ) → Ranges (stateAfter (startMachine (sheetOf bytes)) n)
   every-range n = let c = accepted-fit bytes e in after-ticks-range c n (start-fit c) (start-range c sheet-range)
 
   pub final-range : (limit : ℕ) → Ranges (run limit (startMachine (sheetOf bytes)))
-  final-range limit = let r = ran limit (startMachine (sheetOf bytes)) in subst Ranges (sym (r .result)) (every-range (r .ticks))
+  final-range limit = let r = stopped limit (startMachine (sheetOf bytes)) in subst Ranges (sym (r .state)) (every-range (r .ticks))

@@ -18,7 +18,8 @@ use Rattle.model.proofs.Fit.Elements.{replace-all, append-all, replicat
 use Rattle.model.proofs.Fit.Sheet.{SheetFit}
 use Rattle.model.proofs.Fit.Machine.{PhaseFit, TaskFit, Fit}
 use Rattle.model.proofs.Fit.Running.{RunningFit, running-fit}
-use Rattle.model.proofs.Fit.Tick.{tasks-of, arrive-fit, arrived-fit, declared, afterTicks, after-ticks-fit}
+use Rattle.model.proofs.Fit.Tick.{tasks-of, arrive-fit, arrived-fit, declared, after-ticks-fit}
+use Rattle.model.proofs.Order.Steps.{stateAfter}
 use Rattle.model.proofs.Fit.Ranges.{Value, MemoryRange, ReadRange, EntryRange, CommandsRange, PhaseRange, TaskRange, Ranges}
 use Rattle.model.proofs.Fit.RangesExchange.{read-range, ExchangedRange, exchange-range}
 use Rattle.model.proofs.Fit.RangesTransaction.{TurnRange, no-entry, no-entry-range, done-range, in-phase-range, fresh-range, within-range, loaded-range, added-range, transaction-range}
@@ -107,7 +108,7 @@ module _ {s : Sheet} (c : SheetFit s) where
   unfolding move
   move-range f k nobody r = record { memory = k .memory; task = k .task }
   move-range {m} f k (running p) r =
-      let h = declared c (tasks-of f) r in
+      let h = declared c (tasks-of f) p (r .unfinished) in
       let u = statement-range (k .memory) (k .task p) p (omega (arith, h, c .bodies)) (f .task p h) in
       record { memory = u .memory; task = replace-all noTask TaskRange (m .tasks) p _ (ticked-range (u .task)) (k .task) }
 
@@ -117,7 +118,7 @@ module _ {s : Sheet} (c : SheetFit s) where
       let n : Machine = arrive (m .releases) m in
       move-range (arrived-fit (arrive-fit c f)) (arrive-range (m .releases) m k) (runningOf (n .tasks)) (running-fit (n .tasks))
 
-  pub after-ticks-range : (n : ℕ) {m : Machine} → Fit s m → Ranges m → Ranges (afterTicks n m)
-  unfolding afterTicks
+  pub after-ticks-range : (n : ℕ) {m : Machine} → Fit s m → Ranges m → Ranges (stateAfter m n)
+  unfolding stateAfter
   after-ticks-range zero f k = k
   after-ticks-range (suc n) f k = tick-range (after-ticks-fit c n f) (after-ticks-range n f k)

@@ -12,6 +12,7 @@ use Rattle.model.specs.Refusal.{Refusal}
 use Rattle.model.specs.Command.{Command, WORD, BLOCK, TASK, RELEASE, END, LOAD, ADD, READ, PAIR, SWAP, BEGIN, access, COMMIT, Row, table, rowOf, total, operand, Found, found, refused, foundWhole, foundRow, foundByte, commandAt}
 use Rattle.model.specs.Fault.{Known, nothingKnown, faultOf}
 use Rattle.model.specs.Sheet.{after, accepted, turnedDown, end?, atEnd, judgeEnd, judgeFault, judge, verdictFrom, verdict, commandsFrom}
+use Rattle.model.proofs.Lists.{impossible}
 
 -- A COMMAND FOUND AT A PLACE: its row of the table, with the operands from the next byte on
 pub record FoundAt (sheet : List ℕ) (place : ℕ) (c : Command) (next : ℕ) : Type 0 where
@@ -28,17 +29,17 @@ module _ (sheet : List ℕ) (place : ℕ) {c : Command} {next : ℕ} where
       let onward : next ≡ suc place + total (r .widths) = cc in
       let fits = leb-true (suc place + total (r .widths)) (length sheet) e in
       record { row = r; byte = q; command = cc; onward = onward; whole = omega arith }
-  whole-found r q false e f = let z : _≡_ {A = ℕ} 0 1 = cc in absurd (omega arith)
+  whole-found r q false e f = impossible (cc)
 
   row-found : (o : Option Row) → rowOf (getD sheet place 0) table ≡ o → foundRow sheet place o ≡ found c next → FoundAt sheet place c next
   unfolding foundRow
-  row-found none q f = let z : _≡_ {A = ℕ} 0 1 = cc in absurd (omega arith)
+  row-found none q f = impossible (cc)
   row-found (some r) q f = whole-found r q (leb (suc place + total (r .widths)) (length sheet)) refl f
 
   byte-found : (b : Bool) → foundByte b sheet place ≡ found c next → FoundAt sheet place c next
   unfolding foundByte
   byte-found true f = row-found (rowOf (getD sheet place 0) table) refl f
-  byte-found false f = let z : _≡_ {A = ℕ} 0 1 = cc in absurd (omega arith)
+  byte-found false f = impossible (cc)
 
   pub found-at : commandAt sheet place ≡ found c next → FoundAt sheet place c next
   unfolding commandAt
@@ -57,7 +58,7 @@ pub data Good (P : Command → Type 0) : Known → List Command → Type 0 where
 
 module _ (sheet : List ℕ) (P : Command → Type 0) (holds : (place : ℕ) (c : Command) (next : ℕ) → FoundAt sheet place c next → P c) where
   not-accepted : {f : Refusal} {place : ℕ} → {A : Type 0} → turnedDown f place ≡ accepted → A
-  not-accepted e = let z : _≡_ {A = ℕ} 0 1 = cc in absurd (omega arith)
+  not-accepted e = impossible (cc)
 
   is-end : (c : Command) → end? c ≡ true → c ≡ END
   is-end END e = refl

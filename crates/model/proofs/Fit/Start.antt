@@ -22,7 +22,7 @@ pub filled-size : {A : Type 0} (n : ℕ) (d : A) (l : List A) → length l ≤ n
 unfolding filled
 filled-size n d l h = omega (arith, length-append l (replicate (n - length l) d), length-replicate (n - length l) d)
 
-banks-size : (store : ℕ) (bs : List Block) → length (banksFrom store bs) ≡ length bs
+pub banks-size : (store : ℕ) (bs : List Block) → length (banksFrom store bs) ≡ length bs
 unfolding banksFrom
 banks-size store [] = refl
 banks-size store (b ∷ bs) = ap suc (banks-size (suc store) bs)
@@ -67,7 +67,7 @@ module _ {s : Sheet} (c : SheetFit s) where
 abbrev pub startTask : List Command → ℕ → Task
 startTask body p = record { body = body; commands = []; phase = idle; registers = replicate registers 0; pairs = []; copies = copiesOf p; finished = 0; spent = 0; rejected = 0; ticks = 0 }
 
-tasks-size : (p : ℕ) (bodies : List (List Command)) → length (tasksFrom p bodies) ≡ length bodies
+pub tasks-size : (p : ℕ) (bodies : List (List Command)) → length (tasksFrom p bodies) ≡ length bodies
 unfolding tasksFrom
 tasks-size p [] = refl
 tasks-size p (b ∷ bodies) = ap suc (tasks-size (suc p) bodies)

@@ -12,16 +12,17 @@ use Rattle.model.specs.Command.{Command, Release}
 use Rattle.model.specs.Fault.{Body}
 use Rattle.model.specs.Sheet.{Sheet}
 use Rattle.model.specs.Job.{Task, Turn, started, ticked}
-use Rattle.model.specs.Machine.{noTask, taskAt, Machine, machine, unfinished, releaseBy, arriveBy, arrive, Running, nobody, running, runningOf, move, moveAny, tick, over, runBy, run}
+use Rattle.model.specs.Machine.{noTask, taskAt, Machine, machine, unfinished, releaseBy, arriveBy, arrive, Running, nobody, running, runningOf, move, moveAny, tick, run}
 use Rattle.model.proofs.Lists.{replace-same, replace-other, length-replace, same?}
 use Rattle.model.proofs.Fit.Body.{Faultless}
 use Rattle.model.proofs.Fit.Sheet.{BodyFit, SheetFit, ReleasesFit, releaseAt}
 use Rattle.model.proofs.Fit.Machine.{OutsideFit, PlainFit, TaskFit, DeclaredFit, Fit}
 use Rattle.model.proofs.Fit.Outside.{no-entries, no-unloaded, TurnFit}
 use Rattle.model.proofs.Fit.Memory.{MemoryFit}
+use Rattle.model.proofs.Order.Steps.{stateAfter, stopped}
 use Rattle.model.proofs.Fit.Elements.{below?}
 use Rattle.model.proofs.Fit.Statement.{statement-fit}
-use Rattle.model.proofs.Fit.Running.{Highest, RunningFit, running-fit}
+use Rattle.model.proofs.Fit.Running.{RunningFit, running-fit, busy}
 
 -- TASKS
 -- a body is not empty and starts outside a transaction with no PAIR waiting
@@ -177,7 +178,7 @@ arrive-now (r ∷ l) m = go (eqb (r .tick) (m .now)) (arrive-now l)
     go true on = released (unfinished (taskAt (m .tasks) (r .task) .phase)) on
     go false on = refl
 
-move-now : (m : Machine) (r : Running) → move m r .now ≡ suc (m .now)
+pub move-now : (m : Machine) (r : Running) → move m r .now ≡ suc (m .now)
 unfolding move
 move-now m nobody = refl
 move-now m (running p) = refl
@@ -192,16 +193,16 @@ module _ {s : Sheet} (c : SheetFit s) where
   waited f p h = waited-fit (f .task p h)
 
   -- a task with an unfinished job is one that the sheet declares
-  pub declared : {now : ℕ} {ts : List Task} {p : ℕ} → TasksFit s now ts → Highest ts p → p < length (s .bodies)
-  declared {ts = ts} {p} f h =
+  pub declared : {now : ℕ} {ts : List Task} → TasksFit s now ts → (p : ℕ) → busy ts p ≡ true → p < length (s .bodies)
+  declared {ts = ts} f p h =
       below? p (length (s .bodies)) (λ l. l)
-      (λ l. absurd (false≢true (ap (λ (t : Task). unfinished (t .phase)) (sym (f .undeclared p l)) ∙ h .unfinished)))
+      (λ l. absurd (false≢true (ap (λ (t : Task). unfinished (t .phase)) (sym (f .undeclared p l)) ∙ h)))
 
   move-fit : {m : Machine} → ArrivedFit s (m .now) m → (r : Running) → RunningFit (m .tasks) r → Fit s (move m r)
   unfolding move
   move-fit {m} a nobody r = record { memory = a .memory; tasks = a .tasks .size; task = waited (a .tasks); undeclared = a .tasks .undeclared; releases = a .releases; dropped = a .dropped }
   move-fit {m} a (running p) r =
-      let h = declared (a .tasks) r in
+      let h = declared (a .tasks) p (r .unfinished) in
       let t : Task = taskAt (m .tasks) p in
       let f = a .tasks .task p h in
       let u = statement-fit (c .blocks) (a .memory) t (f .registers) (f .copies) p (f .phase) in
@@ -216,45 +217,18 @@ module _ {s : Sheet} (c : SheetFit s) where
       move-fit (subst (λ (z : ℕ). ArrivedFit s z n) (sym (a .time)) a) (runningOf (n .tasks)) (running-fit (n .tasks))
 
 -- MANY TICKS
--- the machine after that many ticks
-unfoldable pub afterTicks : ℕ → Machine → Machine
-unfolding tick
-afterTicks zero m = m
-afterTicks (suc n) m = tick (afterTicks n m)
-
-pub after-ticks-fit : {s : Sheet} → SheetFit s → (n : ℕ) {m : Machine} → Fit s m → Fit s (afterTicks n m)
-unfolding afterTicks
+pub after-ticks-fit : {s : Sheet} → SheetFit s → (n : ℕ) {m : Machine} → Fit s m → Fit s (stateAfter m n)
+unfolding stateAfter
 after-ticks-fit c zero f = f
 after-ticks-fit c (suc n) f = tick-fit c (after-ticks-fit c n f)
 
-pub after-ticks-now : (n : ℕ) (m : Machine) → afterTicks n m .now ≡ m .now + n
-unfolding afterTicks
+after-ticks-now : (n : ℕ) (m : Machine) → stateAfter m n .now ≡ m .now + n
+unfolding stateAfter
 after-ticks-now zero m = omega arith
-after-ticks-now (suc n) m = omega (arith, tick-now (afterTicks n m), after-ticks-now n m)
-
--- one more tick at the start
-after-ticks-suc : (n : ℕ) (m : Machine) → afterTicks n (tick m) ≡ afterTicks (suc n) m
-unfolding afterTicks
-after-ticks-suc zero m = refl
-after-ticks-suc (suc n) m = ap tick (after-ticks-suc n m)
-
--- a run is some number of ticks, at most the limit
-pub record Ran (limit : ℕ) (m last : Machine) : Type 0 where
-  pub ticks : ℕ
-  pub most : ticks ≤ limit
-  pub result : last ≡ afterTicks ticks m
-
-pub ran : (limit : ℕ) (m : Machine) → Ran limit m (run limit m)
-unfolding run afterTicks
-ran zero m = record { ticks = 0; most = omega arith; result = refl }
-ran (suc n) m = go (over m) (ran n (tick m))
-  where
-    go : (b : Bool) → Ran n (tick m) (run n (tick m)) → Ran (suc n) m (runBy b (run n) m)
-    go true r = record { ticks = 0; most = omega arith; result = refl }
-    go false r = record { ticks = suc (r .ticks); most = omega (arith, r .most); result = r .result ∙ after-ticks-suc (r .ticks) m }
+after-ticks-now (suc n) m = omega (arith, tick-now (stateAfter m n), after-ticks-now n m)
 
 pub run-fit : {s : Sheet} → SheetFit s → (limit : ℕ) {m : Machine} → Fit s m → Fit s (run limit m)
-run-fit {s} c limit {m} f = let r = ran limit m in subst (λ (z : Machine). Fit s z) (sym (r .result)) (after-ticks-fit c (r .ticks) f)
+run-fit {s} c limit {m} f = let r = stopped limit m in subst (λ (z : Machine). Fit s z) (sym (r .state)) (after-ticks-fit c (r .ticks) f)
 
 pub run-now : (limit : ℕ) (m : Machine) → run limit m .now ≤ m .now + limit
-run-now limit m = let r = ran limit m in omega (arith, ap (λ (z : Machine). z .now) (r .result), after-ticks-now (r .ticks) m, r .most)
+run-now limit m = let r = stopped limit m in omega (arith, ap (λ (z : Machine). z .now) (r .state), after-ticks-now (r .ticks) m, r .most)

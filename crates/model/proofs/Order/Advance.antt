@@ -4,11 +4,10 @@ use mathlib.Core.Bool.{true, false}
 use mathlib.Core.Path.{_≡_, refl, _∙_}
 use mathlib.Core.Logic.{_≢_, _⊎_}
 use mathlib.Core.Option.{Option, none, some}
-use native.Mathlib.Omega.{arith}
 use Rattle.model.specs.Plain.{Contents}
 use Rattle.model.specs.History.{Operation, History, operationAt}
 use Rattle.model.specs.Claim.{countedBy, Counts, Interfered, Replays, plain, freely}
-use Rattle.model.proofs.Lists.{same?}
+use Rattle.model.proofs.Lists.{same?, impossible}
 
 -- o, open before tick u, is o′ after it; one that counts goes on counting with the same answers
 pub record Amended (u : ℕ) (o o′ : Operation) : Type 0 where
@@ -46,7 +45,7 @@ pub data Advance (u : ℕ) (h h′ : History) : Type 0 where
 
 -- one that counts is there
 pub counted-some : (x : Option Operation) → countedBy x ≡ true → (o : Operation) × (x ≡ some o)
-counted-some none e = let z : _≡_ {A = ℕ} 0 1 = cc in absurd (omega arith)
+counted-some none e = impossible (cc)
 counted-some (some o) e = (o, refl)
 
 -- operation b is in h′ what it is in h, or has been amended
@@ -61,7 +60,7 @@ module _ {u : ℕ} {h h′ : History} (step : Advance u h h′) where
       go : Advance u h h′ → Carried u h′ b o
       go (same e) = kept (e b ∙ is)
       go (begins n) = same? b u
-          (λ e. let f = n .free in let g : operationAt h u ≡ some o = rw e at is in let z : _≡_ {A = ℕ} 0 1 = cc in absurd (omega arith))
+          (λ e. let f = n .free in let g : operationAt h u ≡ some o = rw e at is in impossible (cc))
           (λ ne. kept (n .changed .else b ne ∙ is))
       go (amends m) = same? b (m .number)
           (λ e.
@@ -85,7 +84,7 @@ module _ {u : ℕ} {h h′ : History} (step : Advance u h h′) where
     where
       go : Carried u h′ b o → operationAt h′ b ≡ some o
       go (kept e) = e
-      go (amended o′ e m) = let f = m .unended in let z : _≡_ {A = ℕ} 0 1 = cc in absurd (omega arith)
+      go (amended o′ e m) = let f = m .unended in impossible (cc)
 
   -- no operation begins twice, so the free answer's ground stays
   pub interfered-kept : {a : ℕ} {o : Operation} → Interfered h a o → Interfered h′ a o

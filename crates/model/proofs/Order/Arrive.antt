@@ -3,16 +3,15 @@ use Prim.Native.Nat.{ℕ, _<_}
 use mathlib.Core.Bool.{Bool, true, false}
 use mathlib.Core.Path.{_≡_, refl, _∙_}
 use mathlib.Core.List.{List, [], _∷_}
-use native.Mathlib.Omega.{arith}
 use lib.Dec.{eqb, ltb}
 use lib.ListN.{length}
 use borrow.Author.Tests.{ltb-true, ltb-false}
 use Rattle.model.specs.Lists.{at, replace}
 use Rattle.model.specs.Command.{Release}
 use Rattle.model.specs.Job.{Phase, idle, plain, reading, exchanging, transacting, Task, started}
-use Rattle.model.specs.Machine.{Machine, noTask, taskAt, unfinished, nobody, running, runningOf, releaseBy, arriveBy, arrive}
-use Rattle.model.proofs.Fit.Running.{running-highest, nobody-none}
-use Rattle.model.proofs.Lists.{same?, test?, replace-same, replace-other, length-replace, replace-past}
+use Rattle.model.specs.Machine.{Machine, noTask, taskAt, unfinished, nobody, runningOf, releaseBy, arriveBy, arrive}
+use Rattle.model.proofs.Fit.Running.{Highest, nobody-none}
+use Rattle.model.proofs.Lists.{same?, test?, replace-same, replace-other, length-replace, replace-past, impossible}
 
 pub idle-phase : (f : Phase) → unfinished f ≡ false → f ≡ idle
 idle-phase idle e = refl
@@ -30,7 +29,7 @@ arrived-twice : {t t′ t″ : Task} → TaskArrived t t′ → TaskArrived t′
 arrived-twice (waits e) (waits f) = waits (f ∙ e)
 arrived-twice (waits e) (starts i f) = starts (rw e at i) (rw e at f)
 arrived-twice (starts i e) (waits f) = starts i (f ∙ e)
-arrived-twice (starts i e) (starts j f) = let z : _≡_ {A = Phase} plain idle = rw e at j in let y : _≡_ {A = ℕ} 0 1 = cc in absurd (omega arith)
+arrived-twice (starts i e) (starts j f) = let z : _≡_ {A = Phase} plain idle = rw e at j in impossible (cc)
 
 pub record Arrived (m m′ : Machine) : Type 0 where
   pub memory : m′ .memory ≡ m .memory
@@ -64,13 +63,8 @@ arrived [] m = record { memory = refl; now = refl; size = refl; task = λ q. wai
 arrived (r ∷ l) m = arrive-by (eqb (r .tick) (m .now)) (arrive l) r l m (arrived l)
 
 -- THE TASK THAT RUNS: no higher one has an unfinished job
-pub record Runs (ts : List Task) (p : ℕ) : Type 0 where
-  pub below : p < length ts
-  pub unfinished : unfinished (taskAt ts p .phase) ≡ true
-  pub highest : (q : ℕ) → p < q → taskAt ts q .phase ≡ idle
-
-pub runs : (ts : List Task) (p : ℕ) → runningOf ts ≡ running p → Runs ts p
-runs ts p e = let h = running-highest e in record { below = h .below; unfinished = h .unfinished; highest = λ q l. idle-phase (taskAt ts q .phase) (h .above q l) }
+pub above-idle : {ts : List Task} {p : ℕ} → Highest ts p → (q : ℕ) → p < q → taskAt ts q .phase ≡ idle
+above-idle {ts} h q l = idle-phase (taskAt ts q .phase) (h .above q l)
 
 pub none-runs : (ts : List Task) → runningOf ts ≡ nobody → (q : ℕ) → taskAt ts q .phase ≡ idle
 none-runs ts e q = idle-phase (taskAt ts q .phase) (nobody-none ts e q)

@@ -1,10 +1,10 @@
 -- The claim on three small runs: an order that time decides, an order that the answers decide, and P5, where a no rests on the free answer alone.
-use Prim.Native.Nat.{ℕ, zero, suc, _+_}
-use mathlib.Core.Bool.{Bool, true, false}
+use Prim.Native.Nat.{ℕ}
+use mathlib.Core.Bool.{true, false}
 use mathlib.Core.Path.{_≡_, refl}
 use mathlib.Core.Logic.{_≢_, _⊎_, inl, inr}
 use mathlib.Core.List.{List, [], _∷_, _++_}
-use mathlib.Core.Option.{Option, none, some}
+use mathlib.Core.Option.{none, some}
 use native.Mathlib.Omega.{arith}
 use lib.ListN.{replicate}
 use Rattle.model.specs.Lists.{at, replace}
@@ -13,21 +13,12 @@ use Rattle.model.specs.Word.{current}
 use Rattle.model.specs.Machine.{run, startMachine}
 use Rattle.model.specs.Plain.{Contents, Pair, readOf, swapOf, result, plainly}
 use Rattle.model.specs.History.{Operation, History, historyOf}
-use Rattle.model.specs.Claim.{countedBy, Counts, each, Interfered, Replays, plain, freely, over, then, In, EndedBefore, WholeOperations}
+use Rattle.model.specs.Claim.{Counts, each, Interfered, Replays, plain, freely, over, then, In, EndedBefore, WholeOperations}
 use Rattle.model.proofs.WholeCases.{listedBy, counted}
-use Rattle.model.proofs.Bytes.{word, task, release, end, load, read, pair, swap}
+use Rattle.model.proofs.Sheets.{body₁, bodyTwoWords, against}
+use Rattle.model.proofs.Bytes.{word, task, release, end, read}
+use Rattle.model.proofs.Order.Counted.{in-counted}
 use Rattle.model.proofs.Order.Ordered.{Ordered, whole-operations, ended-before}
-
--- the operations that count are all in their list
-in-counted : (i : ℕ) (l : List (Option Operation)) (a b : ℕ) → i + a ≡ b → countedBy (at none l a) ≡ true → In b (counted i l)
-unfolding at counted listedBy
-in-counted i [] a b s e = absurd (let z : _≡_ {A = ℕ} 0 1 = cc in omega arith)
-in-counted i (o ∷ l) zero b s e = rw e (inl (omega arith))
-in-counted i (o ∷ l) (suc a) b s e = go (countedBy o) (in-counted (suc i) l a b (omega arith) e)
-  where
-    go : (c : Bool) → In b (counted (suc i) l) → In b (listedBy c i (counted (suc i) l))
-    go true h = inr h
-    go false h = h
 
 -- a history of two operations that count, x before y
 module _ (h : History) (x y : ℕ) {c c′ c″ : Contents} where
@@ -85,11 +76,7 @@ reads-whole = whole-operations reads 65535 refl refl refl reads-ordered
 
 -- P4: task 0 exchanges 12 for 5 in word 0. Task 1 comes after its Commit, finds 5 instead of 12 and says no; only the answers decide the order.
 pub sheetP4 : List ℕ
-sheetP4 =
-    word 12
-    ++ task ++ load 1 12 ++ load 2 5 ++ pair 0 1 2 ++ swap 0
-    ++ task ++ load 1 12 ++ load 2 7 ++ pair 0 1 2 ++ swap 0
-    ++ release 0 0 ++ release 11 1 ++ end
+sheetP4 = against (word 12) body₁ 11
 
 abbrev lowerP4 : Operation
 lowerP4 = record { task = 0; arguments = swapOf (pairOf 0 12 5 ∷ []); last = some 22; committed = true; spent = false; answers = 1 ∷ [] }
@@ -133,11 +120,7 @@ cut-whole = whole-operations sheetP4 11 refl refl refl cut-ordered
 -- P5: task 1 also names word 1, which is 22 and not 0, so its no rests on that word. Task 0's word was 12 all the while:
 -- its no rests on the free answer alone, since task 1's exchange with a changing pair on word 0 began inside it.
 pub sheetP5 : List ℕ
-sheetP5 =
-    word 12 ++ word 22
-    ++ task ++ load 1 12 ++ load 2 5 ++ pair 0 1 2 ++ swap 0
-    ++ task ++ load 1 12 ++ load 2 7 ++ pair 0 1 2 ++ pair 1 3 2 ++ swap 0
-    ++ release 0 0 ++ release 9 1 ++ end
+sheetP5 = against (word 12 ++ word 22) bodyTwoWords 9
 
 abbrev lowerP5 : Operation
 lowerP5 = record { task = 0; arguments = swapOf (pairOf 0 12 5 ∷ []); last = some 31; committed = false; spent = false; answers = 0 ∷ [] }

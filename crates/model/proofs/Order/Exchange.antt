@@ -1,11 +1,13 @@
 -- What a tick of an exchange means for its operation: the pairs stay, and it has said yes from the Commit on that turned status 0 into 2.
 use Prim.Native.Nat.{ℕ, suc}
 use mathlib.Core.Bool.{Bool, true, false, _&&_, _||_, true≢false}
-use mathlib.Core.Path.{_≡_, refl, sym}
+use mathlib.Core.Path.{_≡_, refl, sym, subst}
+use mathlib.Core.Logic.{_≢_}
 use mathlib.Core.List.{List, map}
 use lib.Dec.{eqb}
 use lib.ListN.{length}
 use lib.Seq.{map-set-same}
+use borrow.Author.Tests.{eqb-true, eqb-false}
 use Rattle.model.specs.Lists.{at, replace}
 use Rattle.model.specs.Word.{Word, sameWord, Memory, cellOf, statusOf, setCell, setStatus, own}
 use Rattle.model.specs.Exchange.{Entry, entry, Step, start, test, load, look, fetch, save, fail, mark, install, commit, clean, cleanMark, Exchange, Exchanged, goes, ends, entryAt, changing, installed, cleaned, loaded, testBy, lookBy, afterSave, installBy, cleanBy, commitBy, nextBy, next, cleanWordBy, exchangeTick}
@@ -57,6 +59,23 @@ step-event p m install f = refl
 step-event p m (save v) f = refl
 step-event p m (clean j yes?) f = refl
 step-event p m (cleanMark j yes?) f = refl
+
+pub says-commit : (p : ℕ) (m : Memory) (s : Step) → saysYes p m s ≡ true → (s ≡ commit) × (statusOf m p ≡ 0)
+says-commit p m commit e = (refl, eqb-true _ _ e)
+says-commit p m start e = absurd (true≢false (sym e))
+says-commit p m test e = absurd (true≢false (sym e))
+says-commit p m load e = absurd (true≢false (sym e))
+says-commit p m look e = absurd (true≢false (sym e))
+says-commit p m fetch e = absurd (true≢false (sym e))
+says-commit p m fail e = absurd (true≢false (sym e))
+says-commit p m mark e = absurd (true≢false (sym e))
+says-commit p m install e = absurd (true≢false (sym e))
+says-commit p m (save v) e = absurd (true≢false (sym e))
+says-commit p m (clean j yes?) e = absurd (true≢false (sym e))
+says-commit p m (cleanMark j yes?) e = absurd (true≢false (sym e))
+
+pub says-not : (p : ℕ) (m : Memory) (s : Step) → saysYes p m s ≡ false → s ≡ commit → statusOf m p ≢ 0
+says-not p m s e c = eqb-false _ _ (subst (λ (z : Step). saysYes p m z ≡ false) c e)
 
 -- it says yes but once
 pub yes-once : (p : ℕ) (m : Memory) (s : Step) → saysYes p m s ≡ true → saidYes s ≡ false
@@ -119,9 +138,9 @@ module _ (p : ℕ) (m : Memory) (x : Exchange) where
   commit-follows true e = clean-begins (eqb (x .i) 0) true (setStatus m p 2) e
   commit-follows false e = clean-begins (eqb (x .i) 0) false m e
 
-  or-false : (b : Bool) → b ≡ (b || false)
-  or-false true = refl
-  or-false false = refl
+  or-same : (b : Bool) → b ≡ (b || false)
+  or-same true = refl
+  or-same false = refl
 
   next-by : (b : Bool) (n : Memory) (j : ℕ) (yes? : Bool) (s : Step) → (saidYes s || saysYes p m s) ≡ yes? → Follows p m x s (nextBy b n x j yes?)
   unfolding nextBy
@@ -134,11 +153,11 @@ module _ (p : ℕ) (m : Memory) (x : Exchange) where
 
   clean-follows : (a b c : Bool) (e : Entry) (j : ℕ) (yes? : Bool) → Follows p m x (clean j yes?) (cleanWordBy a b c p m x e j yes?)
   unfolding cleanWordBy
-  clean-follows true true c e j yes? = next-follows (setCell m (e .cell) (cleaned p e)) j yes? (clean j yes?) (sym (or-false yes?))
-  clean-follows true false c e j yes? = next-follows m j yes? (clean j yes?) (sym (or-false yes?))
-  clean-follows false true c e j yes? = next-follows (setCell m (e .cell) (e .init)) j yes? (clean j yes?) (sym (or-false yes?))
-  clean-follows false false true e j yes? = record { pairs = refl; yes = or-false yes? }
-  clean-follows false false false e j yes? = next-follows m j yes? (clean j yes?) (sym (or-false yes?))
+  clean-follows true true c e j yes? = next-follows (setCell m (e .cell) (cleaned p e)) j yes? (clean j yes?) (sym (or-same yes?))
+  clean-follows true false c e j yes? = next-follows m j yes? (clean j yes?) (sym (or-same yes?))
+  clean-follows false true c e j yes? = next-follows (setCell m (e .cell) (e .init)) j yes? (clean j yes?) (sym (or-same yes?))
+  clean-follows false false true e j yes? = record { pairs = refl; yes = or-same yes? }
+  clean-follows false false false e j yes? = next-follows m j yes? (clean j yes?) (sym (or-same yes?))
 
   pub follows : (s : Step) → Follows p m x s (exchangeTick p m x s)
   unfolding exchangeTick
@@ -153,4 +172,4 @@ module _ (p : ℕ) (m : Memory) (x : Exchange) where
   follows install = install-follows (sameWord (cellOf m (entryAt x (x .i) .cell)) (entryAt x (x .i) .init)) (entryAt x (x .i))
   follows commit = commit-follows (eqb (statusOf m p) 0) refl
   follows (clean j yes?) = clean-follows (yes? && changing (entryAt x j)) (sameWord (cellOf m (entryAt x j .cell)) (installed p (entryAt x j) j)) (entryAt x j .overlapped) (entryAt x j) j yes?
-  follows (cleanMark j yes?) = next-follows (setStatus m (entryAt x j .init .task) 1) j yes? (cleanMark j yes?) (sym (or-false yes?))
+  follows (cleanMark j yes?) = next-follows (setStatus m (entryAt x j .init .task) 1) j yes? (cleanMark j yes?) (sym (or-same yes?))

@@ -9,7 +9,7 @@ use native.Mathlib.Omega.{arith}
 use Rattle.model.specs.Plain.{Contents}
 use Rattle.model.specs.History.{Operation, History, operationAt}
 use Rattle.model.specs.Claim.{countedBy, Counts, Replays, In, Once}
-use Rattle.model.proofs.Lists.{same?, test?}
+use Rattle.model.proofs.Lists.{same?, test?, impossible}
 use Rattle.model.proofs.Order.Ordered.{Ordered}
 use Rattle.model.proofs.Order.Log.{More, more-last, Stands, Log, stop, log-in, log-passes, log-commits, place, replayed, timely}
 use Rattle.model.proofs.Order.Advance.{AmendedAt, Advance, same, begins, amends, Carried, kept, amended, counted-some, carried, replays-kept}
@@ -51,7 +51,7 @@ module _ (contents : ℕ → Contents) where
         at-last o is (amended o″ e m) o′ l is′ lasts = go (m .last)
           where
             go : (o″ .last ≡ none) ⊎ (o″ .last ≡ some u) → s ≤ l
-            go (inl n) = let z : _≡_ {A = ℕ} 0 1 = cc in absurd (omega arith)
+            go (inl n) = impossible (cc)
             go (inr n) = let z : u ≡ l = cc in omega arith
 
     old-log : Log contents h′ u 0 (log .order)
@@ -95,7 +95,7 @@ module _ (contents : ℕ → Contents) where
     ends-now m o l is lasts = let now = m .changed .here in go (m .amended .last)
       where
         go : (m .after .last ≡ none) ⊎ (m .after .last ≡ some u) → u ≤ l
-        go (inl n) = let z : _≡_ {A = ℕ} 0 1 = cc in absurd (omega arith)
+        go (inl n) = impossible (cc)
         go (inr n) = let z : u ≡ l = cc in omega arith
 
     pub logged-next : Logged (suc u) h′
@@ -121,7 +121,7 @@ module _ (contents : ℕ → Contents) where
     order = [];
     log = stop refl;
     once = tt;
-    all = λ a n. let e = r .empty a in let z : _≡_ {A = ℕ} 0 1 = cc in absurd (omega arith);
+    all = λ a n. let e = r .empty a in impossible (cc);
     only = λ a i. absurd i;
   }
   logged r (suc t) = logged-next (r .advance t) (r .settles t) (logged r t)

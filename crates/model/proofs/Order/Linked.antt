@@ -13,7 +13,7 @@ use Rattle.model.specs.History.{Operation, History, operationAt, Event, 
 use Rattle.model.specs.Claim.{countedBy}
 use Rattle.model.specs.Job.{Task}
 use Rattle.model.specs.Machine.{taskAt}
-use Rattle.model.proofs.Lists.{at-past}
+use Rattle.model.proofs.Lists.{at-past, impossible}
 use Rattle.model.proofs.Order.Advance.{Amended, Changed, Advance}
 use Rattle.model.proofs.Order.Advance.{same as advanceSame, begins as advanceBegins, amends as advanceAmends}
 use Rattle.model.proofs.Order.Moves.{given, hasCommitted, Settling, Moves, outside, begun, goesOn, answers, readEnds, swapCommits, swapEnds, swapCommitsAndEnds, swapRejected, transactionCommits, transactionEnds, transactionCommitsAndEnds, nothingTouched, endsSpent}
@@ -176,7 +176,7 @@ module _ (u p : ℕ) (h : History) (size : length (h .began) ≡ u) (latest : le
   next (swapEnds {ps}) o = amends-next o _ none _ (committed-ends u o _ (sym (o .said ps refl refl))) (λ c. tt)
   next swapCommitsAndEnds o = amends-next o _ none _ (uncommitted u o _ refl refl (inr refl)) (λ c. tt)
   next swapRejected o = amends-next o _ none _ (uncommitted u o _ refl refl (inr refl)) (λ c. tt)
-  next transactionCommits o = amends-next o _ _ _ (uncommitted u o _ refl refl (inl (o .unended))) (λ c. stays o _ true c refl refl (o .unended) refl refl (λ ps e y. let z : _≡_ {A = ℕ} 0 1 = cc in absurd (omega arith)))
+  next transactionCommits o = amends-next o _ _ _ (uncommitted u o _ refl refl (inl (o .unended))) (λ c. stays o _ true c refl refl (o .unended) refl refl (λ ps e y. impossible (cc)))
   next transactionEnds o = amends-next o _ none _ (committed-ends u o _ refl) (λ c. tt)
   next transactionCommitsAndEnds o = amends-next o _ none _ (uncommitted u o _ refl refl (inr refl)) (λ c. tt)
   next nothingTouched o = amends-next o _ none _ (uncommitted u o _ refl refl (inr refl)) (λ c. tt)

@@ -10,7 +10,7 @@ use lib.ListN.{length, length-append}
 use Rattle.model.specs.Lists.{at, replace}
 use Rattle.model.specs.Plain.{Arguments}
 use Rattle.model.specs.History.{Operation, History, operationAt, Event, nothing, begins, amends, amendBy, noted}
-use Rattle.model.proofs.Lists.{same?, replace-same, replace-other, length-replace, at-below, at-past}
+use Rattle.model.proofs.Lists.{same?, replace-same, replace-other, length-replace, at-below, at-past, impossible}
 use Rattle.model.proofs.Order.Advance.{Changed}
 
 -- the number of a task's latest operation
@@ -39,7 +39,7 @@ module _ {A : Type 0} (d : A) where
 
 -- an operation's number is below the ticks done
 pub number-below : (h : History) {o : Operation} (a : ℕ) → operationAt h a ≡ some o → a < length (h .began)
-number-below h a is = at-below none (h .began) a (λ e. let z : _≡_ {A = ℕ} 0 1 = cc in omega arith)
+number-below h a is = at-below none (h .began) a (λ e. impossible (cc))
 
 module _ (u p : ℕ) (h : History) (size : length (h .began) ≡ u) where
   one-longer : (l : List (Option Operation)) (o : Option Operation) → length l ≡ u → length (l ++ (o ∷ [])) ≡ suc u

@@ -1,10 +1,9 @@
 -- The start of a run: no job is unfinished, and the contents are those that the sheet declares.
-use Prim.Native.Nat.{ℕ, zero, suc, _+_, _*_, _-_, _<_, _≤_}
-use mathlib.Core.Path.{_≡_, refl, _∙_, ap}
+use Prim.Native.Nat.{ℕ, zero, suc, _+_, _*_, _-_, _<_}
+use mathlib.Core.Path.{_≡_, refl, _∙_}
 use mathlib.Core.List.{List, [], _∷_, _++_, map}
 use native.Mathlib.Omega.{arith}
 use lib.ListN.{length, replicate, length-append, length-replicate, length-map}
-use lib.Seq.{getD-append-add}
 use Rattle.model.specs.Lists.{at}
 use Rattle.model.specs.Command.{Block, Command}
 use Rattle.model.specs.Sheet.{Sheet}
@@ -13,16 +12,11 @@ use Rattle.model.specs.Word.{fresh as freshWord}
 use Rattle.model.specs.Job.{idle}
 use Rattle.model.specs.Transaction.{bank, bankValue, versionOf, storeOf}
 use Rattle.model.specs.Machine.{noTask, taskAt, filled, zeros, banksFrom, valuesOf, tasksFrom, startMemory, startMachine}
-use Rattle.model.specs.Plain.{noBlock}
 use Rattle.model.specs.Claim.{each, blockIn, contentsOf, declaredContents}
-use Rattle.model.proofs.Lists.{at-append, at-map}
+use Rattle.model.proofs.Lists.{at-append, at-behind, at-map}
+use Rattle.model.proofs.Fit.Sheet.{noBlock, SheetFit}
+use Rattle.model.proofs.Fit.Start.{filled-size, banks-size, tasks-size}
 use Rattle.model.proofs.Order.Ticks.{Started}
-
--- what the ceilings say of a sheet
-pub record WithinCeilings (s : Sheet) : Type 0 where
-  pub words : length (s .words) ≤ 32
-  pub blocks : length (s .blocks) ≤ 16
-  pub bodies : length (s .bodies) ≤ 8
 
 -- LISTS
 -- the elements one by one
@@ -33,24 +27,11 @@ each-is d (a ∷ l) i f h =
     let first : f i ≡ a = h i 0 (omega arith) (omega arith) in
     rw (first, each-is d l (suc i) f (λ k j e n. h k (suc j) (omega arith) (omega arith))) refl
 
-filled-size : {A : Type 0} (n : ℕ) (d : A) (l : List A) → length l ≤ n → length (filled n d l) ≡ n
-unfolding filled
-filled-size n d l h = omega (arith, length-append l (replicate (n - length l) d), length-replicate (n - length l) d)
-
 at-filled : {A : Type 0} (e : A) (n : ℕ) (d : A) (l : List A) (i : ℕ) → i < length l → at e (filled n d l) i ≡ at e l i
 unfolding filled
 at-filled e n d l i h = at-append e l (replicate (n - length l) d) i h
 
-at-behind : {A : Type 0} (d : A) (l r : List A) (n i : ℕ) → length l ≡ n → at d (l ++ r) (n + i) ≡ at d r i
-unfolding at
-at-behind d l r n i e = rw (← e) (getD-append-add l r i d)
-
 -- TASKS
-tasks-size : (p : ℕ) (l : List (List Command)) → length (tasksFrom p l) ≡ length l
-unfolding tasksFrom
-tasks-size p [] = refl
-tasks-size p (b ∷ l) = ap suc (tasks-size (suc p) l)
-
 idle-behind : (n p : ℕ) → taskAt (replicate n noTask) p .phase ≡ idle
 unfolding at
 idle-behind zero p = refl
@@ -63,7 +44,7 @@ idle-all q [] n p = idle-behind n p
 idle-all q (b ∷ l) n zero = refl
 idle-all q (b ∷ l) n (suc p) = idle-all (suc q) l n p
 
-pub started : {s : Sheet} → WithinCeilings s → Started (startMachine s)
+pub started : {s : Sheet} → SheetFit s → Started (startMachine s)
 unfolding startMachine filled
 started {s} c = record {
   now = refl;
@@ -77,36 +58,25 @@ current-fresh : (status : List ℕ) (saves : List (List ℕ)) (v : ℕ) → curr
 unfolding current own currentBy
 current-fresh status saves v = refl
 
-banks-size : (store : ℕ) (l : List Block) → length (banksFrom store l) ≡ length l
-unfolding banksFrom
-banks-size store [] = refl
-banks-size store (b ∷ l) = ap suc (banks-size (suc store) l)
-
 bank-from : (store : ℕ) (l : List Block) (b : ℕ) → b < length l → at (freshWord 0) (banksFrom store l) b ≡ freshWord (bankValue (at noBlock l b .version) (store + b))
 unfolding at banksFrom
 bank-from store [] b h = absurd (omega arith)
 bank-from store (x ∷ l) zero h = let z : store + 0 ≡ store = omega arith in rw z refl
 bank-from store (x ∷ l) (suc b) h = let z : suc store + b ≡ store + suc b = omega arith in bank-from (suc store) l b (omega arith) ∙ rw z refl
 
-version-is : (v s : ℕ) → s < 256 → versionOf (bankValue v s) ≡ v
-version-is v s h = omega arith
-
-store-is : (v s : ℕ) → s < 256 → storeOf (bankValue v s) ≡ s
-store-is v s h = omega arith
-
-abbrev wordCells : Sheet → List Word
+abbrev pub wordCells : Sheet → List Word
 wordCells s = filled 32 (freshWord 0) (map freshWord (s .words))
 
-abbrev firstStore : Sheet → ℕ
+abbrev pub firstStore : Sheet → ℕ
 firstStore s = 4 * length (s .bodies)
 
-abbrev bankCells : Sheet → List Word
+abbrev pub bankCells : Sheet → List Word
 bankCells s = filled 16 (freshWord 0) (banksFrom (firstStore s) (s .blocks))
 
 abbrev ownStores : Sheet → List (List ℕ)
 ownStores s = replicate (firstStore s) (zeros 8) ++ map valuesOf (s .blocks)
 
-start-cells : (s : Sheet) → startMemory s .cells ≡ wordCells s ++ bankCells s
+pub start-cells : (s : Sheet) → startMemory s .cells ≡ wordCells s ++ bankCells s
 unfolding startMemory
 start-cells s = refl
 
@@ -114,7 +84,11 @@ start-stores : (s : Sheet) → startMemory s .stores ≡ filled 48 (zeros 8) (ow
 unfolding startMemory
 start-stores s = refl
 
-module _ {s : Sheet} (c : WithinCeilings s) where
+pub start-memory : (s : Sheet) → startMachine s .memory ≡ startMemory s
+unfolding startMachine
+start-memory s = refl
+
+module _ {s : Sheet} (c : SheetFit s) where
   words-size : length (wordCells s) ≡ 32
   words-size = filled-size 32 (freshWord 0) (map freshWord (s .words)) (rw (length-map (s .words) freshWord) (c .words))
 
@@ -140,16 +114,14 @@ module _ {s : Sheet} (c : WithinCeilings s) where
   word-start : (w : ℕ) → w < length (s .words) → currentOf (startMemory s) w ≡ at 0 (s .words) w
   word-start w h = rw (word-cell w h) (current-fresh (startMemory s .status) (startMemory s .saves) (at 0 (s .words) w))
 
-  bank-start : (b : ℕ) → b < length (s .blocks) → currentOf (startMemory s) (bank b) ≡ bankValue (at noBlock (s .blocks) b .version) (firstStore s + b)
+  pub bank-start : (b : ℕ) → b < length (s .blocks) → currentOf (startMemory s) (bank b) ≡ bankValue (at noBlock (s .blocks) b .version) (firstStore s + b)
   bank-start b h = rw (bank-cell b h) (current-fresh (startMemory s .status) (startMemory s .saves) (bankValue (at noBlock (s .blocks) b .version) (firstStore s + b)))
 
   block-start : (b : ℕ) → b < length (s .blocks) → blockIn (startMemory s) b ≡ at noBlock (s .blocks) b
   block-start b h =
-      let n = c .blocks in
-      let k = c .bodies in
-      let l : firstStore s + b < 256 = omega arith in
-      let v = at noBlock (s .blocks) b .version in
-      rw (bank-start b h, version-is v (firstStore s + b) l, store-is v (firstStore s + b) l, block-store b h) refl
+      let v : versionOf (bankValue (at noBlock (s .blocks) b .version) (firstStore s + b)) ≡ at noBlock (s .blocks) b .version = omega (arith, c .blocks, c .bodies) in
+      let i : storeOf (bankValue (at noBlock (s .blocks) b .version) (firstStore s + b)) ≡ firstStore s + b = omega (arith, c .blocks, c .bodies) in
+      rw (bank-start b h, v, i, block-store b h) refl
 
   words-declared : each (length (s .words)) 0 (currentOf (startMemory s)) ≡ s .words
   words-declared = each-is 0 (s .words) 0 (currentOf (startMemory s)) (λ k j e h. let z : k ≡ j = omega arith in rw z (word-start j h))
@@ -157,9 +129,5 @@ module _ {s : Sheet} (c : WithinCeilings s) where
   blocks-declared : each (length (s .blocks)) 0 (blockIn (startMemory s)) ≡ s .blocks
   blocks-declared = each-is noBlock (s .blocks) 0 (blockIn (startMemory s)) (λ k j e h. let z : k ≡ j = omega arith in rw z (block-start j h))
 
-  start-memory : startMachine s .memory ≡ startMemory s
-  unfolding startMachine
-  start-memory = refl
-
   pub contents-start : contentsOf s (startMachine s .memory) ≡ declaredContents s
-  contents-start = rw (start-memory, words-declared, blocks-declared) refl
+  contents-start = rw (start-memory s, words-declared, blocks-declared) refl

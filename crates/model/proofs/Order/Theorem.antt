@@ -16,7 +16,8 @@ use Rattle.model.proofs.Order.Steps.{stateAfter, arrivedAt, historyAfte
 use Rattle.model.proofs.Order.Moves.{Settling, settling, outside}
 use Rattle.model.proofs.Order.Statement.{moves}
 use Rattle.model.proofs.Order.Ticks.{MachineLinked, Started, arrived-at, arrived-now, arrived-linked, advance}
-use Rattle.model.proofs.Order.Start.{WithinCeilings, started, contents-start}
+use Rattle.model.proofs.Fit.Sheet.{SheetFit}
+use Rattle.model.proofs.Order.Start.{started, contents-start}
 use Rattle.model.proofs.Order.Justified.{Justified, settles}
 
 -- what the statement of task p settles
@@ -76,7 +77,7 @@ unfolding stateAfter
 none-done s m = refl
 
 -- at every limit
-pub whole : (sheet : List ℕ) (limit : ℕ) → WithinCeilings (sheetOf sheet) → JustifiedRun (sheetOf sheet) (startMachine (sheetOf sheet)) → WholeOperations sheet limit
+pub whole : (sheet : List ℕ) (limit : ℕ) → SheetFit (sheetOf sheet) → JustifiedRun (sheetOf sheet) (startMachine (sheetOf sheet)) → WholeOperations sheet limit
 whole sheet limit c just =
     let r = stopped limit (startMachine (sheetOf sheet)) in
     whole-operations sheet limit (r .history) (sym (none-done (sheetOf sheet) (startMachine (sheetOf sheet)) ∙ contents-start c)) (ap (λ (n : Machine). contentsOf (sheetOf sheet) (n .memory)) (r .state)) (run-ordered (sheetOf sheet) (started c) just (r .ticks))

@@ -1,4 +1,4 @@
--- Every tick keeps history and machine linked, and move-advances the history by at most one operation.
+-- Every tick keeps history and machine linked, and advances the history by at most one operation.
 use Prim.Native.Nat.{ℕ, zero, suc, _<_, _≤_}
 use mathlib.Core.Bool.{Bool}
 use mathlib.Core.Path.{_≡_, refl, sym, _∙_, ap, subst}
@@ -14,8 +14,10 @@ use Rattle.model.specs.Machine.{Machine, noTask, taskAt, Running, nobody
 use Rattle.model.specs.Plain.{Arguments}
 use Rattle.model.specs.History.{History, operationAt, nothing, observed}
 use Rattle.model.proofs.Lists.{same?, replace-same, replace-other, length-replace}
+use Rattle.model.proofs.Fit.Tick.{move-now}
 use Rattle.model.proofs.Order.Steps.{stateAfter, arrivedAt, historyAfter, state-next, history-next}
-use Rattle.model.proofs.Order.Arrive.{TaskArrived, waits, starts, Arrived, arrived, Runs, runs, none-runs}
+use Rattle.model.proofs.Fit.Running.{Highest, running-highest}
+use Rattle.model.proofs.Order.Arrive.{above-idle, TaskArrived, waits, starts, Arrived, arrived, none-runs}
 use Rattle.model.proofs.Order.Advance.{Advance, same}
 use Rattle.model.proofs.Order.Moves.{given, hasCommitted}
 use Rattle.model.proofs.Order.Statement.{moves}
@@ -62,12 +64,12 @@ latest-below {u} {ts} {h} l p i = go (givenTo ts p) (hasCommitted (taskAt ts p .
     go (some a) b i o = omega (arith, number-below h (latestOf h p) (o .is), l .size)
 
 -- task p runs, and is t′ afterwards
-module _ {u p : ℕ} {ts : List Task} {h h′ : History} (r : Runs ts p) (l : Linked u ts h) (t′ : Task) (n : Next u p h h′ (givenTo ts p) (given (t′ .phase)) (hasCommitted (t′ .phase))) where
+module _ {u p : ℕ} {ts : List Task} {h h′ : History} (r : Highest ts p) (l : Linked u ts h) (t′ : Task) (n : Next u p h h′ (givenTo ts p) (given (t′ .phase)) (hasCommitted (t′ .phase))) where
   abbrev ts′ : List Task
   ts′ = replace ts p t′
 
   above-outside : (q : ℕ) → p < q → Inside (givenTo ts q) → ⊥
-  above-outside q lt i = rw (r .highest q lt) at i
+  above-outside q lt i = rw (above-idle r q lt) at i
 
   -- a lower task's latest operation is another one
   lower-apart : (q : ℕ) → q ≢ p → Inside (givenTo ts q) → Inside (givenTo ts p) → latestOf h q ≢ latestOf h p
@@ -128,7 +130,7 @@ arrive-linked {m} {m′} {h} a g = record { size = a .size ∙ g .size; linked =
 
 -- what the running task p's tick does to the history
 module _ {m : Machine} {h : History} (g : MachineLinked m h) where
-  pub next-of : (p : ℕ) → Runs (m .tasks) p → Next (m .now) p h (observed m (running p) h) (givenTo (m .tasks) p) (given (statement p (m .memory) (taskAt (m .tasks) p) (taskAt (m .tasks) p .phase) .task .phase)) (hasCommitted (statement p (m .memory) (taskAt (m .tasks) p) (taskAt (m .tasks) p .phase) .task .phase))
+  pub next-of : (p : ℕ) → Highest (m .tasks) p → Next (m .now) p h (observed m (running p) h) (givenTo (m .tasks) p) (given (statement p (m .memory) (taskAt (m .tasks) p) (taskAt (m .tasks) p .phase) .task .phase)) (hasCommitted (statement p (m .memory) (taskAt (m .tasks) p) (taskAt (m .tasks) p .phase) .task .phase))
   unfolding observed
   next-of p r = let below : p < 8 = omega (arith, r .below, g .size) in
       next (m .now) p h (g .linked .size) (g .linked .latest) below (moves (m .now) p (m .memory) (taskAt (m .tasks) p) (taskAt (m .tasks) p .phase) refl) (g .linked .opened p)
@@ -136,7 +138,7 @@ module _ {m : Machine} {h : History} (g : MachineLinked m h) where
   pub move-advances : (r : Running) → runningOf (m .tasks) ≡ r → Advance (m .now) h (observed m r h)
   unfolding observed
   move-advances nobody e = same (noted-nothing (m .now) 0 h (g .linked .size))
-  move-advances (running p) e = next-of p (runs (m .tasks) p e) .advance
+  move-advances (running p) e = next-of p (running-highest e) .advance
 
   pub move-linked : (r : Running) → runningOf (m .tasks) ≡ r → MachineLinked (move m r) (observed m r h)
   unfolding observed move
@@ -151,7 +153,7 @@ module _ {m : Machine} {h : History} (g : MachineLinked m h) where
     };
   }
   move-linked (running p) e =
-      let r = runs (m .tasks) p e in
+      let r = running-highest e in
       let b = m .tasks in
       let t = statement p (m .memory) (taskAt b p) (taskAt b p .phase) .task in
       record { size = length-replace (m .tasks) p (ticked t) ∙ g .size; linked = linked-runs r (g .linked) (ticked t) (next-of p r) }
@@ -172,11 +174,6 @@ unfolding at
 no-latest zero p = refl
 no-latest (suc n) zero = refl
 no-latest (suc n) (suc p) = no-latest n p
-
-move-now : (m : Machine) (r : Running) → move m r .now ≡ suc (m .now)
-unfolding move
-move-now m nobody = refl
-move-now m (running p) = refl
 
 module _ {m : Machine} (s : Started m) where
   pub now-is : (t : ℕ) → stateAfter m t .now ≡ t

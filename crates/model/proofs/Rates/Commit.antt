@@ -13,11 +13,12 @@ use Rattle.model.specs.Job.{Transaction, committing, idle, transacting, 
 use Rattle.model.specs.Transaction.{committed, transactionTick}
 use Rattle.model.specs.Machine.{Machine, noTask, taskAt, Running, nobody, running, runningOf, move, statement, startMachine}
 use Rattle.model.specs.Rates.{ownBefore}
-use Rattle.model.proofs.Lists.{same?, replace-same, replace-other}
+use Rattle.model.proofs.Lists.{same?, replace-same, replace-other, impossible}
 use Rattle.model.proofs.Fit.Sheet.{SheetFit}
 use Rattle.model.proofs.Whole.Rates.{Ran, before-start, own-tick, others, exchange-rate, exchange-ends}
 use Rattle.model.proofs.Order.Steps.{stateAfter, arrivedAt, state-next}
-use Rattle.model.proofs.Order.Arrive.{TaskArrived, waits, starts, Arrived, runs, none-runs}
+use Rattle.model.proofs.Fit.Running.{running-highest}
+use Rattle.model.proofs.Order.Arrive.{TaskArrived, waits, starts, Arrived, none-runs}
 use Rattle.model.proofs.Order.Ticks.{arrived-at}
 use Rattle.model.proofs.Rates.Own.{other-task, own-none, own-runs, own-waits}
 use Rattle.model.proofs.Rates.Status.{status-stays}
@@ -44,7 +45,7 @@ pub record Ending (p : ℕ) (m : Machine) : Type 0 where
   pub ends : exchangeTick p (m .memory) exchange (exchange .step) ≡ ends memory yes?
 
 not-idle : {A : Type 0} {y : Transaction} {x : Exchange} → idle ≡ transacting y (committing x) → A
-not-idle e = let z : _≡_ {A = ℕ} 0 1 = cc in absurd (omega arith)
+not-idle e = impossible (cc)
 
 module _ {p : ℕ} {es : List Entry} {t : ℕ} where
   -- RELEASES ARRIVE
@@ -71,7 +72,7 @@ module _ {p : ℕ} {es : List Entry} {t : ℕ} where
       unfolding move statement transactionTick committed
       committed-goes {m′} {x′} e n = record {
         exchange = x′;
-        inside = record { transaction = i .transaction; phase = rw (replace-same noTask (m .tasks) p (ticked (statement p (m .memory) (taskAt (m .tasks) p) (taskAt (m .tasks) p .phase) .task)) (runs (m .tasks) p r .below), i .phase, e) refl };
+        inside = record { transaction = i .transaction; phase = rw (replace-same noTask (m .tasks) p (ticked (statement p (m .memory) (taskAt (m .tasks) p) (taskAt (m .tasks) p .phase) .task)) (running-highest r .below), i .phase, e) refl };
         ran = rw (i .phase, e) n;
       }
 
@@ -88,7 +89,7 @@ one-exchange : {m : Machine} {p : ℕ} {x y : Exchange} → In m p x → In m p 
 one-exchange i j = let e = sym (i .phase) ∙ j .phase in cc
 
 goes-not-ends : {A : Type 0} {m m′ : Memory} {x : Exchange} {yes? : Bool} → goes m x ≡ ends m′ yes? → A
-goes-not-ends e = let z : _≡_ {A = ℕ} 0 1 = cc in absurd (omega arith)
+goes-not-ends e = impossible (cc)
 
 -- FROM ITS START in tick a
 module _ {s : Sheet} (c : SheetFit s) (p a : ℕ) {x : Exchange} (runs-first : who c a ≡ running p) (first : In (arrivedAt (startMachine s) a) p x) (at-start : x .step ≡ start) where
@@ -105,7 +106,7 @@ module _ {s : Sheet} (c : SheetFit s) (p a : ℕ) {x : Exchange} (runs-first : w
   started : Underway p (x .entries) (own (suc a)) (stateAfter (startMachine s) (suc a))
   started =
       let m = arrivedAt (startMachine s) a in
-      let k : Underway p (x .entries) 1 (move m (running p)) = committed-goes runs-first first (start-goes p (m .memory) x at-start) (own-tick (before-start (m .memory)) (below-status c a p (runs (m .tasks) p runs-first)) (start-goes p (m .memory) (exchangeOf (x .entries)) refl)) in
+      let k : Underway p (x .entries) 1 (move m (running p)) = committed-goes runs-first first (start-goes p (m .memory) x at-start) (own-tick (before-start (m .memory)) (below-status c a p (running-highest runs-first)) (start-goes p (m .memory) (exchangeOf (x .entries)) refl)) in
       rw (own-runs (who c) p a a (omega arith) runs-first, own-none (who c) p a a (omega arith), state-next (startMachine s) a, runs-first) k
 
   step : (n : ℕ) → a ≤ n → Underway p (x .entries) (own n) (stateAfter (startMachine s) n) → Underway p (x .entries) (own (suc n)) (stateAfter (startMachine s) (suc n)) ⊎ Ending p (arrivedAt (startMachine s) n)
@@ -120,7 +121,7 @@ module _ {s : Sheet} (c : SheetFit s) (p a : ℕ) {x : Exchange} (runs-first : w
       go : (r : Running) → who c n ≡ r → Underway p (x .entries) (own (suc n)) (move m r) ⊎ Ending p m
       go nobody e = not-idle (sym (none-runs (m .tasks) e p) ∙ now .inside .phase)
       go (running q) e = same? p q
-          (λ z. rw (← z, own-runs (who c) p a n l (rw (← z) at e)) (let r : who c n ≡ running p = rw (← z) at e in committing-next r (now .inside) (exchangeTick p (m .memory) (now .exchange) (now .exchange .step)) refl (λ m′ x′ f. own-tick (now .ran) (below-status c n p (runs (m .tasks) p r)) f)))
+          (λ z. rw (← z, own-runs (who c) p a n l (rw (← z) at e)) (let r : who c n ≡ running p = rw (← z) at e in committing-next r (now .inside) (exchangeTick p (m .memory) (now .exchange) (now .exchange .step)) refl (λ m′ x′ f. own-tick (now .ran) (below-status c n p (running-highest r)) f)))
           (λ ne. rw (own-waits (who c) p a n (other-task (who c n) ne e)) (inl (underway-others q ne now)))
 
   underway : (n : ℕ) → a < n → Underway p (x .entries) (own n) (stateAfter (startMachine s) n) ⊎ Ended n
@@ -154,5 +155,5 @@ module _ {s : Sheet} (c : SheetFit s) (p a : ℕ) {x : Exchange} (runs-first : w
       go : Underway p (x .entries) (own l) (stateAfter (startMachine s) l) ⊎ Ended l → own (suc l) ≤ 9 * length (x .entries) + 4
       go (inl w) =
           let now : Underway p (x .entries) (own l) (arrivedAt (startMachine s) l) = underway-arrived (arrived-at (startMachine s) l) w in
-          rw (own-runs (who c) p a l h (k .runs)) (exchange-rate (now .ran) (below-status c l p (runs (arrivedAt (startMachine s) l .tasks) p (k .runs))) (rw (one-exchange (k .inside) (now .inside)) at (k .ends)))
+          rw (own-runs (who c) p a l h (k .runs)) (exchange-rate (now .ran) (below-status c l p (running-highest (k .runs))) (rw (one-exchange (k .inside) (now .inside)) at (k .ends)))
       go (inr d) = absurd (none (d .tick) (d .after) (d .before) (d .ending))

@@ -3,13 +3,12 @@ use Prim.Native.Nat.{ℕ, suc}
 use mathlib.Core.Bool.{Bool}
 use mathlib.Core.Path.{_≡_, refl, sym, _∙_}
 use mathlib.Core.Option.{Option, none, some}
-use native.Mathlib.Omega.{arith}
 use lib.ListN.{length}
 use Rattle.model.specs.Machine.{Running}
 use Rattle.model.specs.Plain.{Arguments}
 use Rattle.model.specs.History.{Operation, History, operationAt, Event, nothing, begins, amends, noted}
 use Rattle.model.specs.Rates.{ownBefore}
-use Rattle.model.proofs.Lists.{same?}
+use Rattle.model.proofs.Lists.{same?, impossible}
 use Rattle.model.proofs.Order.Advance.{Changed}
 use Rattle.model.proofs.Order.Moves.{Settling, Moves, outside, begun, goesOn, answers, readEnds, swapCommits, swapEnds, swapCommitsAndEnds, swapRejected, transactionCommits, transactionEnds, transactionCommitsAndEnds, nothingTouched, endsSpent}
 use Rattle.model.proofs.Order.Noted.{latestOf, noted-nothing, noted-begins, noted-amends}
@@ -22,7 +21,7 @@ pub record InTime (who : ℕ → Running) (h : History) : Type 0 where
 
 -- none is not some
 pub not-some : {A B : Type 0} {a : A} → none ≡ some a → B
-not-some e = let z : _≡_ {A = ℕ} 0 1 = cc in absurd (omega arith)
+not-some e = impossible (cc)
 
 pub the-same : {A : Type 0} {a b : A} → some a ≡ some b → a ≡ b
 the-same e = cc

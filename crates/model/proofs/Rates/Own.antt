@@ -11,7 +11,7 @@ use Rattle.model.specs.Command.{Release}
 use Rattle.model.specs.Machine.{Machine, Running, nobody, running, runningOf, arrive, moveAny, move, tick, over, noneToCome, nobody?, runBy, run}
 use Rattle.model.specs.Rates.{inTick, isTask, oneIf, ownBefore}
 use Rattle.model.proofs.Lists.{test?}
-use Rattle.model.proofs.Whole.Words.{and-true}
+use Rattle.model.proofs.Fit.Elements.{and-left, and-right}
 use Rattle.model.proofs.Order.Steps.{stateAfter, arrivedAt}
 
 -- COUNTING
@@ -59,11 +59,11 @@ module _ (m : Machine) (e : over m ≡ true) where
 
   over-releases : m .releases ≡ []
   unfolding over
-  over-releases = none-to-come (m .releases) (and-true (noneToCome (m .releases)) (nobody? (runningOf (m .tasks))) e .0)
+  over-releases = none-to-come (m .releases) (and-left (noneToCome (m .releases)) (nobody? (runningOf (m .tasks))) e)
 
   over-running : runningOf (m .tasks) ≡ nobody
   unfolding over
-  over-running = nobody-runs (runningOf (m .tasks)) (and-true (noneToCome (m .releases)) (nobody? (runningOf (m .tasks))) e .1)
+  over-running = nobody-runs (runningOf (m .tasks)) (and-right (noneToCome (m .releases)) (nobody? (runningOf (m .tasks))) e)
 
   over-arrives : Alike (arrive (m .releases) m) m
   unfolding arrive

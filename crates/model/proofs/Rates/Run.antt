@@ -14,17 +14,18 @@ use Rattle.model.specs.Machine.{Machine, noTask, taskAt, Running, nobody
 use Rattle.model.specs.Plain.{Arguments}
 use Rattle.model.specs.History.{History, noHistory, observed}
 use Rattle.model.specs.Rates.{ownBefore}
-use Rattle.model.proofs.Lists.{same?, replace-same, replace-other}
+use Rattle.model.proofs.Lists.{same?, replace-same, replace-other, impossible}
 use Rattle.model.proofs.Fit.Sheet.{SheetFit}
 use Rattle.model.proofs.Order.Steps.{stateAfter, arrivedAt, historyAfter, state-next, history-next}
-use Rattle.model.proofs.Order.Arrive.{TaskArrived, waits, starts, Arrived, Runs, runs, none-runs}
+use Rattle.model.proofs.Fit.Running.{Highest, running-highest}
+use Rattle.model.proofs.Order.Arrive.{TaskArrived, waits, starts, Arrived, none-runs}
 use Rattle.model.proofs.Order.Moves.{given, outside}
 use Rattle.model.proofs.Order.Statement.{moves}
 use Rattle.model.proofs.Order.Noted.{latestOf}
 use Rattle.model.proofs.Order.Linked.{Inside, givenTo}
 use Rattle.model.proofs.Order.Ticks.{given-arrived, MachineLinked, next-of, arrived-at, arrived-now, arrived-linked}
 use Rattle.model.proofs.Order.Start.{started}
-use Rattle.model.proofs.Run.Always.{within, holds, holds-at}
+use Rattle.model.proofs.Run.Always.{holds, holds-at}
 use Rattle.model.proofs.Rates.Own.{other-task, own-none, own-runs, own-waits}
 use Rattle.model.proofs.Rates.Status.{status-stays}
 use Rattle.model.proofs.Rates.Timely.{Timely, RateBy, timely-inside, timely-others, timely-next, timely-first}
@@ -50,11 +51,11 @@ rate-outside (some a) t n = absurd (n tt)
 
 none-ended : (who : ℕ → Running) → InTime who noHistory
 unfolding at
-none-ended who = record { ended = λ a l o is e. let z : _≡_ {A = ℕ} 0 1 = cc in absurd (omega arith) }
+none-ended who = record { ended = λ a l o is e. impossible (cc) }
 
 none-open : (inside : ℕ → Option Arguments) → Unended noHistory inside
 unfolding at
-none-open inside = record { stands = λ a o is e. let z : _≡_ {A = ℕ} 0 1 = cc in absurd (omega arith) }
+none-open inside = record { stands = λ a o is e. impossible (cc) }
 
 module _ {who : ℕ → Running} {h : History} where
   -- RELEASES ARRIVE
@@ -85,7 +86,7 @@ module _ {who : ℕ → Running} {h : History} where
         none-inside = rw (none-runs (m .tasks) e 0) refl
 
     -- TASK p RUNS
-    module _ (p : ℕ) (r : Runs (m .tasks) p) (w : who (m .now) ≡ running p) (below : p < length (m .memory .status)) where
+    module _ (p : ℕ) (r : Highest (m .tasks) p) (w : who (m .now) ≡ running p) (below : p < length (m .memory .status)) where
       abbrev task : Task
       task = taskAt (m .tasks) p
 
@@ -147,7 +148,7 @@ module _ {s : Sheet} (c : SheetFit s) where
   abbrev pub who : ℕ → Running
   who t = runningOf (arrivedAt (startMachine s) t .tasks)
 
-  pub below-status : (t p : ℕ) → Runs (arrivedAt (startMachine s) t .tasks) p → p < length (arrivedAt (startMachine s) t .memory .status)
+  pub below-status : (t p : ℕ) → Highest (arrivedAt (startMachine s) t .tasks) p → p < length (arrivedAt (startMachine s) t .memory .status)
   below-status t p r = let f = holds-at c t (holds c t) .fit in omega (arith, r .below, f .tasks, f .memory .status)
 
   module _ (t : ℕ) (k : Rated who t (stateAfter (startMachine s) t) (historyAfter (startMachine s) t)) where
@@ -155,22 +156,22 @@ module _ {s : Sheet} (c : SheetFit s) where
     now = arrivedAt (startMachine s) t
 
     rated-at : Rated who (now .now) now (historyAfter (startMachine s) t)
-    rated-at = subst (λ (u : ℕ). Rated who u now (historyAfter (startMachine s) t)) (sym (arrived-now (started (within c)) t)) (rated-arrived (arrived-at (startMachine s) t) k)
+    rated-at = subst (λ (u : ℕ). Rated who u now (historyAfter (startMachine s) t)) (sym (arrived-now (started c) t)) (rated-arrived (arrived-at (startMachine s) t) k)
 
     step : (r : Running) → runningOf (now .tasks) ≡ r → Rated who (suc (now .now)) (move now r) (observed now r (historyAfter (startMachine s) t))
-    step nobody e = rated-idle (arrived-linked (started (within c)) t) rated-at e
+    step nobody e = rated-idle (arrived-linked (started c) t) rated-at e
     step (running p) e =
-        let r = runs (now .tasks) p e in
-        rated-runs (arrived-linked (started (within c)) t) rated-at p r (ap who (arrived-now (started (within c)) t) ∙ e) (below-status t p r)
+        let r = running-highest e in
+        rated-runs (arrived-linked (started c) t) rated-at p r (ap who (arrived-now (started c) t) ∙ e) (below-status t p r)
 
     rated-next : Rated who (suc t) (stateAfter (startMachine s) (suc t)) (historyAfter (startMachine s) (suc t))
     rated-next =
         subst (λ (z : Machine). Rated who (suc t) z (historyAfter (startMachine s) (suc t))) (sym (state-next (startMachine s) t))
         (subst (λ (z : History). Rated who (suc t) (move now (runningOf (now .tasks))) z) (sym (history-next (startMachine s) t))
-        (subst (λ (u : ℕ). Rated who (suc u) (move now (runningOf (now .tasks))) (observed now (runningOf (now .tasks)) (historyAfter (startMachine s) t))) (arrived-now (started (within c)) t)
+        (subst (λ (u : ℕ). Rated who (suc u) (move now (runningOf (now .tasks))) (observed now (runningOf (now .tasks)) (historyAfter (startMachine s) t))) (arrived-now (started c) t)
         (step (runningOf (now .tasks)) refl)))
 
   pub rated : (t : ℕ) → Rated who t (stateAfter (startMachine s) t) (historyAfter (startMachine s) t)
   unfolding stateAfter historyAfter
-  rated zero = record { timely = λ p. rw (started (within c) .idle p) tt; ended = none-ended who; unended = none-open (givenTo (startMachine s .tasks)) }
+  rated zero = record { timely = λ p. rw (started c .idle p) tt; ended = none-ended who; unended = none-open (givenTo (startMachine s .tasks)) }
   rated (suc t) = rated-next t (rated t)

@@ -13,7 +13,6 @@ use Rattle.model.proofs.Fit.Accepted.{accepted-fit}
 use Rattle.model.proofs.Order.Steps.{stateAfter, arrivedAt, stopped}
 use Rattle.model.proofs.Order.Ticks.{now-is}
 use Rattle.model.proofs.Order.Start.{started}
-use Rattle.model.proofs.Run.Always.{within}
 use Rattle.model.proofs.Rates.Own.{in-tick}
 use Rattle.model.proofs.Rates.Timely.{Rate, Fewer, timely-fewer}
 use Rattle.model.proofs.Rates.Run.{who, rated}
@@ -31,7 +30,7 @@ module _ {s : Sheet} (c : SheetFit s) where
   used : (limit p : ℕ) → taskAt (run limit (startMachine s) .tasks) p .ticks ≡ ownBefore (runningIn (startMachine s)) p 0 (run limit (startMachine s) .now)
   used limit p =
       let r = stopped limit (startMachine s) in
-      rw (r .state, now-is (started (within c)) (r .ticks), same-own p 0 (r .ticks)) (ticks-used c (r .ticks) p)
+      rw (r .state, now-is (started c) (r .ticks), same-own p 0 (r .ticks)) (ticks-used c (r .ticks) p)
 
   -- an operation that has ended
   operation-rate : (limit a l : ℕ) (o : Operation) → operationAt (historyOf limit (startMachine s)) a ≡ some o → o .last ≡ some l → Rate (o .arguments) (ownTicks (startMachine s) (o .task) a l)
@@ -45,7 +44,7 @@ module _ {s : Sheet} (c : SheetFit s) where
       let r = stopped limit (startMachine s) in
       let k = rated c (r .ticks) in
       let stands = k .unended .stands a o (rw (r .history) at is) e in
-      rw (r .state, now-is (started (within c)) (r .ticks), same-own (o .task) a (r .ticks), ← stands .latest)
+      rw (r .state, now-is (started c) (r .ticks), same-own (o .task) a (r .ticks), ← stands .latest)
       (timely-fewer _ (o .task) _ (taskAt (stateAfter (startMachine s) (r .ticks) .tasks) (o .task) .phase) (o .arguments) (stands .arguments) (k .timely (o .task)))
 
   -- the exchange of a COMMIT

@@ -5,7 +5,6 @@ use mathlib.Core.Path.{_≡_, refl, sym, _∙_, subst}
 use mathlib.Core.Logic.{_⊎_}
 use mathlib.Core.List.{List, [], _∷_, map}
 use mathlib.Core.Option.{Option, none, some}
-use native.Mathlib.Omega.{arith}
 use lib.ListN.{length, length-map}
 use Rattle.model.specs.Command.{Command, WORD, BLOCK, TASK, RELEASE, END, LOAD, ADD, READ, PAIR, SWAP, BEGIN, access, COMMIT}
 use Rattle.model.specs.Word.{Memory, statusOf, Reading, Read, reads, gives, readTick}
@@ -14,6 +13,7 @@ use Rattle.model.specs.Job.{Phase, idle, plain, reading, exchanging, tra
 use Rattle.model.specs.Machine.{readBy, swapBy, plainTick, statement}
 use Rattle.model.specs.Plain.{Arguments, readOf, swapOf, transactionOf}
 use Rattle.model.specs.History.{pairOf, Event, untilCommit}
+use Rattle.model.proofs.Lists.{impossible}
 use Rattle.model.proofs.Whole.Rates.{Reads, at-first, goes-on, reading-rate, reading-ends, Ran, before-start, own-tick, others, exchange-rate, exchange-ends}
 use Rattle.model.proofs.Order.Exchange.{pairsOf, Follows, follows}
 use Rattle.model.proofs.Order.Moves.{given, Settling, Moves, outside, begun, goesOn, answers, readEnds, swapCommits, swapEnds, swapCommitsAndEnds, swapRejected, transactionCommits, transactionEnds, transactionCommitsAndEnds, nothingTouched, endsSpent}
@@ -27,7 +27,7 @@ pub record InExchange (t p : ℕ) (m : Memory) (x : Exchange) : Type 0 where
   pub ran : Ran p entries t m x
 
 not-none : {A : Type 0} {a : Arguments} → some a ≡ none → A
-not-none e = let z : _≡_ {A = ℕ} 0 1 = cc in absurd (omega arith)
+not-none e = impossible (cc)
 
 -- IN TIME after t ticks of its own
 abbrev pub Timely : ℕ → ℕ → Memory → Phase → Type 0
@@ -111,8 +111,8 @@ moves-stay endsSpent = tt
 transaction-timely : (rs : List ℕ) (l : List Command) (t p : ℕ) (m : Memory) (f : Phase) → Stays (some (transactionOf rs l)) (given f) → Timely t p m f
 transaction-timely rs l t p m idle e = tt
 transaction-timely rs l t p m plain e = tt
-transaction-timely rs l t p m (reading r w s) e = let z : _≡_ {A = ℕ} 0 1 = cc in absurd (omega arith)
-transaction-timely rs l t p m (exchanging r x) e = let z : _≡_ {A = ℕ} 0 1 = cc in absurd (omega arith)
+transaction-timely rs l t p m (reading r w s) e = impossible (cc)
+transaction-timely rs l t p m (exchanging r x) e = impossible (cc)
 transaction-timely rs l t p m (transacting x s) e = tt
 
 module _ (p : ℕ) (m : Memory) (u : Task) (below : p < length (m .status)) where

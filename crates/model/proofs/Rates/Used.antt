@@ -14,11 +14,12 @@ use Rattle.model.proofs.Lists.{same?, replace-same, replace-other}
 use Rattle.model.proofs.Fit.Sheet.{SheetFit}
 use Rattle.model.proofs.Fit.Statement.{statement-fit}
 use Rattle.model.proofs.Order.Steps.{stateAfter, arrivedAt, state-next}
-use Rattle.model.proofs.Order.Arrive.{TaskArrived, waits, starts, Runs, runs}
+use Rattle.model.proofs.Fit.Running.{Highest, running-highest}
+use Rattle.model.proofs.Order.Arrive.{TaskArrived, waits, starts}
 use Rattle.model.proofs.Order.Ticks.{arrived-at, arrived-linked}
 use Rattle.model.proofs.Order.Start.{started}
-use Rattle.model.proofs.Run.Always.{within, holds, holds-at, value-now}
-use Rattle.model.proofs.Run.State.{declared, job}
+use Rattle.model.proofs.Run.Always.{holds, holds-at, value-now}
+use Rattle.model.proofs.Run.State.{declared-task, ready}
 use Rattle.model.proofs.Rates.Own.{other-task, own-runs, own-waits}
 use Rattle.model.proofs.Rates.Run.{who}
 
@@ -45,13 +46,13 @@ arrived-ticks (starts i e) = rw e refl
 
 module _ {s : Sheet} (c : SheetFit s) where
   -- a statement uses one tick more
-  statement-ticks : (t p : ℕ) → Runs (arrivedAt (startMachine s) t .tasks) p → statement p (arrivedAt (startMachine s) t .memory) (taskAt (arrivedAt (startMachine s) t .tasks) p) (taskAt (arrivedAt (startMachine s) t .tasks) p .phase) .task .ticks ≡ taskAt (arrivedAt (startMachine s) t .tasks) p .ticks
+  statement-ticks : (t p : ℕ) → Highest (arrivedAt (startMachine s) t .tasks) p → statement p (arrivedAt (startMachine s) t .memory) (taskAt (arrivedAt (startMachine s) t .tasks) p) (taskAt (arrivedAt (startMachine s) t .tasks) p .phase) .task .ticks ≡ taskAt (arrivedAt (startMachine s) t .tasks) p .ticks
   statement-ticks t p r =
       let k = holds-at c t (holds c t) in
-      let l = arrived-linked (started (within c)) t in
+      let l = arrived-linked (started c) t in
       let now = value-now c t (holds c t) in
-      let f = k .fit .task p (declared c l k now p r) in
-      statement-fit (c .blocks) (k .fit .memory) (taskAt (arrivedAt (startMachine s) t .tasks) p) (f .registers) (f .copies) p (job c l k now p r) .ticks
+      let f = k .fit .task p (declared-task c l k now p r) in
+      statement-fit (c .blocks) (k .fit .memory) (taskAt (arrivedAt (startMachine s) t .tasks) p) (f .registers) (f .copies) p (ready c l k now p r .job) .ticks
 
   next-ticks : (t p : ℕ) → taskAt (arrivedAt (startMachine s) t .tasks) p .ticks ≡ ownBefore (who c) p 0 t → (r : Running) → who c t ≡ r → taskAt (move (arrivedAt (startMachine s) t) r .tasks) p .ticks ≡ ownBefore (who c) p 0 (suc t)
   unfolding move
@@ -59,7 +60,7 @@ module _ {s : Sheet} (c : SheetFit s) where
   next-ticks t p k (running q) e =
       let m = arrivedAt (startMachine s) t in
       let u = ticked (statement q (m .memory) (taskAt (m .tasks) q) (taskAt (m .tasks) q .phase) .task) in
-      let r = runs (m .tasks) q e in
+      let r = running-highest e in
       same? p q
       (λ z. rw (z, replace-same noTask (m .tasks) q u (r .below)) (ap suc (statement-ticks t q r ∙ (rw z at k)) ∙ sym (own-runs (who c) q 0 t (omega arith) e)))
       (λ ne. rw (replace-other noTask (m .tasks) q p u ne) (k ∙ sym (own-waits (who c) p 0 t (other-task (who c t) ne e))))

@@ -1,8 +1,8 @@
 -- It holds at the start of an accepted sheet's run, and after every tick.
-use Prim.Native.Nat.{ℕ, zero, suc, _*_, _-_}
+use Prim.Native.Nat.{ℕ, zero, suc, _-_}
 use mathlib.Core.Bool.{true}
 use mathlib.Core.Path.{_≡_, refl, sym, _∙_, ap, subst}
-use mathlib.Core.List.{List, [], _∷_, _++_, map}
+use mathlib.Core.List.{List, [], _∷_, map}
 use lib.ListN.{length, replicate}
 use Rattle.model.specs.Lists.{at}
 use Rattle.model.specs.Command.{Block}
@@ -10,8 +10,10 @@ use Rattle.model.specs.Sheet.{Sheet}
 use Rattle.model.specs.Word.{Word, Memory, cellOf, currentOf}
 use Rattle.model.specs.Word.{fresh as freshWord}
 use Rattle.model.specs.Job.{idle}
-use Rattle.model.specs.Machine.{Machine, taskAt, Running, nobody, running, runningOf, move, filled, banksFrom, startMemory, startMachine}
+use Rattle.model.specs.Machine.{Machine, taskAt, Running, nobody, running, runningOf, move, filled, banksFrom, startMachine}
 use Rattle.model.specs.History.{History, noHistory, observed}
+use Rattle.model.proofs.Lists.{at-map}
+use Rattle.model.proofs.Fit.Elements.{append-every, replicate-every}
 use Rattle.model.proofs.Fit.Sheet.{SheetFit}
 use Rattle.model.proofs.Fit.Machine.{Fit}
 use Rattle.model.proofs.Fit.Tick.{tick-fit, arrive-fit, arrived-fit}
@@ -21,9 +23,10 @@ use Rattle.model.proofs.Whole.Preserve.{invariant-at-first}
 use Rattle.model.proofs.Whole.Ground.{past-at-first}
 use Rattle.model.proofs.Transactions.Start.{start-transactions}
 use Rattle.model.proofs.Order.Steps.{stateAfter, arrivedAt, historyAfter, state-next, history-next}
-use Rattle.model.proofs.Order.Arrive.{runs, none-runs}
+use Rattle.model.proofs.Fit.Running.{running-highest}
+use Rattle.model.proofs.Order.Arrive.{none-runs}
 use Rattle.model.proofs.Order.Ticks.{arrived-at, arrived-now, arrived-linked}
-use Rattle.model.proofs.Order.Start.{WithinCeilings, started}
+use Rattle.model.proofs.Order.Start.{started, firstStore, wordCells, bankCells, start-cells, start-memory}
 use Rattle.model.proofs.Run.Acts.{actsOf, act-at}
 use Rattle.model.proofs.Run.State.{Holds, holds-arrived, holds-runs}
 use Rattle.model.proofs.Run.Latest.{latestOperation}
@@ -44,57 +47,35 @@ module _ {s : Sheet} {values : ℕ → ℕ → ℕ} {u : ℕ} {m : Machine} {h :
 
 -- THE START
 -- every cell is valid
-valid-append : (l r : List Word) → ((c : ℕ) → at (freshWord 0) l c .valid ≡ true) → ((c : ℕ) → at (freshWord 0) r c .valid ≡ true) → (c : ℕ) → at (freshWord 0) (l ++ r) c .valid ≡ true
-unfolding at
-valid-append [] r f g c = g c
-valid-append (w ∷ l) r f g zero = f 0
-valid-append (w ∷ l) r f g (suc c) = valid-append l r (λ d. f (suc d)) g c
+abbrev Valid : Word → Type 0
+Valid w = w .valid ≡ true
 
-valid-replicate : (n c : ℕ) → at (freshWord 0) (replicate n (freshWord 0)) c .valid ≡ true
-unfolding at
-valid-replicate zero c = refl
-valid-replicate (suc n) zero = refl
-valid-replicate (suc n) (suc c) = valid-replicate n c
-
-valid-filled : (n : ℕ) (l : List Word) → ((c : ℕ) → at (freshWord 0) l c .valid ≡ true) → (c : ℕ) → at (freshWord 0) (filled n (freshWord 0) l) c .valid ≡ true
+valid-filled : (n : ℕ) (l : List Word) → ((c : ℕ) → Valid (at (freshWord 0) l c)) → (c : ℕ) → Valid (at (freshWord 0) (filled n (freshWord 0) l) c)
 unfolding filled
-valid-filled n l f = valid-append l (replicate (n - length l) (freshWord 0)) f (valid-replicate (n - length l))
+valid-filled n l f = append-every (freshWord 0) Valid l (replicate (n - length l) (freshWord 0)) f (replicate-every (freshWord 0) Valid (n - length l) (freshWord 0) refl refl)
 
-valid-words : (vs : List ℕ) (c : ℕ) → at (freshWord 0) (map freshWord vs) c .valid ≡ true
-unfolding at
-valid-words [] c = refl
-valid-words (v ∷ vs) zero = refl
-valid-words (v ∷ vs) (suc c) = valid-words vs c
-
-valid-banks : (store : ℕ) (bs : List Block) (c : ℕ) → at (freshWord 0) (banksFrom store bs) c .valid ≡ true
+valid-banks : (store : ℕ) (bs : List Block) (c : ℕ) → Valid (at (freshWord 0) (banksFrom store bs) c)
 unfolding at banksFrom
 valid-banks store [] c = refl
 valid-banks store (b ∷ bs) zero = refl
 valid-banks store (b ∷ bs) (suc c) = valid-banks (suc store) bs c
 
-start-cells : (s : Sheet) → startMachine s .memory .cells ≡ filled 32 (freshWord 0) (map freshWord (s .words)) ++ filled 16 (freshWord 0) (banksFrom (4 * length (s .bodies)) (s .blocks))
-unfolding startMachine startMemory
-start-cells s = refl
-
 start-valid : (s : Sheet) (c : ℕ) → cellOf (startMachine s .memory) c .valid ≡ true
 start-valid s c =
-    rw (start-cells s)
-    (valid-append (filled 32 (freshWord 0) (map freshWord (s .words))) (filled 16 (freshWord 0) (banksFrom (4 * length (s .bodies)) (s .blocks)))
-    (valid-filled 32 (map freshWord (s .words)) (valid-words (s .words)))
-    (valid-filled 16 (banksFrom (4 * length (s .bodies)) (s .blocks)) (valid-banks (4 * length (s .bodies)) (s .blocks))) c)
+    rw (start-memory s, start-cells s)
+    (append-every (freshWord 0) Valid (wordCells s) (bankCells s)
+    (valid-filled 32 (map freshWord (s .words)) (λ w. rw (at-map freshWord 0 (s .words) w) refl))
+    (valid-filled 16 (banksFrom (firstStore s) (s .blocks)) (valid-banks (firstStore s) (s .blocks))) c)
 
 -- EVERY TICK
 module _ {s : Sheet} (c : SheetFit s) where
-  pub within : WithinCeilings s
-  within = record { words = c .words; blocks = c .blocks; bodies = c .bodies }
-
   -- the current value of a cell after t ticks
   abbrev pub valueAfter : ℕ → ℕ → ℕ
   valueAfter t a = currentOf (stateAfter (startMachine s) t .memory) a
 
   holds-start : Holds s valueAfter 0 (startMachine s) noHistory
   holds-start =
-      let none : (p : ℕ) → actAt (actsOf (startMachine s .tasks)) p ≡ free = λ p. act-at (startMachine s .tasks) p ∙ rw (started within .idle p) in
+      let none : (p : ℕ) → actAt (actsOf (startMachine s .tasks)) p ≡ free = λ p. act-at (startMachine s .tasks) p ∙ rw (started c .idle p) in
       record {
         fit = start-fit c;
         invariant = invariant-at-first (startMachine s .memory) (actsOf (startMachine s .tasks)) (start-valid s) none;
@@ -114,18 +95,18 @@ module _ {s : Sheet} (c : SheetFit s) where
 
     pub holds-at : Holds s valueAfter (arrivedAt (startMachine s) t .now) (arrivedAt (startMachine s) t) (historyAfter (startMachine s) t)
     holds-at =
-        subst (λ (u : ℕ). Holds s valueAfter u (arrivedAt (startMachine s) t) (historyAfter (startMachine s) t)) (sym (arrived-now (started within) t))
+        subst (λ (u : ℕ). Holds s valueAfter u (arrivedAt (startMachine s) t) (historyAfter (startMachine s) t)) (sym (arrived-now (started c) t))
         (holds-arrived fit-arrived (arrived-at (startMachine s) t) k)
 
     pub value-now : (a : ℕ) → valueAfter (arrivedAt (startMachine s) t .now) a ≡ currentOf (arrivedAt (startMachine s) t .memory) a
     value-now a =
-        ap (λ (u : ℕ). valueAfter u a) (arrived-now (started within) t)
+        ap (λ (u : ℕ). valueAfter u a) (arrived-now (started c) t)
         ∙ ap (λ (n : Memory). currentOf n a) (sym (arrived-at (startMachine s) t .memory))
 
     step : (r : Running) → runningOf (arrivedAt (startMachine s) t .tasks) ≡ r → Fit s (move (arrivedAt (startMachine s) t) r)
         → Holds s valueAfter (suc (arrivedAt (startMachine s) t .now)) (move (arrivedAt (startMachine s) t) r) (observed (arrivedAt (startMachine s) t) r (historyAfter (startMachine s) t))
     step nobody e f = holds-idle (none-runs (arrivedAt (startMachine s) t .tasks) e) holds-at f
-    step (running p) e f = holds-runs c (arrived-linked (started within) t) holds-at value-now p (runs (arrivedAt (startMachine s) t .tasks) p e) f
+    step (running p) e f = holds-runs c (arrived-linked (started c) t) holds-at value-now p (running-highest e) f
 
     holds-next : Holds s valueAfter (suc t) (stateAfter (startMachine s) (suc t)) (historyAfter (startMachine s) (suc t))
     holds-next =
@@ -133,7 +114,7 @@ module _ {s : Sheet} (c : SheetFit s) where
         let f : Fit s (move n (runningOf (n .tasks))) = subst (λ (z : Machine). Fit s z) (state-next (startMachine s) t) fit-next in
         subst (λ (z : Machine). Holds s valueAfter (suc t) z (historyAfter (startMachine s) (suc t))) (sym (state-next (startMachine s) t))
         (subst (λ (z : History). Holds s valueAfter (suc t) (move n (runningOf (n .tasks))) z) (sym (history-next (startMachine s) t))
-        (subst (λ (u : ℕ). Holds s valueAfter (suc u) (move n (runningOf (n .tasks))) (observed n (runningOf (n .tasks)) (historyAfter (startMachine s) t))) (arrived-now (started within) t)
+        (subst (λ (u : ℕ). Holds s valueAfter (suc u) (move n (runningOf (n .tasks))) (observed n (runningOf (n .tasks)) (historyAfter (startMachine s) t))) (arrived-now (started c) t)
         (step (runningOf (n .tasks)) refl f)))
 
   pub holds : (t : ℕ) → Holds s valueAfter t (stateAfter (startMachine s) t) (historyAfter (startMachine s) t)

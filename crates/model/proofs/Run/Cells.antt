@@ -9,16 +9,16 @@ use native.Mathlib.Decide.{decLt}
 use native.Mathlib.Omega.{arith}
 use lib.Dec.{eqb}
 use lib.ListN.{length, length-map}
-use borrow.Author.Tests.{eqb-true, eqb-false}
 use Rattle.model.specs.Lists.{at, replace}
 use Rattle.model.specs.Command.{Command, SWAP}
 use Rattle.model.specs.Word.{Word, Memory, statusOf, setStatus, currentOf, Reading, loading, looking, fetching}
-use Rattle.model.specs.Exchange.{Entry, Step, start, test, load, look, fetch, save, fail, mark, install, commit, clean, cleanMark, Exchange, commitBy, cleanBy, exchangeTick}
+use Rattle.model.specs.Exchange.{Entry, Step, start, save, commit, Exchange, commitBy, cleanBy, exchangeTick}
 use Rattle.model.specs.Job.{between, first, copying, again, committing, Phase, idle, plain, exchanging, transacting, Task}
 use Rattle.model.specs.Job.{reading as readingPhase}
 use Rattle.model.specs.Transaction.{bank, blockOf}
 use Rattle.model.specs.Machine.{taskAt}
-use Rattle.model.proofs.Lists.{test?}
+use Rattle.model.proofs.Lists.{same?, test?, impossible}
+use Rattle.model.proofs.Fit.Elements.{below?}
 use Rattle.model.proofs.Fit.Memory.{MemoryFit}
 use Rattle.model.proofs.Fit.Exchange.{ExchangeFit, exchange-start}
 use Rattle.model.proofs.Fit.Machine.{OutsideFit, PhaseFit}
@@ -35,8 +35,9 @@ use Rattle.model.proofs.Whole.Current.{start-current, current-kept, com
 use Rattle.model.proofs.Transactions.Given.{exchangeIn, SaysYes, Cells, swapped, loadedBy, readingIn, SameContent, Given}
 use Rattle.model.proofs.Transactions.Given.{same as sameCells}
 use Rattle.model.proofs.Transactions.Statement.{JobFit}
-use Rattle.model.proofs.Order.Exchange.{saysYes}
-use Rattle.model.proofs.Order.Arrive.{Runs}
+use Rattle.model.proofs.Order.Exchange.{saysYes, says-commit, says-not}
+use Rattle.model.proofs.Fit.Running.{Highest}
+use Rattle.model.proofs.Order.Arrive.{above-idle}
 use Rattle.model.proofs.Run.Acts.{readAct, actIn, taskAct, actsOf, act-at, ExchangeIn, begins, goes-on, commits, Touches, nothing, loads, looks, exchanges}
 
 -- THE ORDER OF URGENCY, now by task number
@@ -54,60 +55,52 @@ pub record Work (x : Exchange) : Type 0 where
   pub fit : ExchangeFit low high pairs x
   pub most : high ≤ 48
 
-module _ {words blocks : ℕ} (fewWords : words ≤ 32) (fewBlocks : blocks ≤ 16) (t : Task) (f : JobFit words blocks t) where
-  pub fit-as : (g : Phase) → t .phase ≡ g → PhaseFit words blocks (t .copies) (t .commands) (t .pairs) g
-  fit-as g e = subst (λ (g : Phase). PhaseFit words blocks (t .copies) (t .commands) (t .pairs) g) e f
+-- task p runs on a well formed machine that has the invariant
+pub record Ready (words blocks : ℕ) (m : Memory) (ts : List Task) (p : ℕ) : Type 0 where
+  pub fewWords : words ≤ 32
+  pub fewBlocks : blocks ≤ 16
+  pub memory : MemoryFit m
+  pub size : length ts ≡ 8
+  pub runs : Highest ts p
+  pub job : JobFit words blocks (taskAt ts p)
+  pub invariant : Invariant below m (actsOf ts)
 
-  pub work : {x : Exchange} → ExchangeIn t x → Work x
+module _ {words blocks : ℕ} {m : Memory} {ts : List Task} {p : ℕ} (R : Ready words blocks m ts p) where
+  pub job-as : (g : Phase) → taskAt ts p .phase ≡ g → PhaseFit words blocks (taskAt ts p .copies) (taskAt ts p .commands) (taskAt ts p .pairs) g
+  job-as g e = subst (λ (g : Phase). PhaseFit words blocks (taskAt ts p .copies) (taskAt ts p .commands) (taskAt ts p .pairs) g) e (R .job)
+
+  work : {x : Exchange} → ExchangeIn (taskAt ts p) x → Work x
   work (begins r l e k) =
-      let o : OutsideFit words blocks (SWAP r ∷ l) (t .pairs) = subst (λ (z : List Command). OutsideFit words blocks z (t .pairs)) k (fit-as plain e .outside) in
-      record { low = 0; high = words; pairs = t .pairs; fit = exchange-start (some-pairs (t .pairs) (o .known .body) (o .waiting) (first-fits o .some)) (o .pairs); most = omega arith }
-  work (goes-on r {x} e) = record { low = 0; high = words; pairs = t .pairs; fit = fit-as (exchanging r x) e .exchange; most = omega arith }
-  work (commits y {x} e) = record { low = 32; high = 32 + blocks; pairs = _; fit = fit-as (transacting y (committing x)) e .inner .exchange; most = omega arith }
+      let o : OutsideFit words blocks (SWAP r ∷ l) (taskAt ts p .pairs) = subst (λ (z : List Command). OutsideFit words blocks z (taskAt ts p .pairs)) k (job-as plain e .outside) in
+      record { low = 0; high = words; pairs = taskAt ts p .pairs; fit = exchange-start (some-pairs (taskAt ts p .pairs) (o .known .body) (o .waiting) (first-fits o .some)) (o .pairs); most = omega (arith, R .fewWords) }
+  work (goes-on r {x} e) = record { low = 0; high = words; pairs = taskAt ts p .pairs; fit = job-as (exchanging r x) e .exchange; most = omega (arith, R .fewWords) }
+  work (commits y {x} e) = record { low = 32; high = 32 + blocks; pairs = _; fit = job-as (transacting y (committing x)) e .inner .exchange; most = omega (arith, R .fewBlocks) }
 
-pub room : {m : Memory} {p : ℕ} {x : Exchange} → MemoryFit m → p < 8 → Work x → Room m p (x .entries)
-room {m} {p} {x} g l w = record { saves = omega (arith, g .saves); places = omega (arith, g .save p l, w .fit .entries .most); cells = λ e h. omega (arith, g .cells, w .fit .entries .below e h, w .most) }
+  pub room : {x : Exchange} → ExchangeIn (taskAt ts p) x → Room m p (x .entries)
+  room i =
+      let w = work i in
+      let g = R .memory in
+      let l : p < 8 = omega (arith, R .runs .below, R .size) in
+      record { saves = omega (arith, g .saves); places = omega (arith, g .save p l, w .fit .entries .most); cells = λ e h. omega (arith, g .cells, w .fit .entries .below e h, w .most) }
 
-pub distinct : {x : Exchange} → Work x → Distinct (x .entries)
-distinct w = w .fit .entries .different
+  pub distinct : {x : Exchange} → ExchangeIn (taskAt ts p) x → Distinct (x .entries)
+  distinct i = work i .fit .entries .different
 
--- THE SITUATION of a statement
-pub situation : {m : Memory} {ts : List Task} {p : ℕ} → MemoryFit m → length ts ≡ 8 → Runs ts p → Invariant below m (actsOf ts) → Situation below m (actsOf ts) p (actIn (taskAt ts p .phase))
-situation {m} {ts} {p} g size r I = record {
-  order = by-number;
-  rank = λ q. rank q (decLt q p);
-  act = act-at ts p;
-  task = omega (arith, r .below, length-map ts taskAct);
-  sizes = g .status ∙ sym (length-map ts taskAct ∙ size);
-  invariant = I;
-}
-  where
-    rank : (q : ℕ) → Dec (q < p) → Rank below (actsOf ts) p q
-    rank q (yes l) = lower l
-    rank q (no n) = go (decLt p q)
-      where
-        go : Dec (p < q) → Rank below (actsOf ts) p q
-        go (yes l) = idleRank (act-at ts q ∙ ap actIn (r .highest q l))
-        go (no k) = itself (omega arith)
+  -- THE SITUATION of a statement
+  rank : (q : ℕ) → Rank below (actsOf ts) p q
+  rank q = same? q p itself (λ ne. below? q p (λ l. lower l) (λ l. idleRank (act-at ts q ∙ ap actIn (above-idle (R .runs) q (omega arith)))))
+
+  pub situation : {v : Act} → actIn (taskAt ts p .phase) ≡ v → Situation below m (actsOf ts) p v
+  situation e = record {
+    order = by-number;
+    rank = rank;
+    act = act-at ts p ∙ e;
+    task = omega (arith, R .runs .below, length-map ts taskAct);
+    sizes = R .memory .status ∙ sym (length-map ts taskAct ∙ R .size);
+    invariant = R .invariant;
+  }
 
 -- A COMMIT THAT SAYS YES
-pub says-commit : (p : ℕ) (m : Memory) (s : Step) → saysYes p m s ≡ true → (s ≡ commit) × (statusOf m p ≡ 0)
-says-commit p m commit e = (refl, eqb-true _ _ e)
-says-commit p m start e = absurd (true≢false (sym e))
-says-commit p m test e = absurd (true≢false (sym e))
-says-commit p m load e = absurd (true≢false (sym e))
-says-commit p m look e = absurd (true≢false (sym e))
-says-commit p m fetch e = absurd (true≢false (sym e))
-says-commit p m fail e = absurd (true≢false (sym e))
-says-commit p m mark e = absurd (true≢false (sym e))
-says-commit p m install e = absurd (true≢false (sym e))
-says-commit p m (save v) e = absurd (true≢false (sym e))
-says-commit p m (clean j yes?) e = absurd (true≢false (sym e))
-says-commit p m (cleanMark j yes?) e = absurd (true≢false (sym e))
-
-pub says-not : (p : ℕ) (m : Memory) (s : Step) → saysYes p m s ≡ false → s ≡ commit → statusOf m p ≢ 0
-says-not p m s e c = eqb-false _ _ (subst (λ (z : Step). saysYes p m z ≡ false) c e)
-
 clean-memory : (b : Bool) (n : Memory) (x : Exchange) (yes? : Bool) → memoryAfter (cleanBy b n x yes?) ≡ n
 unfolding cleanBy
 clean-memory true n x yes? = refl
@@ -129,14 +122,14 @@ start-memory p m x s e = subst (λ (z : Step). memoryAfter (exchangeTick p m x z
 
 -- the act of a task in an exchange
 exchange-act : (f : Phase) (x : Exchange) → exchangeIn f ≡ some x → actIn f ≡ actOf x
-exchange-act idle x e = let z : _≡_ {A = ℕ} 0 1 = cc in absurd (omega arith)
-exchange-act plain x e = let z : _≡_ {A = ℕ} 0 1 = cc in absurd (omega arith)
-exchange-act (readingPhase r w s) x e = let z : _≡_ {A = ℕ} 0 1 = cc in absurd (omega arith)
+exchange-act idle x e = impossible (cc)
+exchange-act plain x e = impossible (cc)
+exchange-act (readingPhase r w s) x e = impossible (cc)
 exchange-act (exchanging r y) x e = let z : y ≡ x = cc in rw z
-exchange-act (transacting y between) x e = let z : _≡_ {A = ℕ} 0 1 = cc in absurd (omega arith)
-exchange-act (transacting y (first a r)) x e = let z : _≡_ {A = ℕ} 0 1 = cc in absurd (omega arith)
-exchange-act (transacting y (copying a n)) x e = let z : _≡_ {A = ℕ} 0 1 = cc in absurd (omega arith)
-exchange-act (transacting y (again a v r)) x e = let z : _≡_ {A = ℕ} 0 1 = cc in absurd (omega arith)
+exchange-act (transacting y between) x e = impossible (cc)
+exchange-act (transacting y (first a r)) x e = impossible (cc)
+exchange-act (transacting y (copying a n)) x e = impossible (cc)
+exchange-act (transacting y (again a v r)) x e = impossible (cc)
 exchange-act (transacting y (committing c)) x e = let z : c ≡ x = cc in rw z
 
 yes-act : {p : ℕ} {m : Memory} {f : Phase} {x : Exchange} → SaysYes p m f x → actIn f ≡ exchangingAct x
@@ -145,12 +138,12 @@ yes-act {f = f} {x} y = exchange-act f x (y .exchange) ∙ rw (y .step)
 -- WHAT A READING HAS LOADED
 module _ (of : ℕ → Type 0) (status : List ℕ) (saves : List (List ℕ)) (acts : List Act) (q : ℕ) where
   loaded-in : (c : ℕ) (r : Reading) (w : Word) → loadedBy r ≡ some w → Knows of status saves acts q (readAct c r) → (c : ℕ) × WellFormed of acts c w
-  loaded-in c loading w e k = let z : _≡_ {A = ℕ} 0 1 = cc in absurd (omega arith)
+  loaded-in c loading w e k = impossible (cc)
   loaded-in c (looking v) w e k = let z : v ≡ w = cc in (c, rw z at k)
   loaded-in c (fetching v) w e k = let z : v ≡ w = cc in (c, rw z at (k .0))
 
   nothing-loaded : {P : Type 0} {w : Word} → _≡_ {A = Option Word} none (some w) → P
-  nothing-loaded e = let z : _≡_ {A = ℕ} 0 1 = cc in absurd (omega arith)
+  nothing-loaded e = impossible (cc)
 
   loaded-content : (f : Phase) (w : Word) → loadedBy (readingIn f) ≡ some w → Knows of status saves acts q (actIn f) → (c : ℕ) × WellFormed of acts c w
   loaded-content idle w e k = nothing-loaded e
@@ -164,21 +157,12 @@ module _ (of : ℕ → Type 0) (status : List ℕ) (saves : List (List ℕ)) (ac
   loaded-content (transacting x (committing c)) w e k = nothing-loaded e
 
 -- WHAT THE STATEMENT LEAVES
-module _ {m : Memory} {ts : List Task} {p words blocks : ℕ} (g : MemoryFit m) (size : length ts ≡ 8) (r : Runs ts p) (fewWords : words ≤ 32) (fewBlocks : blocks ≤ 16) (f : JobFit words blocks (taskAt ts p)) (I : Invariant below m (actsOf ts)) where
-  abbrev S : {v : Act} → actIn (taskAt ts p .phase) ≡ v → Situation below m (actsOf ts) p v
-  S e = subst (λ (v : Act). Situation below m (actsOf ts) p v) e (situation g size r I)
-
-  small : p < 8
-  small = omega (arith, r .below)
-
-  roomFor : {x : Exchange} → ExchangeIn (taskAt ts p) x → Room m p (x .entries)
-  roomFor i = room g small (work fewWords fewBlocks (taskAt ts p) f i)
-
+module _ {words blocks : ℕ} {m : Memory} {ts : List Task} {p : ℕ} (R : Ready words blocks m ts p) where
   pub invariant-after : {v v′ : Act} {n : Memory} → actIn (taskAt ts p .phase) ≡ v → Touches p m (taskAt ts p) v n v′ → Invariant below n (replace (actsOf ts) p v′)
-  invariant-after e (nothing s) = rw (s .is) (stores-kept (s .stores) (free-kept (S e) tt))
-  invariant-after e (loads c) = load-kept (S e) tt c
-  invariant-after e (looks c k q) = rw q (reading-kept c k (S e))
-  invariant-after e (exchanges x i) = exchange-kept x (S e) (roomFor i) (λ s. distinct (work fewWords fewBlocks (taskAt ts p) f i))
+  invariant-after e (nothing s) = rw (s .is) (stores-kept (s .stores) (free-kept (situation R e) tt))
+  invariant-after e (loads c) = load-kept (situation R e) tt c
+  invariant-after e (looks c k q) = rw q (reading-kept c k (situation R e))
+  invariant-after e (exchanges x i) = exchange-kept x (situation R e) (room R i) (λ s. distinct R i)
 
   frame-after : {v v′ : Act} {n : Memory} → actIn (taskAt ts p .phase) ≡ v → Touches p m (taskAt ts p) v n v′ → Frame p m n
   frame-after e (nothing s) = rw (s .is) (record { status = λ q ne. same refl; saves = λ q k ne. refl })
@@ -186,31 +170,31 @@ module _ {m : Memory} {ts : List Task} {p words blocks : ℕ} (g : MemoryFit m) 
   frame-after e (looks c k q) = frame-none p m
   frame-after e (exchanges x i) = started? x
       (λ s. rw (start-memory p m x (x .step) s) (frame-status p m 0))
-      (λ k. exchange-moved (S (e ∙ k)) (roomFor i) (outcome p m x) .frame)
+      (λ k. exchange-moved (situation R (e ∙ k)) (room R i) (outcome p m x) .frame)
 
   -- no exchange is at work, or only begins
   quiet-cells : {n : Memory} {v : Act} → actIn (taskAt ts p .phase) ≡ v → ((x : Exchange) → v ≡ exchangingAct x → ⊥) → ((c : ℕ) → currentOf n c ≡ currentOf m c) → Cells p m (taskAt ts p .phase) n
   quiet-cells e ne h = sameCells (λ x y. ne x (sym e ∙ yes-act y)) h
 
   exchange-is : {x : Exchange} → ExchangeIn (taskAt ts p) x → x .step ≡ commit → exchangeIn (taskAt ts p .phase) ≡ some x
-  exchange-is (begins q l e k) c = let z : _≡_ {A = ℕ} 0 1 = cc in absurd (omega arith)
+  exchange-is (begins q l e k) c = impossible (cc)
   exchange-is (goes-on q e) c = rw e
   exchange-is (commits y e) c = rw e
 
   exchange-cells : (x : Exchange) → ExchangeIn (taskAt ts p) x → actIn (taskAt ts p .phase) ≡ exchangingAct x → Cells p m (taskAt ts p .phase) (memoryAfter (exchangeTick p m x (x .step)))
   exchange-cells x i e = test? (saysYes p m (x .step))
       (λ t. let c = says-commit p m (x .step) t in
-      swapped x (record { exchange = exchange-is i (c .0); step = c .0; status = c .1 }) (commit-all (S e) (c .0) (c .1))
-      (rw (yes-memory p m x (x .step) t) (record { old = commit-old (S e) (c .0) (c .1); new = commit-new (S e) (c .0) (c .1); others = commit-others (S e) (c .0) (c .1) })))
-      (λ n. sameCells (λ y Y. let z : x ≡ y = cc (e, yes-act Y) in says-not p m (x .step) n (rw z (Y .step)) (Y .status)) (current-kept (S e) (roomFor i) (outcome p m x) (says-not p m (x .step) n)))
+      swapped x (record { exchange = exchange-is i (c .0); step = c .0; status = c .1 }) (commit-all (situation R e) (c .0) (c .1))
+      (rw (yes-memory p m x (x .step) t) (record { old = commit-old (situation R e) (c .0) (c .1); new = commit-new (situation R e) (c .0) (c .1); others = commit-others (situation R e) (c .0) (c .1) })))
+      (λ n. sameCells (λ y Y. let z : x ≡ y = cc (e, yes-act Y) in says-not p m (x .step) n (rw z (Y .step)) (Y .status)) (current-kept (situation R e) (room R i) (outcome p m x) (says-not p m (x .step) n)))
 
   cells-after : {v v′ : Act} {n : Memory} → actIn (taskAt ts p .phase) ≡ v → Touches p m (taskAt ts p) v n v′ → Cells p m (taskAt ts p .phase) n
-  cells-after e (nothing s) = quiet-cells e (λ x k. let z : _≡_ {A = ℕ} 0 1 = cc in omega arith) (λ c. rw (s .is) refl)
-  cells-after e (loads c) = quiet-cells e (λ x k. let z : _≡_ {A = ℕ} 0 1 = cc in omega arith) (λ c. refl)
-  cells-after e (looks c k q) = quiet-cells e (λ x k. let z : _≡_ {A = ℕ} 0 1 = cc in omega arith) (λ c. refl)
+  cells-after e (nothing s) = quiet-cells e (λ x k. impossible (cc)) (λ c. rw (s .is) refl)
+  cells-after e (loads c) = quiet-cells e (λ x k. impossible (cc)) (λ c. refl)
+  cells-after e (looks c k q) = quiet-cells e (λ x k. impossible (cc)) (λ c. refl)
   cells-after e (exchanges x i) = started? x
       (λ s. let k : actOf x ≡ free = rw s in
-      quiet-cells (e ∙ k) (λ y q. let z : _≡_ {A = ℕ} 0 1 = cc in omega arith) (λ c. rw (start-memory p m x (x .step) s) (start-current (S (e ∙ k)) tt c)))
+      quiet-cells (e ∙ k) (λ y q. impossible (cc)) (λ c. rw (start-memory p m x (x .step) s) (start-current (situation R (e ∙ k)) tt c)))
       (λ k. exchange-cells x i (e ∙ k))
 
   readings-after : {n : Memory} → Frame p m n → (q : ℕ) → q ≢ p → (w : Word) → loadedBy (readingIn (taskAt ts q .phase)) ≡ some w → SameContent m n w
@@ -218,10 +202,10 @@ module _ {m : Memory} {ts : List Task} {p words blocks : ℕ} (g : MemoryFit m) 
     where
       go : Dec (q < p) → SameContent m n w
       go (yes l) =
-          let k : Knows (λ z. below z q) (m .status) (m .saves) (actsOf ts) q (actIn (taskAt ts q .phase)) = subst (λ (v : Act). Knows (λ z. below z q) (m .status) (m .saves) (actsOf ts) q v) (act-at ts q) (I .knows q) in
+          let k : Knows (λ z. below z q) (m .status) (m .saves) (actsOf ts) q (actIn (taskAt ts q .phase)) = subst (λ (v : Act). Knows (λ z. below z q) (m .status) (m .saves) (actsOf ts) q v) (act-at ts q) (R .invariant .knows q) in
           let c = loaded-content (λ z. below z q) (m .status) (m .saves) (actsOf ts) q (taskAt ts q .phase) w e k in
           record { value = current-frame F (λ z b d. omega arith) (c .1); counts = own-frame F (λ z b d. omega arith) (c .1) }
-      go (no k) = let z : _≡_ {A = ℕ} 0 1 = cc (rw (r .highest q (omega arith)) at e) in absurd (omega arith)
+      go (no k) = impossible (cc (rw (above-idle (R .runs) q (omega arith)) at e))
 
   pub given-after : {v v′ : Act} {n : Memory} → actIn (taskAt ts p .phase) ≡ v → Touches p m (taskAt ts p) v n v′ → Given p m ts n
   given-after e t = record { cells = cells-after e t; readings = readings-after (frame-after e t) }

@@ -19,6 +19,7 @@ use Rattle.model.specs.Machine.{Machine, taskAt, running}
 use Rattle.model.specs.Plain.{Contents, transactionOf, swapOf, result, plainly}
 use Rattle.model.specs.History.{Operation, History, operationAt, pairOf, untilCommit, observed}
 use Rattle.model.specs.Claim.{contentsOf}
+use Rattle.model.proofs.Lists.{impossible}
 use Rattle.model.proofs.Fit.Sheet.{SheetFit}
 use Rattle.model.proofs.Fit.Machine.{ExchangingFit}
 use Rattle.model.proofs.Fit.Exchange.{entryOf, SamePairs}
@@ -28,24 +29,24 @@ use Rattle.model.proofs.Whole.Ground.{differs, beaten, GroundsOf}
 use Rattle.model.proofs.Transactions.Given.{exchangeIn, SaysYes, Swapped, Cells, same, swapped}
 use Rattle.model.proofs.Transactions.Machine.{turnOf}
 use Rattle.model.proofs.Transactions.Replay.{blocks-stay, contents-stay, commit-replays, nothing-replays}
-use Rattle.model.proofs.Order.Exchange.{saysYes, pairsOf}
+use Rattle.model.proofs.Order.Exchange.{saysYes, says-commit, says-not, pairsOf}
 use Rattle.model.proofs.Order.Moves.{given, innerCommitted, hasCommitted, readSettles, swapSettles, transactionSettles, commandSettles, innerSettles, settling}
 use Rattle.model.proofs.Order.Noted.{latestOf}
 use Rattle.model.proofs.Order.Linked.{Open, OpenBy, Inside, givenTo}
 use Rattle.model.proofs.Order.Hit.{Hit}
 use Rattle.model.proofs.Order.Justified.{Found, Ground, differed, hit, Justified}
-use Rattle.model.proofs.Order.Arrive.{Runs}
+use Rattle.model.proofs.Fit.Running.{Highest}
 use Rattle.model.proofs.Order.Ticks.{MachineLinked, next-of}
 use Rattle.model.proofs.Run.Acts.{actIn, goes-on}
-use Rattle.model.proofs.Run.Cells.{fit-as, says-commit, says-not}
+use Rattle.model.proofs.Run.Cells.{job-as}
 use Rattle.model.proofs.Run.Past.{knowledge, among-pairs}
 use Rattle.model.proofs.Run.Grounds.{same-pairs, read-seen, no-seen}
 use Rattle.model.proofs.Run.Swap.{word-at, swap-replays}
 use Rattle.model.proofs.Run.Latest.{latestOperation}
-use Rattle.model.proofs.Run.State.{Holds, job, running-task}
+use Rattle.model.proofs.Run.State.{Holds, ready, running-task}
 
 -- `memories t` is the shared memory after t ticks
-module _ {s : Sheet} (c : SheetFit s) (memories : ℕ → Memory) {m : Machine} {h : History} (linked : MachineLinked m h) (k : Holds s (λ t a. currentOf (memories t) a) (m .now) m h) (p : ℕ) (r : Runs (m .tasks) p)
+module _ {s : Sheet} (c : SheetFit s) (memories : ℕ → Memory) {m : Machine} {h : History} (linked : MachineLinked m h) (k : Holds s (λ t a. currentOf (memories t) a) (m .now) m h) (p : ℕ) (r : Highest (m .tasks) p)
     (before : memories (m .now) ≡ m .memory) (after : memories (suc (m .now)) ≡ turnOf p (m .memory) (m .tasks) .memory) where
   abbrev contents : ℕ → Contents
   contents t = contentsOf s (memories t)
@@ -58,14 +59,14 @@ module _ {s : Sheet} (c : SheetFit s) (memories : ℕ → Memory) {m : Machine} 
   stays f = rw (before, after) (sym (contents-stay s (running-task c linked k now p r) f))
 
   no-exchange : {f : Phase} → taskAt (m .tasks) p .phase ≡ f → exchangeIn f ≡ none → (x : Exchange) → SaysYes p (m .memory) (taskAt (m .tasks) p .phase) x → ⊥
-  no-exchange e z x y = let w : _≡_ {A = ℕ} 0 1 = cc (y .exchange, ap exchangeIn e) in omega arith
+  no-exchange e z x y = impossible (cc (y .exchange, ap exchangeIn e))
 
   -- READ
   module _ (q w : ℕ) (i : Reading) (e : taskAt (m .tasks) p .phase ≡ readingPhase q w i) where
     found : (v : ℕ) → readTick (m .memory) w i ≡ gives v → Found contents (latestOf h p) (m .now) w v
     found v z =
-        let seen = read-seen (k .fit .memory) (k .fit .tasks) r (c .words) (c .blocks) (job c linked k now p r) (k .invariant) (linked .linked) (next-of linked p r) now (k .past .past) q w i v e z in
-        let f = fit-as (c .words) (c .blocks) (taskAt (m .tasks) p) (job c linked k now p r) (readingPhase q w i) e in
+        let seen = read-seen (ready c linked k now p r) (linked .linked) (next-of linked p r) now (k .past .past) q w i v e z in
+        let f = job-as (ready c linked k now p r) (readingPhase q w i) e in
         record { tick = seen .tick; from = rw (← next-of linked p r .stays (rw e tt)) (seen .from); to = omega (arith, seen .before); value = word-at s (memories (seen .tick)) w (f .word) ∙ seen .value }
 
     read-justified : (o : Read) → readTick (m .memory) w i ≡ o → Justified contents (m .now) p h (readSettles w o)
@@ -75,7 +76,7 @@ module _ {s : Sheet} (c : SheetFit s) (memories : ℕ → Memory) {m : Machine} 
   -- SWAP
   module _ (q : ℕ) (x : Exchange) (e : taskAt (m .tasks) p .phase ≡ exchanging q x) where
     fit : ExchangingFit (length (s .words)) (length (s .blocks)) (taskAt (m .tasks) p .commands) (taskAt (m .tasks) p .pairs) q x
-    fit = fit-as (c .words) (c .blocks) (taskAt (m .tasks) p) (job c linked k now p r) (exchanging q x) e
+    fit = job-as (ready c linked k now p r) (exchanging q x) e
 
     swap-yes : saysYes p (m .memory) (x .step) ≡ true → plainly (swapOf (pairsOf x)) (contents (m .now)) ≡ result (contents (suc (m .now))) (1 ∷ [])
     swap-yes y = rw (before, after) (go (running-task c linked k now p r .given .cells))
@@ -85,7 +86,7 @@ module _ {s : Sheet} (c : SheetFit s) (memories : ℕ → Memory) {m : Machine} 
         go (swapped z Y i X) =
             let w : z ≡ x = cc (Y .exchange, ap exchangeIn e) in
             swap-replays s (x .entries) (subst (λ (b : Exchange). Swapped (m .memory) (turnOf p (m .memory) (m .tasks) .memory) (b .entries)) w X) (fit .exchange .entries .below) (fit .exchange .entries .different)
-            (blocks-stay s (running-task c linked k now p r) (λ Z. let y : _≡_ {A = ℕ} 0 1 = cc (Z .phase) in omega arith))
+            (blocks-stay s (running-task c linked k now p r) (λ Z. impossible (cc (Z .phase))))
 
     not-yes : saysYes p (m .memory) (x .step) ≡ false → contents (m .now) ≡ contents (suc (m .now))
     not-yes y = stays (λ z Y. let w : z ≡ x = cc (Y .exchange, ap exchangeIn e) in says-not p (m .memory) (x .step) y (rw w at (Y .step)) (Y .status))
@@ -94,7 +95,7 @@ module _ {s : Sheet} (c : SheetFit s) (memories : ℕ → Memory) {m : Machine} 
     at-exchange : (o : Memory) → exchangeTick p (m .memory) x (x .step) ≡ ends o false → actIn (taskAt (m .tasks) p .phase) ≡ exchangingAct x
     unfolding exchangeTick
     at-exchange o z = rw e (started? x
-        (λ st. let y : exchangeTick p (m .memory) x start ≡ ends o false = subst (λ (b : Step). exchangeTick p (m .memory) x b ≡ ends o false) st z in let w : _≡_ {A = ℕ} 0 1 = cc in absurd (omega arith))
+        (λ st. let y : exchangeTick p (m .memory) x start ≡ ends o false = subst (λ (b : Step). exchangeTick p (m .memory) x b ≡ ends o false) st z in impossible (cc))
         (λ w. w))
 
     -- a hit that is known after the tick was there before it
@@ -106,7 +107,7 @@ module _ {s : Sheet} (c : SheetFit s) (memories : ℕ → Memory) {m : Machine} 
         record {
           by = b .by;
           other = b .other;
-          began = sym (t .else (b .by) (λ z. let y : _≡_ {A = ℕ} 0 1 = cc (b .began, t .none-begun inside, ap (operationAt (observed m (running p) h)) z) in omega arith) (λ i z. omega (arith, b .after))) ∙ b .began;
+          began = sym (t .else (b .by) (λ z. impossible (cc (b .began, t .none-begun inside, ap (operationAt (observed m (running p) h)) z))) (λ i z. omega (arith, b .after))) ∙ b .began;
           higher = b .higher;
           after = rw (← same-latest) (b .after);
           pairs = b .pairs;
@@ -118,10 +119,10 @@ module _ {s : Sheet} (c : SheetFit s) (memories : ℕ → Memory) {m : Machine} 
         }
 
     ground : (o : Memory) → exchangeTick p (m .memory) x (x .step) ≡ ends o false → Ground contents (m .now) p h (pairsOf x)
-    ground o z = go (no-seen (k .fit .memory) (k .fit .tasks) r (c .words) (c .blocks) (job c linked k now p r) (k .invariant) (linked .linked) (next-of linked p r) now (k .past .past) x o (goes-on q e) (at-exchange o z) z)
+    ground o z = go (no-seen (ready c linked k now p r) (linked .linked) (next-of linked p r) now (k .past .past) x o (goes-on q e) (at-exchange o z) z)
       where
         pairs : SamePairs (x .entries) (k .past .pairs p)
-        pairs = same-pairs (k .fit .memory) (k .fit .tasks) r (c .words) (c .blocks) (job c linked k now p r) (k .invariant) (linked .linked) (next-of linked p r) now (k .past .past) x (at-exchange o z)
+        pairs = same-pairs (ready c linked k now p r) (linked .linked) (next-of linked p r) now (k .past .past) x (at-exchange o z)
 
         within : (i : ℕ) → i < length (k .past .pairs p) → i < length (x .entries)
         within i l = omega (arith, pairs .size)

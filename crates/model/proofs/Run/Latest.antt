@@ -19,9 +19,6 @@ operationOr (some o) = o
 abbrev pub latestOperation : History → ℕ → Operation
 latestOperation h p = operationOr (operationAt h (latestOf h p))
 
-pub open-latest : {h : History} {p : ℕ} {a : Arguments} {yes? : Bool} (o : Open h p a yes?) → latestOperation h p ≡ o .operation
-open-latest o = rw (o .is)
-
 module _ (u p : ℕ) (h : History) (size : length (h .began) ≡ u) (below : p < length (h .latest)) where
   after-nothing : latestOperation (noted u p nothing h) p ≡ latestOperation h p
   after-nothing = rw (latest-nothing u p h size p, noted-nothing u p h size (latestOf h p))

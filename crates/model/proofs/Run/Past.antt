@@ -17,21 +17,19 @@ use Rattle.model.specs.Machine.{taskAt}
 use Rattle.model.specs.Plain.{Arguments, swapOf}
 use Rattle.model.specs.History.{History, pairOf}
 use Rattle.model.specs.Claim.{Among}
-use Rattle.model.proofs.Lists.{same?}
+use Rattle.model.proofs.Lists.{same?, impossible}
 use Rattle.model.proofs.Fit.Exchange.{entryOf, SamePairs}
 use Rattle.model.proofs.Whole.Act.{free, actAt, actOf, started?}
 use Rattle.model.proofs.Whole.Act.{exchanging as exchangingAct}
 use Rattle.model.proofs.Whole.Ground.{Busy, Passes, SeesNow}
 use Rattle.model.proofs.Whole.Ground.{History as Knowledge}
-use Rattle.model.proofs.Transactions.Statement.{JobFit}
 use Rattle.model.proofs.Order.Exchange.{pairsOf}
 use Rattle.model.proofs.Order.Moves.{given}
 use Rattle.model.proofs.Order.Noted.{latestOf}
 use Rattle.model.proofs.Order.Linked.{Open, Inside, givenTo, Linked, Next}
 use Rattle.model.proofs.Order.Hit.{Hit, hit-kept, hit-lower, hit-by}
-use Rattle.model.proofs.Order.Arrive.{Runs}
 use Rattle.model.proofs.Run.Acts.{readAct, actIn, actsOf, act-at, ExchangeIn, begins, goes-on, commits}
-use Rattle.model.proofs.Run.Cells.{below, fit-as}
+use Rattle.model.proofs.Run.Cells.{below, Ready, job-as}
 
 -- cell c had the value v at the beginning of a tick of task r's latest operation, u ticks being done
 pub record Seen (values : ℕ → ℕ → ℕ) (u : ℕ) (h : History) (r c v : ℕ) : Type 0 where
@@ -59,7 +57,7 @@ pub acts-inside : (ts : List Task) (r : ℕ) → actAt (actsOf ts) r ≢ free �
 acts-inside ts r ne = inner-inside (taskAt ts r .phase) (λ e. ne (act-at ts r ∙ e))
 
 busy-inside : (ts : List Task) (r : ℕ) → Busy (actsOf ts) r → Inside (givenTo ts r)
-busy-inside ts r b = acts-inside ts r (λ e. let z : _≡_ {A = ℕ} 0 1 = cc (b .act) in omega arith)
+busy-inside ts r b = acts-inside ts r (λ e. impossible (cc (b .act)))
 
 -- the pair of each entry is among the pairs
 pub among-pairs : (es : List Entry) (e : ℕ) → e < length es → Among (pairOf (entryOf es e)) (map pairOf es)
@@ -70,26 +68,26 @@ among-pairs (a ∷ es) (suc e) l = inr (among-pairs es e (omega arith))
 
 -- THE EXCHANGE OF A BUSY TASK
 read-not : (c : ℕ) (r : Reading) {x : Exchange} {P : Type 0} → readAct c r ≡ exchangingAct x → P
-read-not c loading e = let z : _≡_ {A = ℕ} 0 1 = cc in absurd (omega arith)
-read-not c (looking w) e = let z : _≡_ {A = ℕ} 0 1 = cc in absurd (omega arith)
-read-not c (fetching w) e = let z : _≡_ {A = ℕ} 0 1 = cc in absurd (omega arith)
+read-not c loading e = impossible (cc)
+read-not c (looking w) e = impossible (cc)
+read-not c (fetching w) e = impossible (cc)
 
 act-is : {x : Exchange} (y : Exchange) → actOf y ≡ exchangingAct x → y ≡ x
-act-is y e = started? y (λ s. let k : actOf y ≡ free = rw s in let z : _≡_ {A = ℕ} 0 1 = cc in absurd (omega arith)) (λ k. cc)
+act-is y e = started? y (λ s. let k : actOf y ≡ free = rw s in impossible (cc)) (λ k. cc)
 
 pub at-work : (t : Task) (f : Phase) {x : Exchange} → t .phase ≡ f → actIn f ≡ exchangingAct x → ExchangeIn t x
-at-work t idle k e = let z : _≡_ {A = ℕ} 0 1 = cc in absurd (omega arith)
-at-work t plain k e = let z : _≡_ {A = ℕ} 0 1 = cc in absurd (omega arith)
+at-work t idle k e = impossible (cc)
+at-work t plain k e = impossible (cc)
 at-work t (readingPhase r w s) k e = read-not w s e
 at-work t (exchanging r y) k e = goes-on r (k ∙ ap (exchanging r) (act-is y e))
-at-work t (transacting y between) k e = let z : _≡_ {A = ℕ} 0 1 = cc in absurd (omega arith)
+at-work t (transacting y between) k e = impossible (cc)
 at-work t (transacting y (first a r)) k e = read-not (bank (blockOf a)) r e
-at-work t (transacting y (copying a n)) k e = let z : _≡_ {A = ℕ} 0 1 = cc in absurd (omega arith)
+at-work t (transacting y (copying a n)) k e = impossible (cc)
 at-work t (transacting y (again a v r)) k e = read-not (bank (blockOf a)) r e
 at-work t (transacting y (committing c)) k e = commits y (k ∙ ap (λ (z : Exchange). transacting y (committing z)) (act-is c e))
 
 -- A TICK OF TASK p
-module _ {u p words blocks : ℕ} {ts : List Task} {h h′ : History} {g′ : Option Arguments} {yes? : Bool} (runs : Runs ts p) (fewWords : words ≤ 32) (fewBlocks : blocks ≤ 16) (f : JobFit words blocks (taskAt ts p)) (l : Linked u ts h) (n : Next u p h h′ (givenTo ts p) g′ yes?) where
+module _ {u p words blocks : ℕ} {m : Memory} {ts : List Task} {h h′ : History} {g′ : Option Arguments} {yes? : Bool} (R : Ready words blocks m ts p) (l : Linked u ts h) (n : Next u p h h′ (givenTo ts p) g′ yes?) where
   latest-stays : (r : ℕ) → Inside (givenTo ts r) → latestOf h′ r ≡ latestOf h r
   latest-stays r i = same? r p (λ e. rw e (n .stays (rw e at i))) (λ ne. n .other r ne)
 
@@ -102,7 +100,7 @@ module _ {u p words blocks : ℕ} {ts : List Task} {h h′ : History} {g′ : Op
 
   -- an exchange of words hits lower tasks on the words that it changes; an exchange of bank words counts as a hit
   own-hit : {x : Exchange} {ps : List Entry} → ExchangeIn (taskAt ts p) x → actIn (taskAt ts p .phase) ≡ exchangingAct x → SamePairs (x .entries) ps → (r e : ℕ) → Inside (givenTo ts r) → r < p → e < length ps → entryOf ps e .old ≢ entryOf ps e .new → HitOn h′ r (entryOf ps e .cell)
-  own-hit {x} {ps} (begins q k e₀ c) a s r e i lt le ne = let z : _≡_ {A = ℕ} 0 1 = cc (rw e₀ at a) in absurd (omega arith)
+  own-hit {x} {ps} (begins q k e₀ c) a s r e i lt le ne = impossible (cc (rw e₀ at a))
   own-hit {x} {ps} (goes-on q k) a s r e i lt le ne =
       let o : Open h p (swapOf (pairsOf x)) _ = rw k at (l .opened p) in
       let in-x : e < length (x .entries) = omega (arith, s .size) in
@@ -112,7 +110,7 @@ module _ {u p words blocks : ℕ} {ts : List Task} {h h′ : History} {g′ : Op
       rw (← s .cell e) (inr (hit-kept (n .advance) (latest-stays r i) b))
   own-hit {x} {ps} (commits y k) a s r e i lt le ne =
       let in-x : e < length (x .entries) = omega (arith, s .size) in
-      let w = fit-as fewWords fewBlocks (taskAt ts p) f (transacting y (committing x)) k in
+      let w = job-as R (transacting y (committing x)) k in
       inl (omega (arith, w .inner .exchange .entries .from e in-x, s .cell e))
 
   -- the exchange that task p is in has the pairs that are known of it
@@ -134,5 +132,5 @@ module _ {u p words blocks : ℕ} {ts : List Task} {h h′ : History} {g′ : Op
       down r c b bp lt (inl k) = inl k
       down r c b bp lt (inr k) = inr (hit-kept (n .advance) (latest-stays r (busy-inside ts r b)) (hit-lower l r p lt (busy-inside ts r b) (busy-inside ts p bp) c k))
 
-  pub sees-now : {values : ℕ → ℕ → ℕ} (pairs : ℕ → List Entry) (m : Memory) → ((c : ℕ) → values u c ≡ currentOf m c) → SeesNow m p (knowledge values (suc u) h′ pairs)
-  sees-now pairs m now = λ c. record { tick = u; from = latest-now; before = omega arith; value = now c }
+  pub sees-now : {values : ℕ → ℕ → ℕ} (pairs : ℕ → List Entry) → ((c : ℕ) → values u c ≡ currentOf m c) → SeesNow m p (knowledge values (suc u) h′ pairs)
+  sees-now pairs now = λ c. record { tick = u; from = latest-now; before = omega arith; value = now c }

@@ -1,8 +1,6 @@
 -- What holds after every tick of an accepted sheet's run: the machine is well formed, and so say the exchange and the transaction layer with their knowledge of the past.
 use Prim.Native.Nat.{ℕ, suc, _<_}
-use mathlib.Core.Bool.{true≢false}
 use mathlib.Core.Path.{_≡_, refl, sym, _∙_, ap}
-use native.Mathlib.Decide.{decLt}
 use native.Mathlib.Omega.{arith}
 use lib.ListN.{length, length-map}
 use Rattle.model.specs.Lists.{replace}
@@ -15,6 +13,7 @@ use Rattle.model.proofs.Lists.{map-replace}
 use Rattle.model.proofs.Fit.Sheet.{SheetFit}
 use Rattle.model.proofs.Fit.Machine.{Fit}
 use Rattle.model.proofs.Fit.Statement.{statement-fit}
+use Rattle.model.proofs.Fit.Tick.{tasks-of, declared}
 use Rattle.model.proofs.Whole.Act.{free}
 use Rattle.model.proofs.Whole.Invariant.{Invariant}
 use Rattle.model.proofs.Transactions.Facts.{slotsOf, TaskFacts, Transactions}
@@ -22,12 +21,12 @@ use Rattle.model.proofs.Transactions.Owners.{owners-stay}
 use Rattle.model.proofs.Transactions.Contents.{ext-at}
 use Rattle.model.proofs.Transactions.Machine.{turnOf, Later, statement-keeps}
 use Rattle.model.proofs.Transactions.Machine.{Running as RunningTask}
-use Rattle.model.proofs.Transactions.Statement.{JobFit}
-use Rattle.model.proofs.Order.Arrive.{TaskArrived, waits, starts, Arrived, Runs}
+use Rattle.model.proofs.Fit.Running.{Highest}
+use Rattle.model.proofs.Order.Arrive.{TaskArrived, waits, starts, Arrived}
 use Rattle.model.proofs.Order.Statement.{moves}
 use Rattle.model.proofs.Order.Ticks.{MachineLinked, next-of, other-operation}
 use Rattle.model.proofs.Run.Acts.{taskAct, actsOf, act-at, touches}
-use Rattle.model.proofs.Run.Cells.{below, invariant-after, given-after}
+use Rattle.model.proofs.Run.Cells.{below, Ready, invariant-after, given-after}
 use Rattle.model.proofs.Run.Grounds.{PastAfter, past-after}
 use Rattle.model.proofs.Run.Latest.{operationOr, latestOperation, latest-after}
 
@@ -68,28 +67,24 @@ holds-arrived f a k = record {
 }
 
 -- TASK p RUNS
-module _ {s : Sheet} (c : SheetFit s) {values : ℕ → ℕ → ℕ} {m : Machine} {h : History} (linked : MachineLinked m h) (k : Holds s values (m .now) m h) (now : (a : ℕ) → values (m .now) a ≡ currentOf (m .memory) a) (p : ℕ) (r : Runs (m .tasks) p) where
-  pub declared : p < length (s .bodies)
-  declared = go (decLt p (length (s .bodies)))
-    where
-      go : Dec (p < length (s .bodies)) → p < length (s .bodies)
-      go (yes l) = l
-      go (no n) = absurd (true≢false (sym (r .unfinished) ∙ ap (λ (t : Task). unfinished (t .phase)) (k .fit .undeclared p (omega arith))))
+module _ {s : Sheet} (c : SheetFit s) {values : ℕ → ℕ → ℕ} {m : Machine} {h : History} (linked : MachineLinked m h) (k : Holds s values (m .now) m h) (now : (a : ℕ) → values (m .now) a ≡ currentOf (m .memory) a) (p : ℕ) (r : Highest (m .tasks) p) where
+  pub declared-task : p < length (s .bodies)
+  declared-task = declared c (tasks-of (k .fit)) p (r .unfinished)
 
-  pub job : JobFit (length (s .words)) (length (s .blocks)) (taskAt (m .tasks) p)
-  job = k .fit .task p declared .phase
+  pub ready : Ready (length (s .words)) (length (s .blocks)) (m .memory) (m .tasks) p
+  ready = record { fewWords = c .words; fewBlocks = c .blocks; memory = k .fit .memory; size = k .fit .tasks; runs = r; job = k .fit .task p declared-task .phase; invariant = k .invariant }
 
   pub running-task : RunningTask (length (s .words)) (length (s .blocks)) (length (s .bodies)) p (m .memory) (m .tasks) (latestOperation h)
   running-task = record {
     fewWords = c .words;
     fewBlocks = c .blocks;
-    declared = declared;
+    declared = declared-task;
     there = r .below;
     memory = k .fit .memory;
-    copies = k .fit .task p declared .copies;
+    copies = k .fit .task p declared-task .copies;
     fit = λ q l. k .fit .task q l .phase;
-    fitAfter = statement-fit (c .blocks) (k .fit .memory) (taskAt (m .tasks) p) (k .fit .task p declared .registers) (k .fit .task p declared .copies) p job .phase;
-    given = given-after (k .fit .memory) (k .fit .tasks) r (c .words) (c .blocks) job (k .invariant) refl (touches p (m .memory) (taskAt (m .tasks) p) (taskAt (m .tasks) p .phase) refl);
+    fitAfter = statement-fit (c .blocks) (k .fit .memory) (taskAt (m .tasks) p) (k .fit .task p declared-task .registers) (k .fit .task p declared-task .copies) p (ready .job) .phase;
+    given = given-after ready refl (touches p (m .memory) (taskAt (m .tasks) p) (taskAt (m .tasks) p .phase) refl);
     invariant = k .transactions;
   }
 
@@ -109,7 +104,7 @@ module _ {s : Sheet} (c : SheetFit s) {values : ℕ → ℕ → ℕ} {m : Machin
       let t = touches p (m .memory) (taskAt (m .tasks) p) (taskAt (m .tasks) p .phase) refl in
       record {
         fit = f;
-        invariant = rw acts-after (invariant-after (k .fit .memory) (k .fit .tasks) r (c .words) (c .blocks) job (k .invariant) refl t);
-        past = rw acts-after (past-after (k .fit .memory) (k .fit .tasks) r (c .words) (c .blocks) job (k .invariant) (linked .linked) (next-of linked p r) now (k .past .past) refl t);
+        invariant = rw acts-after (invariant-after ready refl t);
+        past = rw acts-after (past-after ready (linked .linked) (next-of linked p r) now (k .past .past) refl t);
         transactions = statement-keeps running-task (m .now) later;
       }

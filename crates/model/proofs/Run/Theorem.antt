@@ -10,12 +10,12 @@ use Rattle.model.proofs.Fit.Sheet.{SheetFit}
 use Rattle.model.proofs.Fit.Accepted.{accepted-fit}
 use Rattle.model.proofs.Transactions.Machine.{turnOf}
 use Rattle.model.proofs.Order.Steps.{stateAfter, arrivedAt, historyAfter, state-next}
-use Rattle.model.proofs.Order.Arrive.{runs}
+use Rattle.model.proofs.Fit.Running.{running-highest}
 use Rattle.model.proofs.Order.Ticks.{arrived-at, arrived-now, arrived-linked}
 use Rattle.model.proofs.Order.Start.{started}
 use Rattle.model.proofs.Order.Justified.{Justified}
 use Rattle.model.proofs.Order.Theorem.{contentsAfter, settledBy, JustifiedRun, whole}
-use Rattle.model.proofs.Run.Always.{within, holds, holds-at}
+use Rattle.model.proofs.Run.Always.{holds, holds-at}
 use Rattle.model.proofs.Run.Justify.{justified}
 
 move-memory : (m : Machine) (p : ℕ) → move m (running p) .memory ≡ turnOf p (m .memory) (m .tasks) .memory
@@ -28,11 +28,11 @@ module _ {s : Sheet} (c : SheetFit s) where
   memories t = stateAfter (startMachine s) t .memory
 
   memory-before : (t : ℕ) → memories (arrivedAt (startMachine s) t .now) ≡ arrivedAt (startMachine s) t .memory
-  memory-before t = ap memories (arrived-now (started (within c)) t) ∙ sym (arrived-at (startMachine s) t .memory)
+  memory-before t = ap memories (arrived-now (started c) t) ∙ sym (arrived-at (startMachine s) t .memory)
 
   memory-after : (t p : ℕ) → runningOf (arrivedAt (startMachine s) t .tasks) ≡ running p → memories (suc (arrivedAt (startMachine s) t .now)) ≡ turnOf p (arrivedAt (startMachine s) t .memory) (arrivedAt (startMachine s) t .tasks) .memory
   memory-after t p e =
-      ap (λ (u : ℕ). memories (suc u)) (arrived-now (started (within c)) t)
+      ap (λ (u : ℕ). memories (suc u)) (arrived-now (started c) t)
       ∙ ap (λ (m : Machine). m .memory) (state-next (startMachine s) t)
       ∙ ap (λ (r : Running). move (arrivedAt (startMachine s) t) r .memory) e
       ∙ move-memory (arrivedAt (startMachine s) t) p
@@ -40,10 +40,10 @@ module _ {s : Sheet} (c : SheetFit s) where
   pub justified-run : JustifiedRun s (startMachine s)
   justified-run = record {
     justified = λ t p e.
-        subst (λ (u : ℕ). Justified (contentsAfter s (startMachine s)) u p (historyAfter (startMachine s) t) (settledBy (arrivedAt (startMachine s) t) p)) (arrived-now (started (within c)) t)
-        (justified c memories (arrived-linked (started (within c)) t) (holds-at c t (holds c t)) p (runs (arrivedAt (startMachine s) t .tasks) p e) (memory-before t) (memory-after t p e));
+        subst (λ (u : ℕ). Justified (contentsAfter s (startMachine s)) u p (historyAfter (startMachine s) t) (settledBy (arrivedAt (startMachine s) t) p)) (arrived-now (started c) t)
+        (justified c memories (arrived-linked (started c) t) (holds-at c t (holds c t)) p (running-highest e) (memory-before t) (memory-after t p e));
   }
 
 -- DEMAND 3
 pub demand-3 : (sheet : List ℕ) (limit : ℕ) → verdict sheet ≡ accepted → WholeOperations sheet limit
-demand-3 sheet limit e = let c = accepted-fit sheet e in whole sheet limit (within c) (justified-run c)
+demand-3 sheet limit e = let c = accepted-fit sheet e in whole sheet limit c (justified-run c)

@@ -16,6 +16,7 @@ use Rattle.model.specs.Transaction.{bank, versionOf, storeOf, remembered
 use Rattle.model.specs.Plain.{Contents, Pass, noBlock, passed, passOf, commitBlocks, commits, transactionOf, result, plainly}
 use Rattle.model.specs.History.{untilCommit}
 use Rattle.model.specs.Claim.{blockIn, contentsOf}
+use Rattle.model.proofs.Lists.{impossible}
 use Rattle.model.proofs.Fit.Exchange.{entryOf, SamePairs}
 use Rattle.model.proofs.Fit.Transaction.{touched?, copied?}
 use Rattle.model.proofs.Transactions.Facts.{bankIn, Change, unchanged, raised, PutAtWork, SameCopy, Beside, Agrees, PassFacts}
@@ -112,7 +113,7 @@ plain-transaction rs l c = refl
 -- no command is left, so no PUT is at work
 none-left : {b : ℕ} {l : List Command} → untilCommit l ≡ [] → PutAtWork b l → ⊥
 unfolding untilCommit
-none-left u p = let z : _≡_ {A = ℕ} 0 1 = cc (rw (p .commands) at u) in omega arith
+none-left u p = impossible (cc (rw (p .commands) at u))
 
 module _ (s : Sheet) (fits : length (s .words) ≤ 32) {m n : Memory} {copies registers answers : List ℕ} {l : List Command} {x : Transaction} {i : Inner}
     (B : Blocks (length (s .blocks)) (x .used) (x .blocks)) (P : PassFacts (length (s .blocks)) m copies registers l x i answers) (left : untilCommit l ≡ [])

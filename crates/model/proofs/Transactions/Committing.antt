@@ -16,9 +16,10 @@ use Rattle.model.specs.Transaction.{bank, stays, takenBack, committed, t
 use Rattle.model.specs.Plain.{transactionOf}
 use Rattle.model.specs.History.{Operation, untilCommit, stepEvent, committingEvent, transactionEvent}
 use Rattle.model.specs.History.{committed as committedOperation, commitBy as commitEventBy}
+use Rattle.model.proofs.Lists.{impossible}
 use Rattle.model.proofs.Fit.Transaction.{TransactionFit}
 use Rattle.model.proofs.Whole.Outcome.{outcome}
-use Rattle.model.proofs.Order.Exchange.{saidYes, saysYes}
+use Rattle.model.proofs.Order.Exchange.{saidYes, saysYes, says-not}
 use Rattle.model.proofs.Transactions.Facts.{bankIn, unchanged, slotsOf, PassFacts, TransactionFacts, TaskFacts}
 use Rattle.model.proofs.Transactions.Given.{Swapped, Cells, same, swapped}
 use Rattle.model.proofs.Transactions.Frame.{Apart, Blocks, blocks-fit, pass-apart}
@@ -27,7 +28,7 @@ use Rattle.model.proofs.Transactions.Steps.{begins as begins-pass}
 use Rattle.model.proofs.Transactions.Commit.{Committed}
 use Rattle.model.proofs.Transactions.Commit.{committed as committed-cells}
 use Rattle.model.proofs.Transactions.Pass.{operationAfter, done-facts, done-slots}
-use Rattle.model.proofs.Transactions.Exchange.{yes-says, Seen, goes-on, says-yes, says-yes-last, over, seen}
+use Rattle.model.proofs.Transactions.Exchange.{Seen, goes-on, says-yes, says-yes-last, over, seen}
 
 -- the statement of task p is the Commit that says yes for its transaction
 pub record TransactionYes (p : ℕ) (m : Memory) (t : Task) : Type 0 where
@@ -83,12 +84,12 @@ step-operation p m (cleanMark j yes?) o = record { arguments = refl; answers = r
 -- no cell changes unless the Commit says yes
 calm : {p : ℕ} {m n : Memory} {x : Transaction} {e : Exchange} → saysYes p m (e .step) ≡ false → Cells p m (transacting x (committing e)) n → (c : ℕ) → currentOf n c ≡ currentOf m c
 calm ny (same f h) = h
-calm {p} {m} {e = e} ny (swapped y Y i S) = let z : e ≡ y = cc (Y .exchange) in absurd (yes-says p m (rw (← z) at (Y .step)) (Y .status) ny)
+calm {p} {m} {e = e} ny (swapped y Y i S) = let z : e ≡ y = cc (Y .exchange) in absurd (says-not p m (e .step) ny (rw (← z) at (Y .step)) (Y .status))
 
 module _ {words blocks p : ℕ} {m : Memory} {t : Task} {x : Transaction} {e : Exchange} {o : Operation} (phase : t .phase ≡ transacting x (committing e))
     (fit : TransactionFit words blocks (t .copies) (t .commands) (t .pairs) x (committing e)) (T : TransactionFacts blocks m (t .copies) (t .registers) (t .commands) x (committing e) o) where
   not-now : saysYes p m (e .step) ≡ false → TransactionYes p m t → ⊥
-  not-now ny Y = let z : e ≡ Y .exchange = cc (phase, Y .phase) in yes-says p m (rw (← z) at (Y .step)) (Y .status) ny
+  not-now ny Y = let z : e ≡ Y .exchange = cc (phase, Y .phase) in says-not p m (e .step) ny (rw (← z) at (Y .step)) (Y .status)
 
   goes-stated : {n : Memory} (y : Exchange) {o′ : Operation} → saidYes (y .step) ≡ saidYes (e .step) → saysYes p m (e .step) ≡ false → ((c : ℕ) → currentOf n c ≡ currentOf m c) → n .stores ≡ m .stores → SameOperation o o′
       → Stated blocks p m t o (turn n (stays t x (committing y))) o′
@@ -96,7 +97,7 @@ module _ {words blocks p : ℕ} {m : Memory} {t : Task} {x : Transaction} {e : E
       record {
         facts = record {
           arguments = E .arguments ∙ T .arguments;
-          pass = λ f. rw (E .answers) (inner-step (committing y) tt (pass-apart A x (T .pass (sym ey ∙ f) .past) (committing e) fit (λ w l. let z : _≡_ {A = ℕ} 0 1 = cc in absurd (omega arith)) (T .pass (sym ey ∙ f))));
+          pass = λ f. rw (E .answers) (inner-step (committing y) tt (pass-apart A x (T .pass (sym ey ∙ f) .past) (committing e) fit (λ w l. impossible (cc)) (T .pass (sym ey ∙ f))));
         };
         effect = quiet (not-now ny) (λ b. h (bank b)) (rw (phase, ey));
         stores = λ i ne. rw st;

@@ -1,35 +1,12 @@
 -- A tick of an exchange, as the transaction around it sees it: whether it says yes, and that no store changes.
 use Prim.Native.Nat.{ℕ}
-use mathlib.Core.Bool.{Bool, true, false, true≢false}
+use mathlib.Core.Bool.{Bool, true, false}
 use mathlib.Core.Path.{_≡_, refl, sym, _∙_, ap}
-use borrow.Author.Tests.{eqb-true, ne-eqb}
-use Rattle.model.specs.Lists.{at}
+use borrow.Author.Tests.{ne-eqb}
 use Rattle.model.specs.Word.{Memory, statusOf, setStatus}
-use Rattle.model.specs.Exchange.{Step, start, test, load, look, fetch, fail, mark, install, commit, save, clean, cleanMark, Exchange, Exchanged, goes, ends, to}
+use Rattle.model.specs.Exchange.{Step, start, test, load, look, fetch, fail, mark, install, commit, save, clean, Exchange, Exchanged, goes, ends, to}
 use Rattle.model.proofs.Whole.Outcome.{commits, refuses, Cleans, renews, passes, gives-back, leaves, marks-after, Outcome, starts, tests-done, tests-on, loads, looks-own, looks-other, fetches, saves-differing, saves-to-mark, saves, fails, marks, installs, misses, decides, decides-last, cleans, cleans-last, cleans-to-mark}
 use Rattle.model.proofs.Order.Exchange.{saidYes, saysYes}
-
--- the Commit that says yes
-pub record YesStep (p : ℕ) (m : Memory) (s : Step) : Type 0 where
-  pub step : s ≡ commit
-  pub status : statusOf m p ≡ 0
-
-pub yes-step : (p : ℕ) (m : Memory) (s : Step) → saysYes p m s ≡ true → YesStep p m s
-yes-step p m commit e = record { step = refl; status = eqb-true _ _ e }
-yes-step p m start e = absurd (true≢false (sym e))
-yes-step p m test e = absurd (true≢false (sym e))
-yes-step p m load e = absurd (true≢false (sym e))
-yes-step p m look e = absurd (true≢false (sym e))
-yes-step p m fetch e = absurd (true≢false (sym e))
-yes-step p m fail e = absurd (true≢false (sym e))
-yes-step p m mark e = absurd (true≢false (sym e))
-yes-step p m install e = absurd (true≢false (sym e))
-yes-step p m (save v) e = absurd (true≢false (sym e))
-yes-step p m (clean j yes?) e = absurd (true≢false (sym e))
-yes-step p m (cleanMark j yes?) e = absurd (true≢false (sym e))
-
-pub yes-says : (p : ℕ) (m : Memory) {s : Step} → s ≡ commit → statusOf m p ≡ 0 → saysYes p m s ≡ false → ⊥
-yes-says p m e h n = true≢false (rw (e, h) at n)
 
 -- a tick, by what it says
 pub data Seen (p : ℕ) (m : Memory) (x : Exchange) : Exchanged → Type 0 where

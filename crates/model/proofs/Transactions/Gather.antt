@@ -10,7 +10,7 @@ use Rattle.model.specs.Lists.{at, replace}
 use Rattle.model.specs.Exchange.{Entry, entry}
 use Rattle.model.specs.Job.{Touched, untouched, remembered, copied}
 use Rattle.model.specs.Transaction.{bank, bankValue, versionOf, storeOf, rememberedOf, nothing?, gather, takenBack}
-use Rattle.model.proofs.Lists.{replace-same, replace-other, length-replace, same?}
+use Rattle.model.proofs.Lists.{replace-same, replace-other, length-replace, same?, impossible}
 use Rattle.model.proofs.Fit.Exchange.{entryOf}
 use Rattle.model.proofs.Fit.Transaction.{touched?}
 
@@ -85,9 +85,9 @@ holder-later {ts} {k} t n (nobody f) = nobody go
 
 pub holder : (ts : List Touched) (k : ℕ) → Holder ts k
 unfolding at
-holder [] k = nobody (λ b v (e : untouched ≡ copied v k). let z : _≡_ {A = ℕ} 0 1 = cc in omega arith)
-holder (untouched ∷ l) k = holder-later untouched (λ v e. let z : _≡_ {A = ℕ} 0 1 = cc in omega arith) (holder l k)
-holder (remembered w ∷ l) k = holder-later (remembered w) (λ v e. let z : _≡_ {A = ℕ} 0 1 = cc in omega arith) (holder l k)
+holder [] k = nobody (λ b v (e : untouched ≡ copied v k). impossible (cc))
+holder (untouched ∷ l) k = holder-later untouched (λ v e. impossible (cc)) (holder l k)
+holder (remembered w ∷ l) k = holder-later (remembered w) (λ v e. impossible (cc)) (holder l k)
 holder (copied w j ∷ l) k = same? j k
     (λ q. has 0 w (ap (λ (i : ℕ). copied w i) q))
     (λ ne. holder-later (copied w j) (λ v e. let z : j ≡ k = cc in ne z) (holder l k))
@@ -105,9 +105,9 @@ slot-stays copies (copied w j ∷ l) k n =
 -- a block's slot takes the block's old store
 pub slot-takes : (copies : List ℕ) (ts : List Touched) (b v k : ℕ) → at untouched ts b ≡ copied v k → ((c w : ℕ) → at untouched ts c ≡ copied w k → c ≡ b) → k < length copies → at 0 (takenBack copies ts) k ≡ storeOf v
 unfolding at takenBack
-slot-takes copies [] b v k e u lt = let z : _≡_ {A = ℕ} 0 1 = cc in absurd (omega arith)
-slot-takes copies (untouched ∷ l) zero v k e u lt = let z : _≡_ {A = ℕ} 0 1 = cc in absurd (omega arith)
-slot-takes copies (remembered w ∷ l) zero v k e u lt = let z : _≡_ {A = ℕ} 0 1 = cc in absurd (omega arith)
+slot-takes copies [] b v k e u lt = impossible (cc)
+slot-takes copies (untouched ∷ l) zero v k e u lt = impossible (cc)
+slot-takes copies (remembered w ∷ l) zero v k e u lt = impossible (cc)
 slot-takes copies (copied w j ∷ l) zero v k e u lt =
     let ej : j ≡ k = cc in
     let ew : w ≡ v = cc in

@@ -12,7 +12,7 @@ use Rattle.model.specs.Job.{copied, Transaction, Inner, Phase, idle, pla
 use Rattle.model.specs.Transaction.{storeOf, touchedOf}
 use Rattle.model.specs.Machine.{taskAt, noTask, statement}
 use Rattle.model.specs.History.{Operation, eventOf}
-use Rattle.model.proofs.Lists.{replace-same, replace-other, same?, test?}
+use Rattle.model.proofs.Lists.{replace-same, replace-other, same?, test?, impossible}
 use Rattle.model.proofs.Fit.Memory.{MemoryFit}
 use Rattle.model.proofs.Fit.Transaction.{copied?}
 use Rattle.model.proofs.Transactions.Facts.{bankIn, transaction-facts, Change, unchanged, slotsOf, block, slot, Owners, TaskFacts, Transactions}
@@ -90,7 +90,7 @@ module _ {words blocks tasks p : ℕ} {m : Memory} {ts : List Task} {operations 
 
   -- stores are written only in copy slots of the task that runs
   pub block-stores : (b : ℕ) → b < blocks → at [] (turnOf p m ts .memory .stores) (storeOf (bankIn m b)) ≡ at [] (m .stores) (storeOf (bankIn m b))
-  block-stores b lt = stated .stores (storeOf (bankIn m b)) (λ k l e. let z : _≡_ {A = ℕ} 0 1 = cc (R .invariant .owners .different (block b) (slot p k) lt (R .declared, l) e) in omega arith)
+  block-stores b lt = stated .stores (storeOf (bankIn m b)) (λ k l e. impossible (cc (R .invariant .owners .different (block b) (slot p k) lt (R .declared, l) e)))
 
   module _ (q : ℕ) (declared : q < tasks) (ne : q ≢ p) where
     slot-stores : (k : ℕ) → k < 4 → at [] (turnOf p m ts .memory .stores) (at 0 (slotsOf (taskAt ts q)) k) ≡ at [] (m .stores) (at 0 (slotsOf (taskAt ts q)) k)

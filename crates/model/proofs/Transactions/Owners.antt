@@ -12,7 +12,7 @@ use Rattle.model.specs.Lists.{at}
 use Rattle.model.specs.Word.{Memory}
 use Rattle.model.specs.Job.{Touched, untouched, remembered, copied}
 use Rattle.model.specs.Transaction.{bankValue, versionOf, storeOf, takenBack}
-use Rattle.model.proofs.Lists.{test?}
+use Rattle.model.proofs.Lists.{test?, impossible}
 use Rattle.model.proofs.Transactions.Facts.{bankIn, Owner, block, slot, Declared, place, Owners}
 use Rattle.model.proofs.Transactions.Versions.{store-bank}
 use Rattle.model.proofs.Transactions.Frame.{Blocks}
@@ -41,7 +41,7 @@ module _ {blocks tasks : ℕ} {banks banks′ : ℕ → ℕ} {slots slots′ : �
 pub slots-apart : {blocks tasks : ℕ} {m : Memory} {slots : ℕ → List ℕ} (p : ℕ) (copies : List ℕ) → p < tasks → slots p ≡ copies → Owners blocks tasks (bankIn m) slots → SlotsApart blocks m copies
 slots-apart p copies lt e D =
     record {
-      fromBlocks = λ b k bl kl q. let z : _≡_ {A = ℕ} 0 1 = cc (D .different (block b) (slot p k) bl (lt, kl) (rw e q)) in omega arith;
+      fromBlocks = λ b k bl kl q. impossible (cc (D .different (block b) (slot p k) bl (lt, kl) (rw e q)));
       different = λ k j kl jl q. let z : slot p k ≡ slot p j = D .different (slot p k) (slot p j) (lt, kl) (lt, jl) (rw e q) in cc;
       below = λ k kl. rw e at (D .below (slot p k) (lt, kl));
       blockBelow = λ b bl. D .below (block b) bl;

@@ -10,14 +10,15 @@ use lib.Dec.{eqb}
 use borrow.Author.Tests.{eqb-true}
 use Rattle.model.specs.Lists.{at}
 use Rattle.model.specs.Command.{Access, GET, PUT, Block, Command, WORD, BLOCK, TASK, RELEASE, END, LOAD, ADD, READ, PAIR, SWAP, BEGIN, access, COMMIT}
-use Rattle.model.specs.Word.{Word, Memory, cellOf, stored, saved, setStored, own, current, currentBy, currentOf, Reading, loading, looking, fetching, Read, reads, gives, lookBy, readTick}
+use Rattle.model.specs.Word.{Memory, cellOf, stored, saved, setStored, own, currentOf, Reading, loading, looking, fetching, Read, reads, gives, lookBy, readTick}
 use Rattle.model.specs.Exchange.{Entry, exchangeOf}
 use Rattle.model.specs.Job.{Touched, untouched, remembered, copied, Transaction, Inner, between, first, copying, again, committing, transacting, Task, Turn, turn, rest, doneBy}
 use Rattle.model.specs.Transaction.{bank, versionOf, storeOf, blockOf, rememberedOf, touchedOf, stays, goesOn, restarted, loaded, added, firstRead, copyBy, copyTick, accessTick, checkBy, againRead, nothing?, spent?, gather, commitBy, commandTick, transactionTick}
 use Rattle.model.specs.Plain.{transactionOf, computes, passBy}
 use Rattle.model.specs.Plain.{Pass as Plain}
 use Rattle.model.specs.History.{Operation, Event, nothing, begins, amends, answering, untilCommit, commitEvent, commandEvent, checkEvent, againEvent, transactionEvent}
-use Rattle.model.proofs.Lists.{replace-other}
+use Rattle.model.proofs.Lists.{replace-other, impossible}
+use Rattle.model.proofs.Whole.Words.{current-own, current-other}
 use Rattle.model.proofs.Fit.Memory.{MemoryFit}
 use Rattle.model.proofs.Fit.Transaction.{touched?, AgainFit, TransactionFit}
 use Rattle.model.proofs.Order.Moves.{innerCommitted}
@@ -58,14 +59,6 @@ done-slots (c ∷ l) t rs ps cs = refl
 -- the first copy tick of a PUT finds a copy slot left
 abbrev pub PutRoom : Transaction → List Command → Type 0
 PutRoom x l = (b o r v : ℕ) (others : List Command) → l ≡ access (PUT b o r) ∷ others → touchedOf x b ≡ remembered v → x .used < 4
-
-own-value : (status : List ℕ) (saves : List (List ℕ)) (w : Word) → own status w ≡ true → current status saves w ≡ w .value
-unfolding current currentBy
-own-value status saves w e = rw e
-
-saved-value : (status : List ℕ) (saves : List (List ℕ)) (w : Word) → own status w ≡ false → current status saves w ≡ saved saves (w .task) (w .count)
-unfolding current currentBy
-saved-value status saves w e = rw e
 
 -- THE SITUATION of a statement of task t in a pass
 pub record PassSituation (words blocks : ℕ) (m : Memory) (t : Task) (x : Transaction) (s : Inner) (o : Operation) : Type 0 where
@@ -139,9 +132,9 @@ module _ {words blocks : ℕ} {m : Memory} {t : Task} {x : Transaction} {s : Inn
   first-turned a (looking w) u lt h = go (own (m .status) w) refl
     where
       go : (z : Bool) → own (m .status) w ≡ z → Turned blocks m t (firstRead m t x a (lookBy z w)) o
-      go true e = remembers-turned a (w .value) u lt (rw (own-value (m .status) (m .saves) w e) at h)
+      go true e = remembers-turned a (w .value) u lt (rw (current-own (m .status) (m .saves) w e) at h)
       go false e = stays-turned (first a (fetching w)) refl (h, e)
-  first-turned a (fetching w) u lt h = remembers-turned a (saved (m .saves) (w .task) (w .count)) u lt (rw (saved-value (m .status) (m .saves) w (h .1)) at (h .0))
+  first-turned a (fetching w) u lt h = remembers-turned a (saved (m .saves) (w .task) (w .count)) u lt (rw (current-other (m .status) (m .saves) w (h .1)) at (h .0))
 
   -- GET and PUT, by what the block is so far
   access-turned : (a : Access) {others : List Command} → t .commands ≡ access a ∷ others → PutRoom x (t .commands) → (y : Touched) → touchedOf x (blockOf a) ≡ y → Turned blocks m t (accessTick m t x a y) o
@@ -178,8 +171,8 @@ module _ {words blocks : ℕ} {m : Memory} {t : Task} {x : Transaction} {s : Inn
   command-turned : (p now : ℕ) (l : List Command) → innerCommitted s ≡ false → t .commands ≡ l → PutRoom x (t .commands) → Turned blocks m t (commandTick m t x l) (operationAfter p (commandEvent now x l) o)
   unfolding commandTick commandEvent passBy untilCommit
   command-turned p now [] y e room = nothing-turned y
-  command-turned p now (LOAD r v ∷ l) y e room = computed-turned (LOAD r v) (loaded (t .registers) r v) l e (λ b w. let z : _≡_ {A = ℕ} 0 1 = cc (w .commands) in omega arith) refl (λ bs q h. rw h)
-  command-turned p now (ADD r k ∷ l) y e room = computed-turned (ADD r k) (added (t .registers) r k) l e (λ b w. let z : _≡_ {A = ℕ} 0 1 = cc (w .commands) in omega arith) refl (λ bs q h. rw h)
+  command-turned p now (LOAD r v ∷ l) y e room = computed-turned (LOAD r v) (loaded (t .registers) r v) l e (λ b w. impossible (cc (w .commands))) refl (λ bs q h. rw h)
+  command-turned p now (ADD r k ∷ l) y e room = computed-turned (ADD r k) (added (t .registers) r k) l e (λ b w. impossible (cc (w .commands))) refl (λ bs q h. rw h)
   command-turned p now (access a ∷ l) y e room = access-turned a e room (touchedOf x (blockOf a)) refl
   command-turned p now (COMMIT ∷ l) y e room = commit-turned p now (nothing? (x .blocks)) (spent? (x .blocks))
   command-turned p now (READ r w ∷ l) y e room = nothing-turned y

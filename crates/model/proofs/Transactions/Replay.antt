@@ -15,6 +15,7 @@ use Rattle.model.specs.Machine.{taskAt}
 use Rattle.model.specs.Plain.{result, plainly}
 use Rattle.model.specs.History.{Operation, untilCommit}
 use Rattle.model.specs.Claim.{blockIn, contentsOf}
+use Rattle.model.proofs.Lists.{impossible}
 use Rattle.model.proofs.Transactions.Facts.{transaction-facts}
 use Rattle.model.proofs.Transactions.Given.{SaysYes, Cells, same, swapped}
 use Rattle.model.proofs.Transactions.Contents.{each-same}
@@ -65,4 +66,4 @@ module _ (s : Sheet) {tasks p : ℕ} {m : Memory} {ts : List Task} {operations :
       let K = transaction-facts (length (s .blocks)) m (taskAt ts p) (operations p) e (R .invariant .task p (R .declared)) in
       let F = transaction-fit (length (s .words)) (length (s .blocks)) (taskAt ts p) e (R .fit p (R .declared)) in
       let u = nothing-touched (x .blocks) h in
-      rw (K .arguments) (commits-whole s (R .fewWords) (blocks-fit F) (K .pass refl) (rw c) (committed-nothing m (taskAt ts p .copies) (x .blocks) u) (λ b v k y. let z : _≡_ {A = ℕ} 0 1 = cc (u b) in absurd (omega arith)))
+      rw (K .arguments) (commits-whole s (R .fewWords) (blocks-fit F) (K .pass refl) (rw c) (committed-nothing m (taskAt ts p .copies) (x .blocks) u) (λ b v k y. impossible (cc (u b))))

@@ -1,57 +1,22 @@
 -- The start of a run: task p has stores 4p to 4p + 3, block b has store 4N + b, and no task is in a transaction.
-use Prim.Native.Nat.{ℕ, zero, suc, _+_, _*_, _-_, _<_}
+use Prim.Native.Nat.{ℕ, zero, suc, _+_, _*_, _<_}
 use mathlib.Core.Path.{_≡_, refl, sym, _∙_, ap}
-use mathlib.Core.List.{List, [], _∷_, _++_, map}
 use native.Mathlib.Omega.{arith}
-use lib.ListN.{length, replicate, length-map}
-use lib.Seq.{getD-append-add}
+use lib.ListN.{length}
 use Rattle.model.specs.Lists.{at}
-use Rattle.model.specs.Command.{Block}
 use Rattle.model.specs.Sheet.{Sheet}
-use Rattle.model.specs.Word.{Word, own, currentBy, current, cellOf}
-use Rattle.model.specs.Word.{fresh as freshWord}
-use Rattle.model.specs.Transaction.{bank, bankValue, storeOf}
-use Rattle.model.specs.Machine.{taskAt, filled, copiesOf, banksFrom, startMemory, startMachine}
+use Rattle.model.specs.Transaction.{storeOf}
+use Rattle.model.specs.Machine.{taskAt, copiesOf, startMemory, startMachine}
 use Rattle.model.specs.History.{Operation}
-use Rattle.model.proofs.Lists.{at-append}
 use Rattle.model.proofs.Fit.Sheet.{noBlock, SheetFit}
-use Rattle.model.proofs.Fit.Start.{filled-size, start-task}
+use Rattle.model.proofs.Fit.Start.{start-task}
+use Rattle.model.proofs.Order.Start.{bank-start, start-memory}
 use Rattle.model.proofs.Transactions.Facts.{bankIn, slotsOf, Owner, block, slot, Declared, place, Owners, Transactions}
 use Rattle.model.proofs.Transactions.Versions.{store-bank}
 
--- BANK WORDS
-behind : {A : Type 0} (d : A) (l r : List A) (n i : ℕ) → length l ≡ n → at d (l ++ r) (n + i) ≡ at d r i
-unfolding at
-behind d l r n i e = rw (← e) (getD-append-add l r i d)
-
-banks-size : (store : ℕ) (l : List Block) → length (banksFrom store l) ≡ length l
-unfolding banksFrom
-banks-size store [] = refl
-banks-size store (b ∷ l) = ap suc (banks-size (suc store) l)
-
-bank-from : (store : ℕ) (l : List Block) (b : ℕ) → b < length l → at (freshWord 0) (banksFrom store l) b ≡ freshWord (bankValue (at noBlock l b .version) (store + b))
-unfolding at banksFrom
-bank-from store [] b h = absurd (omega arith)
-bank-from store (x ∷ l) zero h = let z : store + 0 ≡ store = omega arith in rw z
-bank-from store (x ∷ l) (suc b) h = let z : suc store + b ≡ store + suc b = omega arith in bank-from (suc store) l b (omega arith) ∙ rw z
-
-current-fresh : (status : List ℕ) (saves : List (List ℕ)) (v : ℕ) → current status saves (freshWord v) ≡ v
-unfolding current own currentBy
-current-fresh status saves v = refl
-
 module _ {s : Sheet} (c : SheetFit s) where
-  bank-cell : (b : ℕ) → b < length (s .blocks) → cellOf (startMemory s) (bank b) ≡ freshWord (bankValue (at noBlock (s .blocks) b .version) (4 * length (s .bodies) + b))
-  unfolding startMemory filled
-  bank-cell b h =
-      let banks : List Word = banksFrom (4 * length (s .bodies)) (s .blocks) in
-      behind (freshWord 0) (filled 32 (freshWord 0) (map freshWord (s .words))) (filled 16 (freshWord 0) banks) 32 b (filled-size 32 (freshWord 0) (map freshWord (s .words)) (rw (length-map (s .words) freshWord) (c .words)))
-      ∙ at-append (freshWord 0) banks (replicate (16 - length banks) (freshWord 0)) b (rw (banks-size (4 * length (s .bodies)) (s .blocks)) h)
-      ∙ bank-from (4 * length (s .bodies)) (s .blocks) b h
-
   bank-store : (b : ℕ) → b < length (s .blocks) → storeOf (bankIn (startMemory s) b) ≡ 4 * length (s .bodies) + b
-  bank-store b h =
-      rw (bank-cell b h, current-fresh (startMemory s .status) (startMemory s .saves) (bankValue (at noBlock (s .blocks) b .version) (4 * length (s .bodies) + b)))
-      (store-bank (at noBlock (s .blocks) b .version) (4 * length (s .bodies) + b) (omega (arith, c .blocks, c .bodies)))
+  bank-store b h = rw (bank-start c b h) (store-bank (at noBlock (s .blocks) b .version) (4 * length (s .bodies) + b) (omega (arith, c .blocks, c .bodies)))
 
   -- COPY SLOTS
   slot-of : (p k : ℕ) → k < 4 → at 0 (copiesOf p) k ≡ 4 * p + k
@@ -97,9 +62,5 @@ module _ {s : Sheet} (c : SheetFit s) where
         below = λ o h. rw (places o h) (in-range o h);
       }
 
-  start-memory : startMachine s .memory ≡ startMemory s
-  unfolding startMachine
-  start-memory = refl
-
   pub start-transactions : (operations : ℕ → Operation) → Transactions (length (s .blocks)) (length (s .bodies)) (startMachine s .memory) (startMachine s .tasks) operations
-  start-transactions operations = rw start-memory (record { owners = start-owners; task = λ p h. rw (start-task s p h) tt })
+  start-transactions operations = rw (start-memory s) (record { owners = start-owners; task = λ p h. rw (start-task s p h) tt })

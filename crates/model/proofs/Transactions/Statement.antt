@@ -14,6 +14,7 @@ use Rattle.model.specs.Job.{Transaction, Inner, between, first, copying,
 use Rattle.model.specs.Transaction.{bank, loaded, added, stays, copyBy, copyTick, accessTick, commandTick, transactionTick}
 use Rattle.model.specs.Machine.{answer, readBy, swapBy, plainTick, statement}
 use Rattle.model.specs.History.{Operation, plainEvent, eventOf, transactionEvent}
+use Rattle.model.proofs.Lists.{impossible}
 use Rattle.model.proofs.Fit.Memory.{MemoryFit}
 use Rattle.model.proofs.Fit.Exchange.{entryOf}
 use Rattle.model.proofs.Fit.Transaction.{TransactionFit}
@@ -32,7 +33,7 @@ use Rattle.model.proofs.Transactions.Committing.{TransactionYes, quiet,
 -- no exchange is at work
 no-exchange : {p : ℕ} {m n : Memory} {f : Phase} → exchangeIn f ≡ none → Cells p m f n → (c : ℕ) → currentOf n c ≡ currentOf m c
 no-exchange e (same g h) = h
-no-exchange e (swapped x Y i S) = let z : _≡_ {A = ℕ} 0 1 = cc (Y .exchange) in absurd (omega arith)
+no-exchange e (swapped x Y i S) = impossible (cc (Y .exchange))
 
 -- an exchange of plain words leaves bank words, also where it says yes
 plain-words : {p r : ℕ} {m n : Memory} {x : Exchange} → ((e : ℕ) → e < length (x .entries) → entryOf (x .entries) e .cell < 32) → Cells p m (exchanging r x) n → (b : ℕ) → bankIn n b ≡ bankIn m b
@@ -132,12 +133,12 @@ module _ {words blocks p : ℕ} {m : Memory} {t : Task} {o : Operation} (S : Tas
 
   pub phase-stated : (f : Phase) → t .phase ≡ f → JobFit words blocks (statement p m t f .task) → Cells p m f (statement p m t f .memory) → Stated blocks p m t o (statement p m t f) (operationAfter p (eventOf now p m t f) o)
   unfolding statement eventOf
-  phase-stated idle e G c = idle-stated (rw e) (λ Y. let z : _≡_ {A = ℕ} 0 1 = cc (e, Y .phase) in omega arith) (rw e tt)
-  phase-stated plain e G c = command-stated (rw e) (λ Y. let z : _≡_ {A = ℕ} 0 1 = cc (e, Y .phase) in omega arith) (t .commands) e c
-  phase-stated (reading r w s) e G c = read-stated (rw e) (λ Y. let z : _≡_ {A = ℕ} 0 1 = cc (e, Y .phase) in omega arith) r w (readTick m w s)
+  phase-stated idle e G c = idle-stated (rw e) (λ Y. impossible (cc (e, Y .phase))) (rw e tt)
+  phase-stated plain e G c = command-stated (rw e) (λ Y. impossible (cc (e, Y .phase))) (t .commands) e c
+  phase-stated (reading r w s) e G c = read-stated (rw e) (λ Y. impossible (cc (e, Y .phase))) r w (readTick m w s)
   phase-stated (exchanging r x) e G c =
       let F = subst (λ (f : Phase). PhaseFit words blocks (t .copies) (t .commands) (t .pairs) f) e (S .fit) in
-      swap-stated (rw e) (λ Y. let z : _≡_ {A = ℕ} 0 1 = cc (e, Y .phase) in omega arith) r (exchangeTick p m x (x .step))
+      swap-stated (rw e) (λ Y. impossible (cc (e, Y .phase))) r (exchangeTick p m x (x .step))
       (plain-words (λ i l. omega (arith, F .exchange .entries .below i l, S .fewWords)) (rw (swap-memory t r (exchangeTick p m x (x .step))) at c))
       (seen-stores (seen p m x (outcome p m x)))
   phase-stated (transacting x between) e G c = pass-stated x between e (put-room words blocks p m t x G) refl

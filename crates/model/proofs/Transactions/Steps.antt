@@ -15,7 +15,7 @@ use Rattle.model.specs.Job.{Touched, untouched, remembered, copied, Tran
 use Rattle.model.specs.Transaction.{storeOf, rememberedOf, touchedOf, fresh}
 use Rattle.model.specs.Plain.{Pass, noBlock, noCopies, valuesBy, valuesOf, computes, passBy, passed}
 use Rattle.model.specs.History.{untilCommit}
-use Rattle.model.proofs.Lists.{at-past, at-replicate}
+use Rattle.model.proofs.Lists.{at-past, at-replicate, impossible}
 use Rattle.model.proofs.Fit.Transaction.{touched?}
 use Rattle.model.proofs.Transactions.Facts.{bankIn, PutAtWork, SameCopy, Fetched, AtInner, PassFacts}
 
@@ -109,7 +109,7 @@ module _ {blocks : ℕ} {m : Memory} {copies registers answers : List ℕ} {x : 
       → PassFacts blocks m copies registers (access (GET r b o) ∷ l) x s answers → PassFacts blocks m copies (replace registers r v) l x between (answers ++ (v ∷ []))
   unfolding passed passBy untilCommit
   got-done r b o v l g P =
-      let np : (c : ℕ) → PutAtWork c (access (GET r b o) ∷ l) → ⊥ = λ c w. let z : _≡_ {A = ℕ} 0 1 = cc (w .commands) in omega arith in
+      let np : (c : ℕ) → PutAtWork c (access (GET r b o) ∷ l) → ⊥ = λ c w. impossible (cc (w .commands)) in
       record {
         past = P .past;
         way = λ bs G.

@@ -12,9 +12,10 @@ use Rattle.model.specs.Lists.{at, replace}
 use Rattle.model.specs.Word.{Word, fresh, Memory, cellOf, statusOf, saved, setCell, setStatus, setSave, current, currentOf}
 use Rattle.model.specs.Exchange.{start, commit, clean, cleanMark, install, fail, mark, Exchange, Exchanged, entryAt, changing, installed, cleaned}
 use Rattle.model.proofs.Lists.{replace-same, replace-other, same?}
+use Rattle.model.proofs.Fit.Elements.{and-left}
 use Rattle.model.proofs.Whole.Act.{Act, exchanging, memoryAfter, Quiet, here}
 use Rattle.model.proofs.Whole.Invariant.{WellFormed, valid, held, Anyone, Situation, Room}
-use Rattle.model.proofs.Whole.Words.{and-true, unchanging, own-valid, own-same, current-own, current-same, installed-new, installed-old, cleaned-new}
+use Rattle.model.proofs.Whole.Words.{unchanging, own-valid, own-same, current-own, current-same, installed-new, installed-old, cleaned-new}
 use Rattle.model.proofs.Whole.Outcome.{Decides, commits, refuses, Cleans, renews, passes, gives-back, leaves, marks-after, Outcome, starts, tests-done, tests-on, loads, looks-own, looks-other, fetches, saves-differing, saves-to-mark, saves, fails, marks, installs, misses, decides, decides-last, cleans, cleans-last, cleans-to-mark}
 use Rattle.model.proofs.Whole.Frame.{Frame, frame-save, frame-status, mark-keeps, frame-mark, kept-two, current-frame, below-clear}
 use Rattle.model.proofs.Whole.Early.{mine, at-step-as, replaced-status}
@@ -80,7 +81,7 @@ module _ {below : ℕ → ℕ → Type 0} {m : Memory} {acts : List Act} {p : �
 
       renew-current : (yes? && changing (entryAt x j)) ≡ true → current (m .status) (m .saves) (cleaned p (entryAt x j)) ≡ current (m .status) (m .saves) (installed p (entryAt x j) j)
       renew-current e =
-          let st : statusOf m p ≡ 2 = eqb-true _ _ (sym (at-step-as S (clean j yes?) s .1) ∙ and-true yes? _ e .0) in
+          let st : statusOf m p ≡ 2 = eqb-true _ _ (sym (at-step-as S (clean j yes?) s .1) ∙ and-left yes? _ e) in
           cleaned-new (m .status) (m .saves) p (entryAt x j) ∙ sym (installed-new (m .status) (m .saves) p (entryAt x j) j st)
 
       back-current : (yes? && changing (entryAt x j)) ≡ false → current (m .status) (m .saves) (entryAt x j .init) ≡ current (m .status) (m .saves) (installed p (entryAt x j) j)

@@ -10,8 +10,8 @@ use borrow.Author.Tests.{not-true}
 use Rattle.model.specs.Lists.{at, replace}
 use Rattle.model.specs.Word.{Word, Memory, statusOf, saved}
 use Rattle.model.specs.Exchange.{Entry, entry, Step, Exchange, entryAt, installed, to, loaded, noted, onward}
-use Rattle.model.proofs.Lists.{replace-same, replace-other, length-replace, at-below, same?}
-use Rattle.model.proofs.Whole.Act.{Act, free, exchanging, working, stage, undecided, uncleaned, undecided-all, here}
+use Rattle.model.proofs.Lists.{replace-same, replace-other, length-replace, at-below, same?, impossible}
+use Rattle.model.proofs.Whole.Act.{Act, free, exchanging, working, stage, undecided, uncleaned, undecided-all, here, stageOf}
 use Rattle.model.proofs.Whole.Invariant.{Held, WellFormed, valid, held, Anyone, Loaded, AtStep, InExchange, Knows, Rank, itself, idle, lower, Situation}
 use Rattle.model.proofs.Whole.Words.{own-valid, not-own}
 use Rattle.model.proofs.Whole.Frame.{Frame, frame-none, settled-frame, Moved, below-clear}
@@ -57,6 +57,10 @@ module _ {below : ℕ → ℕ → Type 0} {m : Memory} {acts : List Act} {p : �
   pub mine : InExchange (λ r. below r p) (m .status) (m .saves) acts p x
   mine = subst (λ (v : Act). Knows (λ r. below r p) (m .status) (m .saves) acts p v) (S .act) (S .invariant .knows p)
 
+  -- the exchange stands at entry i
+  pub inside : (s : Step) → x .step ≡ s → stageOf s ≡ working → x .i < length (x .entries)
+  inside s e w = mine .at-entry (rw e w)
+
   pub at-step-as : (s : Step) → x .step ≡ s → AtStep (λ r. below r p) (m .status) (m .saves) acts p x s
   at-step-as s e = subst (λ (z : Step). AtStep (λ r. below r p) (m .status) (m .saves) acts p x z) e (mine .at-step)
 
@@ -83,7 +87,7 @@ module _ {below : ℕ → ℕ → Type 0} {m : Memory} {acts : List Act} {p : �
     where
       go : Rank below acts p (w .task) → WellFormed (λ r. below r p) acts (here x .cell) w
       go (lower b) = held b H
-      go (idle i) = let z : _≡_ {A = ℕ} 0 1 = cc (H .at-work) in absurd (omega arith)
+      go (idle i) = impossible (cc (H .at-work))
       go (itself e) =
           let y : H .exchange ≡ x = cc (H .at-work, S .act) in
           let h : w .count < x .i = rw (← y) (H .high) in
@@ -101,7 +105,7 @@ module _ {below : ℕ → ℕ → Type 0} {m : Memory} {acts : List Act} {p : �
   pub replaced-status : {n : Entry} → Loaded (λ r. below r p) (m .status) acts n → n .overlapped ≡ true → (n .init .task < length (m .status)) × (statusOf m (n .init .task) ≢ 2)
   replaced-status {n} L o =
       let H = replaced-held L o .1 in
-      let l : n .init .task < length acts = at-below free acts (n .init .task) (λ f. let z : _≡_ {A = ℕ} 0 1 = cc (H .at-work) in omega arith) in
+      let l : n .init .task < length acts = at-below free acts (n .init .task) (λ f. impossible (cc (H .at-work))) in
       (rw (S .sizes) l, not-own (m .status) (n .init) (not-true _ (sym (L .looked) ∙ o)) .1)
 
   -- a statement before Commit's answer that leaves the cells alone

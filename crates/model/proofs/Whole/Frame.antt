@@ -11,7 +11,7 @@ use borrow.Author.Tests.{ne-eqb}
 use Rattle.model.specs.Lists.{at, replace}
 use Rattle.model.specs.Word.{Word, Memory, cellOf, statusOf, saved, setCell, setStatus, setSave, own, current, Reading, loading, looking, fetching}
 use Rattle.model.specs.Exchange.{Entry, Step, start, test, load, look, fetch, fail, mark, install, commit, save, clean, cleanMark, Exchange}
-use Rattle.model.proofs.Lists.{replace-same, replace-other, same?}
+use Rattle.model.proofs.Lists.{replace-same, replace-other, same?, impossible}
 use Rattle.model.proofs.Whole.Act.{Act, free, reading, exchanging, actAt}
 use Rattle.model.proofs.Whole.Invariant.{WellFormed, valid, held, Anyone, Loaded, Found, Settled, AtStep, InReading, Knows, Rank, itself, idle, lower, Situation}
 use Rattle.model.proofs.Whole.Words.{own-valid, own-same, current-own, current-same}
@@ -92,7 +92,7 @@ module _ {p : ℕ} {m n : Memory} (F : Frame p m n) where
     replaced-of {e} L o = go (L .well-formed)
       where
         go : WellFormed of acts (e .cell) (e .init) → of (e .init .task)
-        go (valid h) = let z : _≡_ {A = Bool} true false = sym o ∙ L .looked ∙ ap not (own-valid (m .status) (e .init) h) in let y : _≡_ {A = ℕ} 0 1 = cc in absurd (omega arith)
+        go (valid h) = let z : _≡_ {A = Bool} true false = sym o ∙ L .looked ∙ ap not (own-valid (m .status) (e .init) h) in impossible (cc)
         go (held h H) = h
 
     pub settled-frame : {q : ℕ} {e : Entry} {i : ℕ} → saved (n .saves) q i ≡ saved (m .saves) q i → Settled of (m .status) (m .saves) acts q e i → Settled of (n .status) (n .saves) (replace acts p v) q e i

@@ -8,7 +8,7 @@ use native.Mathlib.Omega.{arith}
 use Rattle.model.specs.Lists.{at, replace}
 use Rattle.model.specs.Word.{Word, Memory, cellOf, statusOf, current, loading, looking, fetching}
 use Rattle.model.specs.Exchange.{Entry, Step, start, test, load, look, fetch, fail, mark, install, commit, save, clean, cleanMark, Exchange, entryAt, installed}
-use Rattle.model.proofs.Lists.{replace-same, replace-other, same?}
+use Rattle.model.proofs.Lists.{replace-same, replace-other, same?, impossible}
 use Rattle.model.proofs.Whole.Act.{Act, free, reading, exchanging, actAt, stage, undecided}
 use Rattle.model.proofs.Whole.Invariant.{WellFormed, valid, held, AtStep, InExchange, Knows, Rank, itself, idle, lower, Situation}
 use Rattle.model.proofs.Whole.Frame.{current-frame, lower-clear, Moved}
@@ -30,7 +30,7 @@ pub record UpholdsPast (below : ℕ → ℕ → Type 0) (H′ : History) (m n : 
 
 module _ {below : ℕ → ℕ → Type 0} {acts : List Act} {p : ℕ} {H H′ : History} (T : Passes below acts p H H′) where
   pub busy-not-free : {r : ℕ} → Busy acts r → actAt acts r ≢ free
-  busy-not-free B f = let z : _≡_ {A = ℕ} 0 1 = cc (B .act) in omega arith
+  busy-not-free B f = impossible (cc (B .act))
 
   pub grounds-later : {r : ℕ} → Busy acts r → GroundsOf H r → GroundsOf H′ r
   grounds-later {r} B g = rw (T .pairs r B) (go g)
@@ -110,8 +110,8 @@ module _ {below : ℕ → ℕ → Type 0} {m : Memory} {acts : List Act} {p : �
         → PastAct below H′ (n .cells) (n .status) (n .saves) (replace acts p v) r u
     lower-later free e k h = tt
     lower-later (reading c loading) e k h = tt
-    lower-later (reading c (looking w)) e k h = value-later (λ f. let z : _≡_ {A = ℕ} 0 1 = cc in omega arith) k h
-    lower-later (reading c (fetching w)) e k h = value-later (λ f. let z : _≡_ {A = ℕ} 0 1 = cc in omega arith) (k .0) h
+    lower-later (reading c (looking w)) e k h = value-later (λ f. impossible (cc)) k h
+    lower-later (reading c (fetching w)) e k h = value-later (λ f. impossible (cc)) (k .0) h
     lower-later (exchanging x) e k h = exchange-later x e k h
 
   pub past-after : Past below H m acts → Past below H′ n (replace acts p v)

@@ -10,9 +10,10 @@ use Rattle.model.specs.Lists.{at}
 use Rattle.model.specs.Word.{Word, fresh, Memory, cellOf, statusOf, setCell}
 use Rattle.model.specs.Exchange.{Entry, start, load, install, commit, mark, fail, save, clean, cleanMark, Exchange, Exchanged, goes, ends, entryAt, installed, to}
 use Rattle.model.proofs.Lists.{replace-same, replace-other, same?}
+use Rattle.model.proofs.Fit.Elements.{and-right}
 use Rattle.model.proofs.Whole.Act.{Act, free, exchanging, actAt, actAfter, memoryAfter, stage, uncleaned}
 use Rattle.model.proofs.Whole.Invariant.{Situation, Room}
-use Rattle.model.proofs.Whole.Words.{and-true, changes}
+use Rattle.model.proofs.Whole.Words.{changes}
 use Rattle.model.proofs.Whole.Outcome.{Decides, commits, refuses, Cleans, renews, passes, gives-back, leaves, marks-after, Outcome, starts, tests-done, tests-on, loads, looks-own, looks-other, fetches, saves-differing, saves-to-mark, saves, fails, marks, installs, misses, decides, decides-last, cleans, cleans-last, cleans-to-mark}
 use Rattle.model.proofs.Whole.Early.{follows-to, mine, at-step-as}
 use Rattle.model.proofs.Whole.Clean.{decided-cells, clean-entry}
@@ -147,7 +148,7 @@ module _ {below : ℕ → ℕ → Type 0} {m : Memory} {acts : List Act} {p : �
         }
 
   cleared : {n : Memory} (j : ℕ) (yes? : Bool) → Room m p (x .entries) → Cleans p m x j yes? n → Cleared j yes? n
-  cleared j yes? R (renews s e h) = cleared-cell j yes? s _ h (λ r B b. inr (changing-hits S T P r j B b (j-inside j yes? s) (changes (entryAt x j) (and-true yes? _ e .1))))
+  cleared j yes? R (renews s e h) = cleared-cell j yes? s _ h (λ r B b. inr (changing-hits S T P r j B b (j-inside j yes? s) (changes (entryAt x j) (and-right yes? _ e))))
   cleared j yes? R (passes s e h) = cleared-lost j yes? s h
   cleared j yes? R (gives-back s e h) = cleared-cell j yes? s _ h (λ r B b. inl (replace-same (fresh 0) (m .cells) (entryAt x j .cell) (entryAt x j .init) (R .cells j (j-inside j yes? s))))
   cleared j yes? R (leaves s e h o) = cleared-lost j yes? s h

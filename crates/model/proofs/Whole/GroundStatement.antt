@@ -1,5 +1,5 @@
 -- Load, Look, Fetch, Save, Fail, Mark and Install uphold N.
-use Prim.Native.Nat.{ℕ, suc, _<_}
+use Prim.Native.Nat.{ℕ, _<_}
 use mathlib.Core.Bool.{true, false}
 use mathlib.Core.Path.{_≡_, refl, sym, _∙_, ap}
 use mathlib.Core.Logic.{_≢_, _⊎_, inl, inr}
@@ -11,11 +11,11 @@ use Rattle.model.specs.Lists.{at, replace}
 use Rattle.model.specs.Word.{Word, fresh, Memory, cellOf, statusOf, saved, setCell, setStatus, setSave, own}
 use Rattle.model.specs.Exchange.{Entry, Step, test, load, look, fetch, fail, mark, install, save, Exchange, entryAt, installed, to, noted, onward}
 use Rattle.model.proofs.Lists.{replace-same, replace-other, same?}
-use Rattle.model.proofs.Whole.Act.{Act, free, exchanging, actAt, working, stageOf, uncleaned, here}
+use Rattle.model.proofs.Whole.Act.{Act, free, exchanging, actAt, stageOf, uncleaned, here}
 use Rattle.model.proofs.Whole.Invariant.{Loaded, Situation, Room}
 use Rattle.model.proofs.Whole.Words.{current-own, current-other}
 use Rattle.model.proofs.Whole.Frame.{below-clear}
-use Rattle.model.proofs.Whole.Early.{follows-to, follows-onward, follows-noted, noted-here, from-zero, mine, at-step-as, replaced-held}
+use Rattle.model.proofs.Whole.Early.{follows-to, follows-onward, follows-noted, noted-here, from-zero, mine, inside, at-step-as, replaced-held}
 use Rattle.model.proofs.Fit.Exchange.{SamePairs}
 use Rattle.model.proofs.Whole.Ground.{History, differs, beaten, GroundsOf, CountsOn, there, replaced, was-hit, PastStep, PastExchange, Past, Busy, Passes, SeesNow}
 use Rattle.model.proofs.Whole.GroundFrame.{HitBelow, grounds-later, pairs-later, seen-later}
@@ -46,28 +46,25 @@ module _ {below : ℕ → ℕ → Type 0} {m : Memory} {acts : List Act} {p : �
       (λ d. inl (replace-other 0 (m .status) (n .init .task) r 1 d))
 
   -- BEFORE COMMIT
-  inside : (s : Step) → x .step ≡ s → stageOf s ≡ working → x .i < length (x .entries)
-  inside s e w = mine S .at-entry (rw e w)
-
   pub counts-on : (cells : List Word) (v : Act) → cells ≡ m .cells → {c : ℕ} {w : Word} → CountsOn below (H .hit p) (m .cells) acts p c w → CountsOn below (H′ .hit p) cells (replace acts p v) p c w
   counts-on cells v ec k = still-counts S T P cells v (λ h. rw ec h) k
 
   pub load-past : SeesNow m p H′ → x .step ≡ load → Outcome-past S T P m (exchanging (noted x (cellOf m (here x .cell)) false look))
   load-past now s =
-      let l = inside load s refl in
+      let l = inside S load s refl in
       quiet-past S T P (noted x (cellOf m (here x .cell)) false look) (follows-noted x _ false look l) refl (rw s) (rw s)
       (rw (noted-here x (cellOf m (here x .cell)) false look l) (there refl, now (here x .cell)))
 
   pub look-own-past : x .step ≡ look → own (m .status) (here x .init) ≡ true → Outcome-past S T P m (exchanging (noted x (here x .init) false (save (here x .init .value))))
   look-own-past s w =
-      let l = inside look s refl in
+      let l = inside S look s refl in
       let h = past-step-as S T P look s in
       quiet-past S T P (noted x (here x .init) false (save (here x .init .value))) (follows-noted x _ false _ l) refl (rw s) (rw s)
       (rw (noted-here x (here x .init) false (save (here x .init .value)) l) (counts-on (m .cells) _ refl (h .0), rw (current-own (m .status) (m .saves) (here x .init) w) at (seen-later T (running S T P) (h .1))))
 
   pub look-other-past : x .step ≡ look → own (m .status) (here x .init) ≡ false → Outcome-past S T P m (exchanging (noted x (here x .init) true fetch))
   look-other-past s w =
-      let l = inside look s refl in
+      let l = inside S look s refl in
       let h = past-step-as S T P look s in
       quiet-past S T P (noted x (here x .init) true fetch) (follows-noted x _ true fetch l) refl (rw s) (rw s)
       (rw (noted-here x (here x .init) true fetch l) (counts-on (m .cells) _ refl (h .0), seen-later T (running S T P) (h .1)))
@@ -88,7 +85,7 @@ module _ {below : ℕ → ℕ → Type 0} {m : Memory} {acts : List Act} {p : �
   pub differing-grounds : (v : ℕ) → x .step ≡ save v → v ≢ here x .old → GroundsOf H′ p
   differing-grounds v e ne =
       let h = past-step-as S T P (save v) e in
-      differs (x .i) v (rw (known .size) at (inside (save v) e refl)) (rw (known .cell (x .i)) at (seen-later T (running S T P) (h .1))) (λ k. ne (k ∙ sym (known .old (x .i))))
+      differs (x .i) v (rw (known .size) at (inside S (save v) e refl)) (rw (known .cell (x .i)) at (seen-later T (running S T P) (h .1))) (λ k. ne (k ∙ sym (known .old (x .i))))
 
   pub fail-past : x .step ≡ fail → Outcome-past S T P (setStatus m p 1) (exchanging (to x test))
   fail-past s = same-past S T P (to x test) (follows-to x test) refl (rw s) refl (λ r ne. inl (replace-other 0 (m .status) p r 1 ne)) (λ _ d. grounds-later T (running S T P) (past-step-as S T P fail s)) tt
@@ -96,7 +93,7 @@ module _ {below : ℕ → ℕ → Type 0} {m : Memory} {acts : List Act} {p : �
   pub mark-past : x .step ≡ mark → Outcome-past S T P (setStatus m (here x .init .task) 1) (exchanging (to x install))
   mark-past s =
       let k = at-step-as S mark s in
-      let l = inside mark s refl in
+      let l = inside S mark s refl in
       same-past S T P (to x install) (follows-to x install) refl (rw s) refl
       (marked-hit (here x) (k .0 .loaded) (k .1) (λ r B b. changing-hits r (x .i) B b l (k .2)))
       (λ _ d. grounds-later T (running S T P) (past S T P .grounds (rw s) (rw (replace-other 0 (m .status) (here x .init .task) p 1 (λ e. below-clear S (here x .init .task) (replaced-held S (k .0 .loaded) (k .1) .0) (sym e))) at d)))
@@ -118,13 +115,10 @@ module _ {below : ℕ → ℕ → Type 0} {m : Memory} {acts : List Act} {p : �
         at-step = h;
       }
 
-  later : {a b : ℕ} → a < b → a < suc b
-  later h = omega arith
-
   pub install-past : Room m p (x .entries) → x .step ≡ install → cellOf m (here x .cell) ≡ here x .init → Outcome-past S T P (setCell m (here x .cell) (installed p (here x) (x .i))) (exchanging (onward x test))
   install-past R s h =
       let w = installed p (here x) (x .i) in
-      let l = inside install s refl in
+      let l = inside S install s refl in
       let cells = replace (m .cells) (here x .cell) w in
       record {
         content = λ r c u B b o k. same? c (here x .cell)
@@ -132,7 +126,7 @@ module _ {below : ℕ → ℕ → Type 0} {m : Memory} {acts : List Act} {p : �
             replaced p b (rw (replace-same free acts p (exchanging (onward x test)) (S .task))
             (record { number = x .i; low = omega arith; high = omega arith; cell = sym d; init = sym h ∙ ap (λ (z : ℕ). cellOf m z) (sym d) ∙ k })))
             (λ ne. there (rw (replace-other (fresh 0) (m .cells) (here x .cell) c w ne) k));
-        cover = λ r c u B b C. replaced-on S T P (onward x test) cells (follows-onward x test) b C (omega arith) (later (C .high));
+        cover = λ r c u B b C. replaced-on S T P (onward x test) cells (follows-onward x test) b C (omega arith) (omega (arith, C .high));
         marked = λ r ne. inl refl;
         own = onward-past cells test s refl (there (replace-same (fresh 0) (m .cells) (here x .cell) w (R .cells (x .i) l)))
             (λ e g k. rw (replace-other (fresh 0) (m .cells) (here x .cell) (entryAt x e .cell) w (λ d. let z = mine S .distinct e (x .i) (omega arith) l d in omega arith)) k) tt;
@@ -143,7 +137,7 @@ module _ {below : ℕ → ℕ → Type 0} {m : Memory} {acts : List Act} {p : �
       let g = gone-hit S T P ne (past-step-as S T P install s) in
       record {
         content = λ r c u B b o k. there k;
-        cover = λ r c u B b C. replaced-on S T P (onward x fail) (m .cells) (follows-onward x fail) b C (omega arith) (later (C .high));
+        cover = λ r c u B b C. replaced-on S T P (onward x fail) (m .cells) (follows-onward x fail) b C (omega arith) (omega (arith, C .high));
         marked = λ r ne. inl refl;
-        own = onward-past (m .cells) fail s refl (was-hit (T .hit p _ (running S T P) g)) (λ e h k. k) (hit-grounds (x .i) (inside install s refl) g);
+        own = onward-past (m .cells) fail s refl (was-hit (T .hit p _ (running S T P) g)) (λ e h k. k) (hit-grounds (x .i) (inside S install s refl) g);
       }

@@ -8,7 +8,7 @@ use native.Mathlib.Omega.{arith}
 use Rattle.model.specs.Lists.{at, replace}
 use Rattle.model.specs.Word.{Word, Memory, cellOf, statusOf, setStatus, saved, own, Reading, loading, looking, fetching, gives, lookBy, readTick}
 use Rattle.model.specs.Exchange.{Entry, Step, start, test, Exchange, Exchanged, ends, exchangeTick}
-use Rattle.model.proofs.Lists.{replace-same, replace-other}
+use Rattle.model.proofs.Lists.{replace-same, replace-other, impossible}
 use Rattle.model.proofs.Whole.Act.{Act, free, reading, exchanging, actBy, actOf, started?, actAfter, memoryAfter, Quiet, Distinct}
 use Rattle.model.proofs.Whole.Invariant.{WellFormed, Knows, Situation, Room}
 use Rattle.model.proofs.Whole.Words.{current-own, current-other}
@@ -51,7 +51,7 @@ module _ {below : ℕ → ℕ → Type 0} {m : Memory} {acts : List Act} {p : �
 -- READINGS
 module _ {below : ℕ → ℕ → Type 0} {m : Memory} {acts : List Act} {p : ℕ} (c : ℕ) {H H′ : History} (T : Passes below acts p H H′) (now : SeesNow m p H′) (P : Past below H m acts) where
   seen-before : {r : Reading} → Situation below m acts p (reading c r) → (v : ℕ) → H .seen p c v → H′ .seen p c v
-  seen-before S v h = T .seen p c v (λ f. let z : _≡_ {A = ℕ} 0 1 = cc (S .act) in omega arith) h
+  seen-before S v h = T .seen p c v (λ f. impossible (cc (S .act))) h
 
   mine-past : {r : Reading} → Situation below m acts p (reading c r) → PastAct below H (m .cells) (m .status) (m .saves) acts p (reading c r)
   mine-past S = subst (λ (v : Act). PastAct below H (m .cells) (m .status) (m .saves) acts p v) (S .act) (P .knows p)
@@ -75,12 +75,12 @@ module _ {below : ℕ → ℕ → Type 0} {m : Memory} {acts : List Act} {p : �
   looked-gives w v S true e g =
       let k : w .value ≡ v = cc in
       rw (← k, ← (current-own (m .status) (m .saves) w e)) (seen-before S _ (mine-past S))
-  looked-gives w v S false e g = let z : _≡_ {A = ℕ} 0 1 = cc in absurd (omega arith)
+  looked-gives w v S false e g = impossible (cc)
 
   -- 3. the value that a reading gives was the cell's current value at the tick of its Load
   pub reading-gives : (r : Reading) (v : ℕ) → Situation below m acts p (reading c r) → readTick m c r ≡ gives v → H′ .seen p c v
   unfolding readTick
-  reading-gives loading v S g = let z : _≡_ {A = ℕ} 0 1 = cc in absurd (omega arith)
+  reading-gives loading v S g = impossible (cc)
   reading-gives (looking w) v S g = looked-gives w v S (own (m .status) w) refl g
   reading-gives (fetching w) v S g =
       let e : own (m .status) w ≡ false = knows S .1 in

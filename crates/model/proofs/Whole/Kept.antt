@@ -7,7 +7,7 @@ use native.Mathlib.Omega.{arith}
 use Rattle.model.specs.Lists.{replace}
 use Rattle.model.specs.Word.{Word, Memory, cellOf, setStatus, own, Reading, loading, looking, fetching, Read, reads, gives, lookBy, readTick}
 use Rattle.model.specs.Exchange.{Entry, start, test, Exchange, Exchanged}
-use Rattle.model.proofs.Lists.{replace-same}
+use Rattle.model.proofs.Lists.{replace-same, impossible}
 use Rattle.model.proofs.Whole.Act.{Act, free, reading, exchanging, actAt, actAfter, memoryAfter, Quiet, Distinct}
 use Rattle.model.proofs.Whole.Invariant.{WellFormed, valid, held, Anyone, Knows, Rank, itself, idle, lower, Situation, Room}
 use Rattle.model.proofs.Whole.Outcome.{Outcome, starts, tests-done, tests-on, loads, looks-own, looks-other, fetches, saves-differing, saves-to-mark, saves, fails, marks, installs, misses, decides, decides-last, cleans, cleans-last, cleans-to-mark}
@@ -17,8 +17,8 @@ use Rattle.model.proofs.Whole.Statement.{test-done-moved, test-on-moved
 use Rattle.model.proofs.Whole.Clean.{decides-moved, decides-last-moved, cleaned-at, cleans-moved, cleans-last-moved, cleans-to-mark-moved}
 
 quiet-not : {x : Exchange} (v : Act) → Quiet v → v ≡ exchanging x → ⊥
-quiet-not free q e = let z : _≡_ {A = ℕ} 0 1 = cc in omega arith
-quiet-not (reading c r) q e = let z : _≡_ {A = ℕ} 0 1 = cc in omega arith
+quiet-not free q e = impossible (cc)
+quiet-not (reading c r) q e = impossible (cc)
 quiet-not (exchanging x) q e = q
 
 module _ {below : ℕ → ℕ → Type 0} {m : Memory} {acts : List Act} {p : ℕ} {v₀ : Act} (S : Situation below m acts p v₀) (q : Quiet v₀) where
@@ -29,7 +29,7 @@ module _ {below : ℕ → ℕ → Type 0} {m : Memory} {acts : List Act} {p : �
     where
       go : Rank below acts p (w .task) → WellFormed (λ r. below r p) acts c w
       go (lower b) = held b H
-      go (idle i) = let z : _≡_ {A = ℕ} 0 1 = cc (H .at-work) in absurd (omega arith)
+      go (idle i) = impossible (cc (H .at-work))
       go (itself e) = absurd (quiet-not v₀ q (sym (S .act) ∙ ap (λ (r : ℕ). actAt acts r) (sym e) ∙ H .at-work))
 
   pub quiet-moved : {n : Memory} (v : Act) → n .cells ≡ m .cells → Frame p m n → Knows (λ r. below r p) (n .status) (n .saves) (replace acts p v) p v → Moved below m n acts p v
@@ -45,7 +45,7 @@ module _ {below : ℕ → ℕ → Type 0} {m : Memory} {acts : List Act} {p : �
       quiet-moved (exchanging (record { entries = es; i = 0; step = test })) refl (frame-status p m 0)
       (record {
         within = omega arith;
-        at-entry = λ w. let z : _≡_ {A = ℕ} 0 1 = cc in absurd (omega arith);
+        at-entry = λ w. impossible (cc);
         distinct = d;
         settled = λ e l (h : e < 0). absurd (omega arith);
         not-yet = λ u. rw (replace-same 0 (m .status) p 0 (rw (S .sizes) (S .task))) (omega arith);

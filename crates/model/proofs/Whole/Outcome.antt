@@ -9,7 +9,8 @@ use borrow.Author.Tests.{eqb-true, eqb-false}
 use Rattle.model.specs.Word.{sameWord, Memory, cellOf, statusOf, saved, setCell, setStatus, setSave, own}
 use Rattle.model.specs.Exchange.{Step, start, test, load, look, fetch, fail, mark, install, commit, save, clean, cleanMark, Exchange, Exchanged, goes, ends, entryAt, changing, installed, cleaned, to, noted, onward, testBy, lookBy, afterSave, installBy, cleanBy, commitBy, nextBy, next, cleanWordBy, exchangeTick}
 use Rattle.model.proofs.Whole.Act.{here}
-use Rattle.model.proofs.Whole.Words.{and-true, or-false, or-true, same-word, other-word}
+use Rattle.model.proofs.Fit.Elements.{and-left, and-right, or-cases, or-none, or-none-right}
+use Rattle.model.proofs.Whole.Words.{same-word, other-word}
 
 -- Commit's decision: the memory it leaves, and its answer
 pub data Decides (p : ℕ) (m : Memory) : Memory → Bool → Type 0 where
@@ -54,12 +55,8 @@ pub data Outcome (p : ℕ) (m : Memory) (x : Exchange) : Exchanged → Type 0 wh
 module _ (p : ℕ) (m : Memory) (x : Exchange) where
   tested : x .step ≡ test → (b : Bool) → (eqb (x .i) (length (x .entries)) || eqb (statusOf m p) 1) ≡ b → Outcome p m x (testBy b m x)
   unfolding testBy
-  tested s true e = tests-done s (go (or-true _ _ e))
-    where
-      go : (eqb (x .i) (length (x .entries)) ≡ true) ⊎ (eqb (statusOf m p) 1 ≡ true) → (x .i ≡ length (x .entries)) ⊎ (statusOf m p ≡ 1)
-      go (inl f) = inl (eqb-true _ _ f)
-      go (inr f) = inr (eqb-true _ _ f)
-  tested s false e = let g = or-false _ _ e in tests-on s (eqb-false _ _ (g .0), eqb-false _ _ (g .1))
+  tested s true e = tests-done s (or-cases (eqb (x .i) (length (x .entries))) (eqb (statusOf m p) 1) e (λ f. inl (eqb-true _ _ f)) (λ f. inr (eqb-true _ _ f)))
+  tested s false e = tests-on s (eqb-false _ _ (or-none (eqb (x .i) (length (x .entries))) _ e), eqb-false _ _ (or-none-right (eqb (x .i) (length (x .entries))) _ e))
 
   looked : x .step ≡ look → (b : Bool) → own (m .status) (here x .init) ≡ b → Outcome p m x (lookBy b m x (here x))
   unfolding lookBy
@@ -68,7 +65,7 @@ module _ (p : ℕ) (m : Memory) (x : Exchange) where
 
   saved-so : (v : ℕ) → x .step ≡ save v → (b c : Bool) → eqb v (here x .old) ≡ b → (here x .overlapped && changing (here x)) ≡ c → Outcome p m x (goes (setSave m p (x .i) v) (to x (afterSave b c)))
   saved-so v s false c e f = saves-differing v s (eqb-false _ _ e)
-  saved-so v s true true e f = let g = and-true _ _ f in saves-to-mark v s (eqb-true _ _ e) (g .0) (g .1)
+  saved-so v s true true e f = saves-to-mark v s (eqb-true _ _ e) (and-left _ (changing (here x)) f) (and-right (here x .overlapped) _ f)
   saved-so v s true false e f = saves v s (eqb-true _ _ e) f
 
   installed-so : x .step ≡ install → (b : Bool) → sameWord (cellOf m (here x .cell)) (here x .init) ≡ b → Outcome p m x (installBy b p m x (here x))

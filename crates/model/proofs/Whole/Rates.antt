@@ -9,7 +9,7 @@ use lib.ListN.{length}
 use Rattle.model.specs.Lists.{at, replace}
 use Rattle.model.specs.Word.{Word, Memory, cellOf, statusOf, own, Reading, loading, looking, fetching, reads, gives, lookBy, readTick}
 use Rattle.model.specs.Exchange.{Entry, Step, start, test, load, look, fetch, fail, mark, install, commit, save, clean, cleanMark, Exchange, exchangeOf, Exchanged, goes, ends, exchangeTick}
-use Rattle.model.proofs.Lists.{replace-same, length-replace}
+use Rattle.model.proofs.Lists.{replace-same, length-replace, impossible}
 use Rattle.model.proofs.Whole.Outcome.{Cleans, renews, passes, gives-back, leaves, marks-after, Outcome, starts, tests-done, tests-on, loads, looks-own, looks-other, fetches, saves-differing, saves-to-mark, saves, fails, marks, installs, misses, decides, decides-last, cleans, cleans-last, cleans-to-mark, outcome}
 
 -- READINGS
@@ -27,14 +27,14 @@ ReadingAt t (fetching w) = t ≡ 2
 module _ (c t : ℕ) where
   looked-on : (w : Word) (s : Reading) (b : Bool) → lookBy b w ≡ reads s → s ≡ fetching w
   unfolding lookBy
-  looked-on w s true e = let z : _≡_ {A = ℕ} 0 1 = cc in absurd (omega arith)
+  looked-on w s true e = impossible (cc)
   looked-on w s false e = cc
 
   read-on : (m : Memory) (r s : Reading) → readTick m c r ≡ reads s → ReadingAt t r → ReadingAt (suc t) s
   unfolding readTick
   read-on m loading s e h = let k : looking (cellOf m c) ≡ s = cc in subst (λ (z : Reading). ReadingAt (suc t) z) k (ap suc h)
   read-on m (looking w) s e h = subst (λ (z : Reading). ReadingAt (suc t) z) (sym (looked-on w s (own (m .status) w) e)) (ap suc h)
-  read-on m (fetching w) s e h = let z : _≡_ {A = ℕ} 0 1 = cc in absurd (omega arith)
+  read-on m (fetching w) s e h = impossible (cc)
 
 reading-at : {c t : ℕ} {r : Reading} → Reads c t r → ReadingAt t r
 reading-at at-first = refl
@@ -46,7 +46,7 @@ unfolding readTick
 reading-rate {c} {t} {r} R m v e = go r (reading-at R) e
   where
     go : (r : Reading) → ReadingAt t r → readTick m c r ≡ gives v → (suc t ≡ 2) ⊎ (suc t ≡ 3)
-    go loading h e = let z : _≡_ {A = ℕ} 0 1 = cc in absurd (omega arith)
+    go loading h e = impossible (cc)
     go (looking w) h e = inl (ap suc h)
     go (fetching w) h e = inr (ap suc h)
 

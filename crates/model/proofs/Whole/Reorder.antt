@@ -3,15 +3,15 @@ use Prim.Native.Nat.{ℕ}
 use mathlib.Core.Path.{_≡_, refl}
 use mathlib.Core.Logic.{_≢_}
 use mathlib.Core.List.{List}
-use native.Mathlib.Omega.{arith}
 use Rattle.model.specs.Word.{Word, Memory, loading, looking, fetching}
 use Rattle.model.specs.Exchange.{Entry, Step, start, test, load, look, fetch, fail, mark, install, commit, save, clean, cleanMark, Exchange}
+use Rattle.model.proofs.Lists.{impossible}
 use Rattle.model.proofs.Whole.Act.{Act, free, reading, exchanging, actAt}
 use Rattle.model.proofs.Whole.Invariant.{WellFormed, valid, held, Loaded, Found, Settled, AtStep, Knows, CoveredBy, Stands, stands, covered, Standing, Invariant}
 use Rattle.model.proofs.Whole.Ground.{History, GroundsOf, ReplacedBy, CountsOn, there, replaced, was-hit, PastStep, PastAct, Past}
 
 not-free : {v : Act} {x : Exchange} → v ≡ exchanging x → v ≢ free
-not-free e f = let z : _≡_ {A = ℕ} 0 1 = cc in omega arith
+not-free e f = impossible (cc)
 
 module _ {of of′ : ℕ → Type 0} (acts : List Act) (f : (r : ℕ) → actAt acts r ≢ free → of r → of′ r) where
   content-reordered : {c : ℕ} {w : Word} → WellFormed of acts c w → WellFormed of′ acts c w
@@ -80,7 +80,7 @@ module _ {below below′ : ℕ → ℕ → Type 0} (acts : List Act) (f : (r q :
 
   knows-at-work : (status : List ℕ) (saves : List (List ℕ)) (p : ℕ) (v : Act) → actAt acts p ≡ v → Knows (λ r. below r p) status saves acts p v → Knows (λ r. below′ r p) status saves acts p v
   knows-at-work status saves p free a h = tt
-  knows-at-work status saves p (reading c r) a h = knows-reordered acts (λ q n b. f q p n (λ e. let z : _≡_ {A = ℕ} 0 1 = cc in omega arith) b) status saves p (reading c r) h
+  knows-at-work status saves p (reading c r) a h = knows-reordered acts (λ q n b. f q p n (λ e. impossible (cc)) b) status saves p (reading c r) h
   knows-at-work status saves p (exchanging x) a h = knows-reordered acts (λ q n b. f q p n (not-free a) b) status saves p (exchanging x) h
 
   pub invariant-reordered : {m : Memory} → Invariant below m acts → Invariant below′ m acts

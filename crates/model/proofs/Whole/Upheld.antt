@@ -8,9 +8,10 @@ use native.Mathlib.Omega.{arith}
 use Rattle.model.specs.Word.{Word, fresh, Memory, cellOf, statusOf, setCell}
 use Rattle.model.specs.Exchange.{Step, start, test, load, look, fetch, fail, mark, install, commit, save, clean, cleanMark, Exchange, Exchanged, entryAt, changing, installed, to, onward}
 use Rattle.model.proofs.Lists.{replace-same, replace-other, same?}
+use Rattle.model.proofs.Fit.Elements.{and-right}
 use Rattle.model.proofs.Whole.Act.{Act, free, exchanging, actAfter, memoryAfter, stageOf, stage, hopeful, covering, here}
 use Rattle.model.proofs.Whole.Invariant.{Covers, Situation, Room}
-use Rattle.model.proofs.Whole.Words.{and-true, changes, not-counting}
+use Rattle.model.proofs.Whole.Words.{changes, not-counting}
 use Rattle.model.proofs.Whole.Outcome.{Cleans, renews, passes, gives-back, leaves, marks-after, Outcome, starts, tests-done, tests-on, loads, looks-own, looks-other, fetches, saves-differing, saves-to-mark, saves, fails, marks, installs, misses, decides, decides-last, cleans, cleans-last, cleans-to-mark}
 use Rattle.model.proofs.Whole.Frame.{mark-keeps, kept-zero, below-clear}
 use Rattle.model.proofs.Whole.Early.{Follows, follows-to, follows-noted, mine, at-step-as, replaced-status}
@@ -103,7 +104,7 @@ module _ {below : ℕ → ℕ → Type 0} {m : Memory} {acts : List Act} {p : �
     -- on yes a changing pair has marked the task of the word that it replaced
     was-marked : {P : Type 0} → (yes? && changing (entryAt x j)) ≡ true → (u : Word) → statusOf m (u .task) ≡ 0 → entryAt x j .overlapped ≡ true → entryAt x j .init ≡ u → P
     was-marked e u st o i =
-        let k = clean-settled S j yes? s .marked o (changes (entryAt x j) (and-true yes? _ e .1)) in
+        let k = clean-settled S j yes? s .marked o (changes (entryAt x j) (and-right yes? _ e)) in
         absurd (omega (arith, rw i at k))
 
   returns : {n : Memory} (j : ℕ) (yes? : Bool) → Room m p (x .entries) → Cleans p m x j yes? n → Returns j n

@@ -1,26 +1,15 @@
--- Words that are the same, values that count, and tests taken apart.
+-- Words that are the same, and values that count.
 use Prim.Native.Nat.{ℕ}
-use mathlib.Core.Bool.{Bool, true, false, _&&_, _||_, true≢false}
+use mathlib.Core.Bool.{Bool, true, false, _&&_, true≢false}
 use mathlib.Core.Path.{_≡_, refl, sym, _∙_}
-use mathlib.Core.Logic.{_≢_, _⊎_, inl, inr}
+use mathlib.Core.Logic.{_≢_}
 use mathlib.Core.List.{List}
 use lib.Dec.{eqb}
 use borrow.Author.Tests.{eqb-true, eqb-false, eq-eqb, ne-eqb, not-true, not-false}
 use Rattle.model.specs.Lists.{at}
 use Rattle.model.specs.Word.{Word, sameMark, sameWord, saved, own, current, currentBy}
 use Rattle.model.specs.Exchange.{Entry, changing, installed, cleaned}
-
-pub and-true : (a b : Bool) → (a && b) ≡ true → (a ≡ true) × (b ≡ true)
-and-true true b e = (refl, e)
-and-true false b e = absurd (true≢false (sym e))
-
-pub or-false : (a b : Bool) → (a || b) ≡ false → (a ≡ false) × (b ≡ false)
-or-false true b e = absurd (true≢false e)
-or-false false b e = (refl, e)
-
-pub or-true : (a b : Bool) → (a || b) ≡ true → (a ≡ true) ⊎ (b ≡ true)
-or-true true b e = inl refl
-or-true false b e = inr e
+use Rattle.model.proofs.Fit.Elements.{or-none, or-none-right}
 
 -- a changing pair is one whose old is not its new
 pub changes : (n : Entry) → changing n ≡ true → n .old ≢ n .new
@@ -64,7 +53,7 @@ own-valid status w e = rw e
 -- a word whose own value does not count is not valid, and its task's status is not 2
 pub not-own : (status : List ℕ) (w : Word) → own status w ≡ false → (w .valid ≡ false) × (at 0 status (w .task) ≢ 2)
 unfolding own
-not-own status w e = let a = or-false (w .valid) _ e in (a .0, eqb-false _ _ (a .1))
+not-own status w e = (or-none (w .valid) _ e, eqb-false _ _ (or-none-right (w .valid) _ e))
 
 pub not-counting : (status : List ℕ) (w : Word) → w .valid ≡ false → at 0 status (w .task) ≢ 2 → own status w ≡ false
 unfolding own
