@@ -1,20 +1,17 @@
 -- COMMIT: nothing touched, spent, gathered; its exchange goes on, says yes, says no.
 use Prim.Native.Nat.{ℕ, zero, suc, _+_, _*_, _/_, _<_, _≤_}
-use mathlib.Core.Path.{_≡_, refl, sym, ap, _∙_, subst}
+use mathlib.Core.Path.{_≡_, refl, sym, ap, _∙_}
 use mathlib.Core.Logic.{_≢_}
 use mathlib.Core.Bool.{Bool, true, false, true≢false}
-use mathlib.Core.List.{List, [], _∷_}
+use mathlib.Core.List.{List, []}
 use native.Mathlib.Omega.{arith}
-use lib.Dec.{eqb, ltb}
-use lib.ListN.{length}
+use lib.Dec.{eqb}
 use borrow.Author.Tests.{le-ltb, eqb-false}
 use Rattle.model.specs.Lists.{at}
 use Rattle.model.specs.Command as C
-use Rattle.model.specs.Word as W
 use Rattle.model.specs.Exchange as X
 use Rattle.model.specs.Job as J
 use Rattle.model.specs.Transaction as T
-use Rattle.model.proofs.Lists.{test?}
 use Rattle.model.proofs.Fit.Transaction.{touched?, count}
 use Rattle.memory.specs.Rows.{row}
 use Rattle.memory.proofs.Rows.{at-row}
@@ -36,7 +33,7 @@ use Rattle.machine.proofs.Simulation.Entries.{no-pairs, no-entries}
 use Rattle.machine.proofs.Simulation.Entered.{EntrySizes}
 use Rattle.machine.proofs.Simulation.Blocks.{nothing-touched, some-spent}
 use Rattle.machine.proofs.Simulation.Copied.{copied-size, copied-others, copied-row, cleared-size, cleared-others, cleared-blocks}
-use Rattle.machine.proofs.Simulation.Gather.{taken-size, taken-others, taken-row, SoFar, gathered}
+use Rattle.machine.proofs.Simulation.Gather.{taken-size, taken-others, taken-row, gathered}
 use Rattle.machine.proofs.Simulation.Exchange.{exchangedOf}
 use Rattle.machine.proofs.Simulation.ExchangeFrame.{ExchangeFrame}
 use Rattle.machine.proofs.Simulation.Parts.{Sizes, partsOf, sharedOf, AtWork, Simulated, counted-same, counted-other, counted-size, counted-others}

@@ -1,12 +1,12 @@
 -- The end of a command: the job goes on with the next, or is finished.
-use Prim.Native.Nat.{ℕ, suc, _+_, _*_, _<_, _≤_}
-use mathlib.Core.Path.{_≡_, refl, sym, ap, _∙_}
+use Prim.Native.Nat.{ℕ, _<_}
+use mathlib.Core.Path.{_≡_, refl, ap, _∙_}
 use mathlib.Core.Logic.{_≢_}
 use mathlib.Core.Bool.{Bool, true, false}
-use mathlib.Core.List.{List, [], _∷_}
+use mathlib.Core.List.{List, []}
 use native.Mathlib.Omega.{arith}
 use lib.ListN.{length}
-use Rattle.model.specs.Lists.{at, replace}
+use Rattle.model.specs.Lists.{at}
 use Rattle.model.specs.Command.{Command, TASK, Found, found, refused, commandAt}
 use Rattle.model.specs.Exchange as X
 use Rattle.model.specs.Job as J

@@ -1,8 +1,8 @@
 -- Every step of an exchange over flat arrays is the model's.
-use Prim.Native.Nat.{ℕ, suc, _+_, _*_, _%_, _<_, _≤_}
+use Prim.Native.Nat.{ℕ, suc, _+_, _*_, _<_, _≤_}
 use mathlib.Core.Path.{_≡_, refl, sym, ap, _∙_}
 use mathlib.Core.Bool.{Bool, true, false, not, _&&_, _||_}
-use mathlib.Core.List.{List, [], map}
+use mathlib.Core.List.{List, map}
 use native.Mathlib.Omega.{arith}
 use lib.Dec.{eqb}
 use lib.ListN.{length}
@@ -10,20 +10,20 @@ use Rattle.model.specs.Lists.{at, replace}
 use Rattle.model.specs.Word as W
 use Rattle.model.specs.Exchange as X
 use Rattle.model.proofs.Lists.{map-replace}
-use Rattle.model.proofs.Fit.Exchange.{StepFit, Below}
-use Rattle.memory.specs.Packed.{unpack, packed, valueOf, taskOf}
-use Rattle.memory.specs.Rows.{row, rows}
+use Rattle.model.proofs.Fit.Exchange.{StepFit}
+use Rattle.memory.specs.Packed.{unpack, packed, valueOf}
+use Rattle.memory.specs.Rows.{row}
 use Rattle.memory.proofs.Packed.{unpack-packed, same-packed}
 use Rattle.memory.proofs.Rows.{at-row, row-same, length-row}
-use Rattle.machine.specs.Places.{if, nextOf, Went, went}
+use Rattle.machine.specs.Places.{if, nextOf, went}
 use Rattle.machine.specs.Reading.{owned}
 use Rattle.machine.specs.Exchange.{Left, afterStart, afterTest, afterLoad, afterLook, afterFetch, savedStep, afterSave, afterFail, afterMark, installedAt, afterInstall, cleaning, afterCommit, onward, asNew, cleaned, afterClean, afterCleanMark, goes, inCells, inStatus, inOverlapped, afterExchange}
 use Rattle.machine.specs.declared.exchange.Step.{Step}
 use Rattle.machine.specs.declared.exchange.Step.the-variants.{Start, Test, Load, Look, Fetch, Save, Fail, Mark, Install, Commit, Clean, CleanMark}
 use Rattle.machine.specs.declared.exchange.Exchanged.{Exchanged}
 use Rattle.machine.specs.declared.exchange.Exchanged.the-variants.{Goes, Ends}
-use Rattle.machine.proofs.Simulation.View.{memoryOf, entryOf, entriesOf, numberOf, stepOf, exchangeOf}
-use Rattle.machine.proofs.Simulation.Memory.{cell-at, own-unpack, rows-at, rows-written}
+use Rattle.machine.proofs.Simulation.View.{memoryOf, entriesOf, numberOf, stepOf, exchangeOf}
+use Rattle.machine.proofs.Simulation.Memory.{cell-at, own-unpack, rows-written}
 use Rattle.machine.proofs.Simulation.Entries.{at-entries, length-entries, entries-loaded, entries-looked}
 use Rattle.machine.proofs.Simulation.Reading.{saved-for}
 

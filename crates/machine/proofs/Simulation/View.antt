@@ -1,7 +1,7 @@
 -- The model's memory and tasks that flat arrays hold.
 use Prim.Native.Nat.{ℕ, zero, suc}
-use mathlib.Core.Bool.{Bool, true, false, not}
-use mathlib.Core.List.{List, [], _∷_, map}
+use mathlib.Core.Bool.{not}
+use mathlib.Core.List.{List, [], map}
 use lib.Dec.{eqb}
 use lib.ListN.{length}
 use Rattle.model.specs.Lists.{at}
@@ -11,7 +11,7 @@ use Rattle.model.specs.Word as W
 use Rattle.model.specs.Exchange as X
 use Rattle.model.specs.Job as J
 use Rattle.memory.specs.Packed.{unpack}
-use Rattle.memory.specs.Rows.{row, rows}
+use Rattle.memory.specs.Rows.{rows}
 use Rattle.sheet.specs.View.{viewAccess}
 use Rattle.machine.specs.declared.read.Reading.{Reading}
 use Rattle.machine.specs.declared.read.Reading.the-variants as Reading
