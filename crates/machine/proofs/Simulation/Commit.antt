@@ -27,7 +27,7 @@ use Rattle.machine.specs.declared.exchange.Exchanged.the-variants.{Goes,
 use Rattle.machine.specs.declared.job.Phase.the-variants.{Idle}
 use Rattle.machine.specs.declared.job.Job.{Job}
 use Rattle.machine.proofs.Simulation.Tabulate.{tabulate, tabulate-same}
-use Rattle.machine.proofs.Simulation.View.{Parts, memoryOf, touchedOf, blocksOf, bodyFrom, transactionOf, taskOf}
+use Rattle.machine.proofs.Simulation.View.{Parts, memoryOf, touchedOf, blocksOf, bodyFrom, transactionOf, taskOf, withCopies, withCounts, withLoaded}
 use Rattle.machine.proofs.Simulation.View.{entriesOf as viewEntries}
 use Rattle.machine.proofs.Simulation.Entries.{no-pairs, no-entries}
 use Rattle.machine.proofs.Simulation.Entered.{EntrySizes}
@@ -37,8 +37,7 @@ use Rattle.machine.proofs.Simulation.Gather.{taken-size, taken-others, 
 use Rattle.machine.proofs.Simulation.Exchange.{exchangedOf}
 use Rattle.machine.proofs.Simulation.ExchangeFrame.{ExchangeFrame}
 use Rattle.machine.proofs.Simulation.Parts.{Sizes, partsOf, sharedOf, AtWork, Simulated, counted-same, counted-other, counted-size, counted-others}
-use Rattle.machine.proofs.Simulation.Done.{withCounts, done-same, done-size, done-others, done-shape}
-use Rattle.machine.proofs.Simulation.Answers.{withLoaded}
+use Rattle.machine.proofs.Simulation.Done.{done-same, done-size, done-others, done-shape}
 use Rattle.machine.proofs.Simulation.Access.{inside}
 
 -- what is known of the blocks and copy slots of task p
@@ -47,10 +46,6 @@ pub record PassFits (a : Arrays) (p : ℕ) : Type 0 where
   pub value : (b k : ℕ) → b < 16 → at 0 (a .kinds) (16 * p + b) ≡ suc (suc k) → at 0 (a .remembered) (16 * p + b) < 4294967296
   pub copy : (k : ℕ) → k < 4 → at 0 (a .copies) (4 * p + k) < 256
   pub most : count touched? (blocksOf (row 16 p (a .kinds)) (row 16 p (a .remembered))) ≤ 8
-
-abbrev withCopies : Parts → List ℕ → Parts
-withCopies y c =
-    record { registers = y .registers; copies = c; counts = y .counts; kept = y .kept; names = y .names; olds = y .olds; news = y .news; inits = y .inits; overlapped = y .overlapped; kinds = y .kinds; remembered = y .remembered }
 
 -- no block is spent
 none-spent : (kinds values : List ℕ) (n place i : ℕ) → spentFrom n kinds values place ≡ false → i < n → isSpent (at 0 kinds (place + i)) (at 0 values (place + i)) ≡ false

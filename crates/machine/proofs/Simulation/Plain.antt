@@ -27,7 +27,7 @@ use Rattle.machine.specs.declared.read.Reading.the-variants.{Load}
 use Rattle.machine.specs.declared.exchange.Step.the-variants.{Start}
 use Rattle.machine.specs.declared.job.Phase.the-variants.{Plain}
 use Rattle.machine.specs.declared.job.Job.{Job}
-use Rattle.machine.proofs.Simulation.View.{Parts, bodyFrom}
+use Rattle.machine.proofs.Simulation.View.{bodyFrom, withEntries}
 use Rattle.machine.proofs.Simulation.Body.{bodyBy, body-found}
 use Rattle.machine.proofs.Simulation.Entered.{EntrySizes, rowPairs, entered-frame, entered-sizes, entered-pairs, entered-entries}
 use Rattle.machine.proofs.Simulation.Reading.{read-tick}
@@ -36,10 +36,6 @@ use Rattle.machine.proofs.Simulation.Copied.{copied-size, copied-others
 use Rattle.machine.proofs.Simulation.Parts.{Sizes, partsOf, sharedOf, AtWork, Unloaded, Simulated}
 use Rattle.machine.proofs.Simulation.Done.{done-same, done-size, done-others, done-shape}
 use Rattle.machine.proofs.Simulation.Answers.{outside, registers-done, register-done, read-by, swap-by}
-
-abbrev withEntries : Parts → Entries → ℕ → Parts
-withEntries x e p =
-    record { registers = x .registers; copies = x .copies; counts = x .counts; kept = x .kept; names = row 8 p (e .names); olds = row 8 p (e .olds); news = row 8 p (e .news); inits = row 8 p (e .inits); overlapped = row 8 p (e .overlapped); kinds = x .kinds; remembered = x .remembered }
 
 -- what the check says of the command found, if it is one of a body
 abbrev pub FitsIf : Bool → ℕ → ℕ → Body → C.Command → Type 0

@@ -111,9 +111,6 @@ unfolding M.run M.runBy
 run-on k m e = rw e
 
 module _ (sheet bodies : List ℕ) (s : Sheet) (c : SheetFit s) where
-  abbrev n : ℕ
-  n = length (s .bodies)
-
   abbrev viewed : World → M.Machine
   viewed w = machineOf sheet bodies (length (s .bodies)) w
 

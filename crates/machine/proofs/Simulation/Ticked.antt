@@ -28,8 +28,7 @@ use Rattle.machine.specs.declared.job.Inner.{Inner}
 use Rattle.machine.specs.declared.job.Inner.the-variants as Inner
 use Rattle.machine.specs.declared.job.Job.{Job}
 use Rattle.machine.proofs.Mask.{top-none}
-use Rattle.machine.proofs.Simulation.View.{Parts, bodyFrom, transactionOf, innerOf, phaseOf, waitingOf, taskOf}
-use Rattle.machine.proofs.Simulation.Done.{withCounts as partsWith}
+use Rattle.machine.proofs.Simulation.View.{Parts, bodyFrom, transactionOf, innerOf, phaseOf, waitingOf, taskOf, withCounts as partsWith}
 use Rattle.machine.proofs.Simulation.Parts.{sizes, partsOf, sharedOf, turnOf, JobShape, Simulated, counted-same, counted-other, counted-size, counted-others}
 use Rattle.machine.proofs.Simulation.Releases.{releasesFrom}
 use Rattle.machine.proofs.Simulation.Statement.{statement-tick}
@@ -213,8 +212,8 @@ module _ (sheet bodies : List ℕ) (s : Sheet) (c : SheetFit s) (w : World) (g :
   -- ANY TICK
   pub ticked-fits : Fit s m → Ranges m → w .ticks < 4294967295 → TickedFits (ticked sheet w)
   unfolding ticked
-  ticked-fits fit range few = go (w .mask) refl (subst (Top 8 (w .jobs)) (sym (g .mask)) (top (w .jobs) 8))
+  ticked-fits fit range few = go (subst (Top 8 (w .jobs)) (sym (g .mask)) (top (w .jobs) 8))
     where
-      go : (k : ℕ) → w .mask ≡ k → Top 8 (w .jobs) k → TickedFits (tickedFor sheet w (topOf 8 k) (jobOf w (topOf 8 k)))
-      go k e (none z f) = nobody-ticks f (topOf 8 k) (rw (z, top-none) (omega arith))
-      go k e (some l h) = statement-ticks fit range few (topOf 8 k) h
+      go : Top 8 (w .jobs) (w .mask) → TickedFits (tickedFor sheet w (topOf 8 (w .mask)) (jobOf w (topOf 8 (w .mask))))
+      go (none z f) = nobody-ticks f (topOf 8 (w .mask)) (rw (z, top-none) (omega arith))
+      go (some l h) = statement-ticks fit range few (topOf 8 (w .mask)) h
