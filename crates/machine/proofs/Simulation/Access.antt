@@ -1,11 +1,10 @@
 -- GET and PUT: the first reading, the copy, the own copy, the second reading and the stale restart.
-use Prim.Native.Nat.{ℕ, zero, suc, _+_, _*_, _-_, _/_, _%_, _<_, _≤_}
+use Prim.Native.Nat.{ℕ, zero, suc, _+_, _*_, _-_, _/_, _%_, _<_}
 use mathlib.Core.Path.{_≡_, refl, sym, ap, _∙_, subst}
-use mathlib.Core.Logic.{_≢_}
 use mathlib.Core.Bool.{Bool, true, false}
-use mathlib.Core.List.{List, [], _∷_}
+use mathlib.Core.List.{List, []}
 use native.Mathlib.Omega.{arith}
-use lib.Dec.{eqb, ltb}
+use lib.Dec.{eqb}
 use lib.ListN.{length}
 use borrow.Author.Tests.{le-ltb, ne-eqb}
 use Rattle.model.specs.Lists.{at, replace}
@@ -20,10 +19,10 @@ use Rattle.memory.proofs.Rows.{at-row, row-same, row-other, length-row}
 use Rattle.sheet.specs.View.{viewAccess}
 use Rattle.sheet.specs.declared.commands.Access.{Access}
 use Rattle.sheet.specs.declared.commands.Access.the-variants.{Get, Put}
-use Rattle.machine.specs.Places.{if, nextOf, Went, went}
+use Rattle.machine.specs.Places.{if, nextOf, went}
 use Rattle.machine.specs.Reading.{afterReading}
 use Rattle.machine.specs.Blocks.{bankOf, namedBlock}
-use Rattle.machine.specs.Accesses.{accessed, inStores, firstRead, storeFor, gotBy, copyBy, afterCopy, afterPut, touchedTick, accessTick, restarted, checkedBy, againRead}
+use Rattle.machine.specs.Accesses.{accessed, inStores, firstRead, storeFor, gotBy, copyBy, afterCopy, afterPut, accessTick, restarted, checkedBy, againRead}
 use Rattle.machine.specs.Statements.{Arrays, Turn, onTouching, onStores, onAccess, onChecked}
 use Rattle.machine.specs.declared.read.Reading.the-variants.{Load}
 use Rattle.machine.specs.declared.read.Read.{Read}

@@ -1,10 +1,8 @@
 -- What a tick of READ and of SWAP makes of the job.
-use Prim.Native.Nat.{ℕ, suc, _+_, _*_, _<_, _≤_}
+use Prim.Native.Nat.{ℕ, _+_, _*_, _<_}
 use mathlib.Core.Path.{_≡_, refl, sym, ap, _∙_}
 use mathlib.Core.Logic.{_≢_}
-use mathlib.Core.Bool.{Bool, true, false}
-use mathlib.Core.List.{List, [], _∷_}
-use native.Mathlib.Omega.{arith}
+use mathlib.Core.List.{List}
 use lib.ListN.{length}
 use Rattle.model.specs.Lists.{at, replace}
 use Rattle.model.specs.Command.{Command}
@@ -22,20 +20,12 @@ use Rattle.machine.specs.declared.read.Read.the-variants.{Reads, Gives}
 use Rattle.machine.specs.declared.exchange.Exchanged.{Exchanged}
 use Rattle.machine.specs.declared.exchange.Exchanged.the-variants.{Goes, Ends}
 use Rattle.machine.specs.declared.job.Job.{Job}
-use Rattle.machine.proofs.Simulation.View.{Parts, memoryOf, entriesOf, pairsOf, bodyFrom, readOf, task}
+use Rattle.machine.proofs.Simulation.View.{memoryOf, entriesOf, pairsOf, bodyFrom, readOf, task, withRegisters, withLoaded}
 use Rattle.machine.proofs.Simulation.Entries.{no-pairs, no-entries}
 use Rattle.machine.proofs.Simulation.Exchange.{exchangedOf}
 use Rattle.machine.proofs.Simulation.ExchangeFrame.{ExchangeFrame}
 use Rattle.machine.proofs.Simulation.Parts.{Sizes, partsOf, sharedOf, AtWork, Unloaded, Simulated}
 use Rattle.machine.proofs.Simulation.Done.{done-same, done-size, done-others, done-shape}
-
-abbrev pub withRegisters : Parts → List ℕ → Parts
-withRegisters x r =
-    record { registers = r; copies = x .copies; counts = x .counts; kept = x .kept; names = x .names; olds = x .olds; news = x .news; inits = x .inits; overlapped = x .overlapped; kinds = x .kinds; remembered = x .remembered }
-
-abbrev pub withLoaded : Parts → List ℕ → List ℕ → Parts
-withLoaded x l o =
-    record { registers = x .registers; copies = x .copies; counts = x .counts; kept = x .kept; names = x .names; olds = x .olds; news = x .news; inits = l; overlapped = o; kinds = x .kinds; remembered = x .remembered }
 
 -- task p of arrays a at command j, in any phase outside a transaction
 abbrev pub outside : List ℕ → List Command → Arrays → ℕ → Job → J.Phase → J.Task

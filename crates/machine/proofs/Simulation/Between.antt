@@ -1,12 +1,11 @@
 -- The command at work inside a transaction: LOAD, ADD, GET, PUT, COMMIT.
-use Prim.Native.Nat.{ℕ, suc, _+_, _*_, _<_, _≤_}
-use mathlib.Core.Path.{_≡_, refl, sym, ap, _∙_, subst}
+use Prim.Native.Nat.{ℕ, _+_, _*_, _<_, _≤_}
+use mathlib.Core.Path.{_≡_, refl, sym, ap, _∙_}
 use mathlib.Core.Logic.{_≢_}
 use mathlib.Core.Bool.{Bool, true, false, false≢true}
-use mathlib.Core.List.{List, [], _∷_}
+use mathlib.Core.List.{List, _∷_}
 use native.Mathlib.Omega.{arith}
-use lib.ListN.{length}
-use Rattle.model.specs.Lists.{at, replace}
+use Rattle.model.specs.Lists.{at}
 use Rattle.model.specs.Command as C
 use Rattle.model.specs.Job as J
 use Rattle.model.specs.Transaction as T
@@ -18,13 +17,13 @@ use Rattle.memory.proofs.Rows.{row-same, row-other}
 use Rattle.sheet.specs.View.{viewAccess}
 use Rattle.sheet.specs.declared.commands.Access.{Access}
 use Rattle.sheet.specs.declared.commands.Access.the-variants.{Get, Put}
-use Rattle.machine.specs.Jobs.{bodyCommand, movedTo, inPhase, added}
+use Rattle.machine.specs.Jobs.{bodyCommand, movedTo, inPhase}
 use Rattle.machine.specs.Statements.{Arrays, turn, betweenBy}
 use Rattle.machine.specs.declared.job.Inner.the-variants.{Between}
 use Rattle.machine.specs.declared.job.Phase.the-variants.{Transaction}
 use Rattle.machine.specs.declared.job.Job.{Job}
 use Rattle.machine.proofs.Simulation.View.{bodyFrom, touchedOf, transactionOf}
-use Rattle.machine.proofs.Simulation.Body.{bodyIf, bodyBy, body-found}
+use Rattle.machine.proofs.Simulation.Body.{bodyBy, body-found}
 use Rattle.machine.proofs.Simulation.Parts.{Sizes, partsOf, sharedOf, AtWork, Simulated}
 use Rattle.machine.proofs.Simulation.Plain.{added-row, added-others, added-size}
 use Rattle.machine.proofs.Simulation.Access.{inside, AccessFits, touched-at, access-tick}

@@ -1,14 +1,14 @@
 -- The blocks of a transaction, read and written; whether one is touched, whether one is spent.
 use Prim.Native.Nat.{ℕ, zero, suc, _+_, _*_, _/_, _<_}
-use mathlib.Core.Path.{_≡_, refl, sym, ap, _∙_}
+use mathlib.Core.Path.{_≡_, refl, ap, _∙_}
 use mathlib.Core.Bool.{Bool, true, false, false≢true, _||_}
-use mathlib.Core.List.{List, [], _∷_}
+use mathlib.Core.List.{List, _∷_}
 use native.Mathlib.Omega.{arith}
-use lib.Dec.{eqb, ltb}
+use lib.Dec.{eqb}
 use lib.ListN.{length}
-use borrow.Author.Tests.{lt-ltb, le-ltb, ne-eqb}
+use borrow.Author.Tests.{le-ltb, ne-eqb}
 use Rattle.model.specs.Lists.{at, replace}
-use Rattle.model.specs.Job.{Touched, untouched, remembered, copied}
+use Rattle.model.specs.Job.{Touched, untouched}
 use Rattle.model.specs.Transaction.{rememberedOf, nothing?, spent?}
 use Rattle.model.proofs.Lists.{replace-same, replace-other}
 use Rattle.model.proofs.Fit.Transaction.{touched?}
@@ -16,7 +16,7 @@ use Rattle.memory.specs.Rows.{row}
 use Rattle.memory.proofs.Rows.{at-row}
 use Rattle.machine.specs.Places.{if}
 use Rattle.machine.specs.Blocks.{untouchedFrom, isSpent, spentFrom}
-use Rattle.machine.proofs.Simulation.Tabulate.{tabulate, at-tabulate, tabulate-same, tabulate-replace}
+use Rattle.machine.proofs.Simulation.Tabulate.{tabulate, at-tabulate, tabulate-replace}
 use Rattle.machine.proofs.Simulation.View.{touchedOf, blocksOf}
 
 module _ (kinds values : List ℕ) where

@@ -8,7 +8,6 @@ use lib.ListN.{length}
 use borrow.Author.Tests.{le-ltb}
 use Rattle.model.specs.Command.{Command, WORD, BLOCK, TASK, RELEASE, END, LOAD, ADD, READ, PAIR, SWAP, BEGIN, access, COMMIT, Found, found, refused, foundByte, commandAt}
 use Rattle.model.specs.Sheet.{listed, commandsFrom, Declared, declare, declared}
-use Rattle.model.proofs.Fit.Elements.{below?}
 use Rattle.model.proofs.Fit.Reading.{found-at}
 use Rattle.machine.specs.Jobs.{bodyCommand}
 use Rattle.machine.proofs.Simulation.View.{bodyFrom}

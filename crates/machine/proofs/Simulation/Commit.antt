@@ -1,20 +1,17 @@
 -- COMMIT: nothing touched, spent, gathered; its exchange goes on, says yes, says no.
 use Prim.Native.Nat.{ℕ, zero, suc, _+_, _*_, _/_, _<_, _≤_}
-use mathlib.Core.Path.{_≡_, refl, sym, ap, _∙_, subst}
+use mathlib.Core.Path.{_≡_, refl, sym, ap, _∙_}
 use mathlib.Core.Logic.{_≢_}
 use mathlib.Core.Bool.{Bool, true, false, true≢false}
-use mathlib.Core.List.{List, [], _∷_}
+use mathlib.Core.List.{List, []}
 use native.Mathlib.Omega.{arith}
-use lib.Dec.{eqb, ltb}
-use lib.ListN.{length}
+use lib.Dec.{eqb}
 use borrow.Author.Tests.{le-ltb, eqb-false}
 use Rattle.model.specs.Lists.{at}
 use Rattle.model.specs.Command as C
-use Rattle.model.specs.Word as W
 use Rattle.model.specs.Exchange as X
 use Rattle.model.specs.Job as J
 use Rattle.model.specs.Transaction as T
-use Rattle.model.proofs.Lists.{test?}
 use Rattle.model.proofs.Fit.Transaction.{touched?, count}
 use Rattle.memory.specs.Rows.{row}
 use Rattle.memory.proofs.Rows.{at-row}
@@ -30,18 +27,17 @@ use Rattle.machine.specs.declared.exchange.Exchanged.the-variants.{Goes,
 use Rattle.machine.specs.declared.job.Phase.the-variants.{Idle}
 use Rattle.machine.specs.declared.job.Job.{Job}
 use Rattle.machine.proofs.Simulation.Tabulate.{tabulate, tabulate-same}
-use Rattle.machine.proofs.Simulation.View.{Parts, memoryOf, touchedOf, blocksOf, bodyFrom, transactionOf, taskOf}
+use Rattle.machine.proofs.Simulation.View.{Parts, memoryOf, touchedOf, blocksOf, bodyFrom, transactionOf, taskOf, withCopies, withCounts, withLoaded}
 use Rattle.machine.proofs.Simulation.View.{entriesOf as viewEntries}
 use Rattle.machine.proofs.Simulation.Entries.{no-pairs, no-entries}
 use Rattle.machine.proofs.Simulation.Entered.{EntrySizes}
 use Rattle.machine.proofs.Simulation.Blocks.{nothing-touched, some-spent}
 use Rattle.machine.proofs.Simulation.Copied.{copied-size, copied-others, copied-row, cleared-size, cleared-others, cleared-blocks}
-use Rattle.machine.proofs.Simulation.Gather.{taken-size, taken-others, taken-row, SoFar, gathered}
+use Rattle.machine.proofs.Simulation.Gather.{taken-size, taken-others, taken-row, gathered}
 use Rattle.machine.proofs.Simulation.Exchange.{exchangedOf}
 use Rattle.machine.proofs.Simulation.ExchangeFrame.{ExchangeFrame}
 use Rattle.machine.proofs.Simulation.Parts.{Sizes, partsOf, sharedOf, AtWork, Simulated, counted-same, counted-other, counted-size, counted-others}
-use Rattle.machine.proofs.Simulation.Done.{withCounts, done-same, done-size, done-others, done-shape}
-use Rattle.machine.proofs.Simulation.Answers.{withLoaded}
+use Rattle.machine.proofs.Simulation.Done.{done-same, done-size, done-others, done-shape}
 use Rattle.machine.proofs.Simulation.Access.{inside}
 
 -- what is known of the blocks and copy slots of task p
@@ -50,10 +46,6 @@ pub record PassFits (a : Arrays) (p : ℕ) : Type 0 where
   pub value : (b k : ℕ) → b < 16 → at 0 (a .kinds) (16 * p + b) ≡ suc (suc k) → at 0 (a .remembered) (16 * p + b) < 4294967296
   pub copy : (k : ℕ) → k < 4 → at 0 (a .copies) (4 * p + k) < 256
   pub most : count touched? (blocksOf (row 16 p (a .kinds)) (row 16 p (a .remembered))) ≤ 8
-
-abbrev withCopies : Parts → List ℕ → Parts
-withCopies y c =
-    record { registers = y .registers; copies = c; counts = y .counts; kept = y .kept; names = y .names; olds = y .olds; news = y .news; inits = y .inits; overlapped = y .overlapped; kinds = y .kinds; remembered = y .remembered }
 
 -- no block is spent
 none-spent : (kinds values : List ℕ) (n place i : ℕ) → spentFrom n kinds values place ≡ false → i < n → isSpent (at 0 kinds (place + i)) (at 0 values (place + i)) ≡ false

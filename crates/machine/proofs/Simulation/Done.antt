@@ -1,12 +1,12 @@
 -- The end of a command: the job goes on with the next, or is finished.
-use Prim.Native.Nat.{ℕ, suc, _+_, _*_, _<_, _≤_}
-use mathlib.Core.Path.{_≡_, refl, sym, ap, _∙_}
+use Prim.Native.Nat.{ℕ, _<_}
+use mathlib.Core.Path.{_≡_, refl, ap, _∙_}
 use mathlib.Core.Logic.{_≢_}
 use mathlib.Core.Bool.{Bool, true, false}
-use mathlib.Core.List.{List, [], _∷_}
+use mathlib.Core.List.{List, []}
 use native.Mathlib.Omega.{arith}
 use lib.ListN.{length}
-use Rattle.model.specs.Lists.{at, replace}
+use Rattle.model.specs.Lists.{at}
 use Rattle.model.specs.Command.{Command, TASK, Found, found, refused, commandAt}
 use Rattle.model.specs.Exchange as X
 use Rattle.model.specs.Job as J
@@ -15,13 +15,9 @@ use Rattle.machine.specs.Places.{if, Went, went}
 use Rattle.machine.specs.Jobs.{jobAt, bodyCommand, inBody, counted, afterDone}
 use Rattle.machine.specs.declared.job.Phase.the-variants as Phase
 use Rattle.machine.specs.declared.job.Job.{Job}
-use Rattle.machine.proofs.Simulation.View.{Parts, pairsOf, bodyFrom, task, taskOf}
+use Rattle.machine.proofs.Simulation.View.{Parts, pairsOf, bodyFrom, task, taskOf, withCounts}
 use Rattle.machine.proofs.Simulation.Body.{bodyIf, bodyBy, body-at}
 use Rattle.machine.proofs.Simulation.Parts.{Unloaded, JobShape, counted-same, counted-other, counted-size, counted-others}
-
-abbrev pub withCounts : Parts → List ℕ → Parts
-withCounts x c =
-    record { registers = x .registers; copies = x .copies; counts = c; kept = x .kept; names = x .names; olds = x .olds; news = x .news; inits = x .inits; overlapped = x .overlapped; kinds = x .kinds; remembered = x .remembered }
 
 module _ (sheet : List ℕ) (counts : List ℕ) (p place pairs : ℕ) (size : length counts ≡ 32) (below : p < 8) where
   abbrev goneOn : Bool → Went Job

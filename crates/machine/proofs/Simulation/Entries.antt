@@ -1,6 +1,6 @@
 -- The entries of an exchange and the waiting PAIRs, read and written.
 use Prim.Native.Nat.{ℕ, suc, _<_}
-use mathlib.Core.Path.{_≡_, refl, sym, ap, _∙_}
+use mathlib.Core.Path.{_≡_, refl}
 use mathlib.Core.Logic.{_≢_}
 use mathlib.Core.Bool.{true, not}
 use mathlib.Core.List.{List, [], _∷_, _++_}
@@ -8,12 +8,12 @@ use native.Mathlib.Omega.{arith}
 use lib.Dec.{eqb}
 use lib.ListN.{length}
 use Rattle.model.specs.Lists.{at, replace}
-use Rattle.model.specs.Exchange.{Entry, entry}
+use Rattle.model.specs.Exchange.{entry}
 use Rattle.model.proofs.Lists.{replace-same, replace-other}
 use Rattle.model.specs.Word as W
 use Rattle.memory.specs.Packed.{unpack, packed}
 use Rattle.memory.proofs.Packed.{unpack-packed}
-use Rattle.machine.proofs.Simulation.Tabulate.{tabulate, at-tabulate, length-tabulate, tabulate-same, tabulate-replace, tabulate-more}
+use Rattle.machine.proofs.Simulation.Tabulate.{tabulate, at-tabulate, length-tabulate, tabulate-replace, tabulate-more}
 use Rattle.machine.proofs.Simulation.View.{entryOf, entriesOf, pairsOf}
 
 module _ (k : ℕ) (names olds news inits overlapped : List ℕ) where

@@ -1,8 +1,8 @@
 -- Every step of an exchange over flat arrays is the model's.
-use Prim.Native.Nat.{ℕ, suc, _+_, _*_, _%_, _<_, _≤_}
+use Prim.Native.Nat.{ℕ, suc, _+_, _*_, _<_, _≤_}
 use mathlib.Core.Path.{_≡_, refl, sym, ap, _∙_}
 use mathlib.Core.Bool.{Bool, true, false, not, _&&_, _||_}
-use mathlib.Core.List.{List, [], map}
+use mathlib.Core.List.{List, map}
 use native.Mathlib.Omega.{arith}
 use lib.Dec.{eqb}
 use lib.ListN.{length}
@@ -10,20 +10,20 @@ use Rattle.model.specs.Lists.{at, replace}
 use Rattle.model.specs.Word as W
 use Rattle.model.specs.Exchange as X
 use Rattle.model.proofs.Lists.{map-replace}
-use Rattle.model.proofs.Fit.Exchange.{StepFit, Below}
-use Rattle.memory.specs.Packed.{unpack, packed, valueOf, taskOf}
-use Rattle.memory.specs.Rows.{row, rows}
+use Rattle.model.proofs.Fit.Exchange.{StepFit}
+use Rattle.memory.specs.Packed.{unpack, packed, valueOf}
+use Rattle.memory.specs.Rows.{row}
 use Rattle.memory.proofs.Packed.{unpack-packed, same-packed}
 use Rattle.memory.proofs.Rows.{at-row, row-same, length-row}
-use Rattle.machine.specs.Places.{if, nextOf, Went, went}
+use Rattle.machine.specs.Places.{if, nextOf, went}
 use Rattle.machine.specs.Reading.{owned}
 use Rattle.machine.specs.Exchange.{Left, afterStart, afterTest, afterLoad, afterLook, afterFetch, savedStep, afterSave, afterFail, afterMark, installedAt, afterInstall, cleaning, afterCommit, onward, asNew, cleaned, afterClean, afterCleanMark, goes, inCells, inStatus, inOverlapped, afterExchange}
 use Rattle.machine.specs.declared.exchange.Step.{Step}
 use Rattle.machine.specs.declared.exchange.Step.the-variants.{Start, Test, Load, Look, Fetch, Save, Fail, Mark, Install, Commit, Clean, CleanMark}
 use Rattle.machine.specs.declared.exchange.Exchanged.{Exchanged}
 use Rattle.machine.specs.declared.exchange.Exchanged.the-variants.{Goes, Ends}
-use Rattle.machine.proofs.Simulation.View.{memoryOf, entryOf, entriesOf, numberOf, stepOf, exchangeOf}
-use Rattle.machine.proofs.Simulation.Memory.{cell-at, own-unpack, rows-at, rows-written}
+use Rattle.machine.proofs.Simulation.View.{memoryOf, entriesOf, numberOf, stepOf, exchangeOf}
+use Rattle.machine.proofs.Simulation.Memory.{cell-at, own-unpack, rows-written}
 use Rattle.machine.proofs.Simulation.Entries.{at-entries, length-entries, entries-loaded, entries-looked}
 use Rattle.machine.proofs.Simulation.Reading.{saved-for}
 
@@ -117,10 +117,10 @@ module _ (c s v b names olds news l o : List ℕ) (p k : ℕ) (f : ExchangeShape
       let so : length (row 8 p o) ≡ 8 = length-row 8 p o (omega (arith, f .overlapped, f .task)) in
       rw (row-same 8 p i o x e, entries-looked k (row 8 p names) (row 8 p olds) (row 8 p news) (row 8 p l) (row 8 p o) i x (omega arith), at-row 0 8 p i names e, at-row 0 8 p i olds e, at-row 0 8 p i news e, at-row 0 8 p i l e)
 
-  abbrev Simulated : Step → Type 0
-  Simulated z = X.exchangeTick p m (exchangeOf es z) (stepOf z) ≡ leftOf (afterExchange c s v names olds news l o p k z)
+  abbrev Agrees : Step → Type 0
+  Agrees z = X.exchangeTick p m (exchangeOf es z) (stepOf z) ≡ leftOf (afterExchange c s v names olds news l o p k z)
 
-  load-tick : (i : ℕ) → i < k → Simulated (Load i)
+  load-tick : (i : ℕ) → i < k → Agrees (Load i)
   unfolding X.exchangeTick afterExchange afterLoad
   load-tick i h = rw (flat-at i h, cell-at c (at 0 names (8 * p + i)) (omega (arith, f .name i h, f .cells)), loaded-now i (at 0 c (at 0 names (8 * p + i))) 0 h)
 
@@ -130,21 +130,21 @@ module _ (c s v b names olds news l o : List ℕ) (p k : ℕ) (f : ExchangeShape
   look-by i h true = rw (flat-at i h, looked-now i 0 h)
   look-by i h false = rw (flat-at i h, looked-now i 1 h)
 
-  look-tick : (i : ℕ) → i < k → Simulated (Look i)
+  look-tick : (i : ℕ) → i < k → Agrees (Look i)
   unfolding X.exchangeTick afterExchange afterLook
   look-tick i h = rw (flat-at i h, own-unpack s (at 0 l (8 * p + i))) (look-by i h (owned s (at 0 l (8 * p + i))))
 
-  fetch-tick : (i : ℕ) → i < k → Simulated (Fetch i)
+  fetch-tick : (i : ℕ) → i < k → Agrees (Fetch i)
   unfolding X.exchangeTick afterExchange afterFetch
   fetch-tick i h = rw (flat-at i h, saved-for v (at 0 l (8 * p + i)) (f .saves))
 
-  save-tick : (i x : ℕ) → i < k → Simulated (Save i x)
+  save-tick : (i x : ℕ) → i < k → Agrees (Save i x)
   unfolding X.exchangeTick afterExchange afterSave
   save-tick i x h =
       rw (flat-at i h, rows-written 8 8 p i x v (omega (arith, f .pairs)))
       (saved-step _ es i (eqb x (at 0 olds (8 * p + i))) (eqb (at 0 o (8 * p + i)) 0) (eqb (at 0 olds (8 * p + i)) (at 0 news (8 * p + i))))
 
-  mark-tick : (i : ℕ) → i < k → Simulated (Mark i)
+  mark-tick : (i : ℕ) → i < k → Agrees (Mark i)
   unfolding X.exchangeTick afterExchange afterMark unpack
   mark-tick i h = rw (flat-at i h)
 
@@ -163,7 +163,7 @@ module _ (c s v b names olds news l o : List ℕ) (p k : ℕ) (f : ExchangeShape
   install-by i h true = rw (next-of i (omega (arith, f .pairs)), written i i false h (omega (arith, f .pairs)))
   install-by i h false = rw (next-of i (omega (arith, f .pairs)))
 
-  install-tick : (i : ℕ) → i < k → Simulated (Install i)
+  install-tick : (i : ℕ) → i < k → Agrees (Install i)
   unfolding X.exchangeTick afterExchange afterInstall
   install-tick i h =
       rw (flat-at i h, cell-now i h, same-packed (at 0 c (at 0 names (8 * p + i))) (at 0 l (8 * p + i)))
@@ -174,7 +174,7 @@ module _ (c s v b names olds news l o : List ℕ) (p k : ℕ) (f : ExchangeShape
   commit-by i true = clean-by (memoryOf c (replace s p 2) v b) es i X.commit true (eqb i 0)
   commit-by i false = clean-by m es i X.commit false (eqb i 0)
 
-  commit-tick : (i : ℕ) → Simulated (Commit i)
+  commit-tick : (i : ℕ) → Agrees (Commit i)
   unfolding X.exchangeTick afterExchange afterCommit
   commit-tick i = commit-by i (eqb (at 0 s p) 0)
 
@@ -193,17 +193,17 @@ module _ (c s v b names olds news l o : List ℕ) (p k : ℕ) (f : ExchangeShape
       ap (W.sameWord (unpack (at 0 c (at 0 names (8 * p + j))))) (sym (unpack-packed (at 0 news (8 * p + j)) j false p (f .new j h) (omega (arith, f .pairs))))
       ∙ same-packed (at 0 c (at 0 names (8 * p + j))) (installedAt news p j)
 
-  clean-tick : (i j : ℕ) (yes? : Bool) → j < k → Simulated (Clean i j yes?)
+  clean-tick : (i j : ℕ) (yes? : Bool) → j < k → Agrees (Clean i j yes?)
   unfolding X.exchangeTick afterExchange afterClean
   clean-tick i j yes? h =
       rw (flat-at j h, cell-now j h, still j h, as-new yes? (eqb (at 0 olds (8 * p + j)) (at 0 news (8 * p + j))))
       (clean-word i j yes? h (asNew (at 0 olds (8 * p + j)) (at 0 news (8 * p + j)) yes?) (eqb (at 0 c (at 0 names (8 * p + j))) (installedAt news p j)) (eqb (at 0 o (8 * p + j)) 0))
 
-  clean-mark-tick : (i j : ℕ) (yes? : Bool) → j < k → Simulated (CleanMark i j yes?)
+  clean-mark-tick : (i j : ℕ) (yes? : Bool) → j < k → Agrees (CleanMark i j yes?)
   unfolding X.exchangeTick afterExchange afterCleanMark unpack
   clean-mark-tick i j yes? h = rw (flat-at j h) (next-onward _ es i j _ yes? (omega (arith, f .pairs)))
 
-  pub exchange-tick : (z : Step) → StepFit k (numberOf z) (stepOf z) → Simulated z
+  pub exchange-tick : (z : Step) → StepFit k (numberOf z) (stepOf z) → Agrees z
   unfolding X.exchangeTick afterExchange afterStart afterTest afterFail
   exchange-tick Start h = refl
   exchange-tick (Test i) h = rw (length-entries k (row 8 p names) (row 8 p olds) (row 8 p news) (row 8 p l) (row 8 p o)) (test-by m es i (eqb i k || eqb (at 0 s p) 1))

@@ -1,6 +1,6 @@
 -- What a step of an exchange leaves alone: the rows of the other tasks, and the sizes.
 use Prim.Native.Nat.{ℕ, _+_, _*_, _<_, _≤_}
-use mathlib.Core.Path.{_≡_, refl, sym, ap, _∙_}
+use mathlib.Core.Path.{_≡_, refl}
 use mathlib.Core.Logic.{_≢_}
 use mathlib.Core.Bool.{Bool, true, false}
 use mathlib.Core.List.{List}
@@ -9,13 +9,13 @@ use lib.Dec.{eqb}
 use lib.ListN.{length}
 use Rattle.model.specs.Lists.{at, replace}
 use Rattle.model.proofs.Lists.{length-replace}
-use Rattle.model.proofs.Fit.Exchange.{StepFit, Below}
-use Rattle.memory.specs.Packed.{packed, valueOf}
+use Rattle.model.proofs.Fit.Exchange.{StepFit}
+use Rattle.memory.specs.Packed.{valueOf}
 use Rattle.memory.specs.Rows.{row}
 use Rattle.memory.proofs.Rows.{row-other}
 use Rattle.machine.specs.Places.{if, nextOf, Went, went}
 use Rattle.machine.specs.Reading.{owned}
-use Rattle.machine.specs.Exchange.{Left, afterStart, afterTest, afterLoad, afterLook, afterFetch, afterSave, afterFail, afterMark, installedAt, afterInstall, cleaning, afterCommit, onward, asNew, cleaned, afterClean, afterCleanMark, afterExchange}
+use Rattle.machine.specs.Exchange.{Left, afterStart, afterTest, afterLoad, afterLook, afterFetch, afterSave, afterFail, afterMark, installedAt, afterInstall, cleaning, afterCommit, asNew, cleaned, afterClean, afterCleanMark, afterExchange}
 use Rattle.machine.specs.declared.exchange.Step.{Step}
 use Rattle.machine.specs.declared.exchange.Step.the-variants.{Start, Test, Load, Look, Fetch, Save, Fail, Mark, Install, Commit, Clean, CleanMark}
 use Rattle.machine.specs.declared.exchange.Exchanged.{Exchanged}

@@ -1,5 +1,5 @@
 -- THE END: what the run over flat arrays leaves is the model's final machine.
-use Prim.Native.Nat.{ℕ, zero, suc, _+_, _-_, _*_, _<_, _≤_}
+use Prim.Native.Nat.{ℕ, zero, suc, _-_, _<_, _≤_}
 use mathlib.Core.Path.{_≡_, refl, sym, ap, _∙_, subst}
 use mathlib.Core.List.{List, [], _∷_}
 use native.Mathlib.Omega.{arith}
@@ -17,11 +17,11 @@ use Rattle.model.proofs.Fit.RangesStart.{start-range, sheet-range}
 use Rattle.memory.specs.Rows.{row}
 use Rattle.memory.proofs.Rows.{length-row}
 use Rattle.machine.specs.Statements.{Arrays}
-use Rattle.machine.specs.World.{World, world, startWorld, Finished}
+use Rattle.machine.specs.World.{world, startWorld, Finished}
 use Rattle.machine.specs.declared.run.Ended.{Ended}
-use Rattle.machine.proofs.Simulation.Parts.{Sizes, sizes, sharedOf}
-use Rattle.machine.proofs.Simulation.World.{machineOf, Sound, task-at}
-use Rattle.machine.proofs.Simulation.Run.{RunFits, run-fits}
+use Rattle.machine.proofs.Simulation.Parts.{sizes, sharedOf}
+use Rattle.machine.proofs.Simulation.World.{machineOf, task-at}
+use Rattle.machine.proofs.Simulation.Run.{run-fits}
 use Rattle.machine.proofs.Simulation.Start.{startArrays, Starts, start-same, start-sound}
 
 -- a task's row of counts

@@ -1,26 +1,26 @@
 -- COMMIT's gathering and the old stores taken back, block by block.
 use Prim.Native.Nat.{ℕ, zero, suc, _+_, _*_, _-_, _/_, _%_, _<_, _≤_}
-use mathlib.Core.Path.{_≡_, refl, sym, ap, _∙_, subst}
+use mathlib.Core.Path.{_≡_, refl, sym, ap, _∙_}
 use mathlib.Core.Logic.{_≢_}
-use mathlib.Core.Bool.{Bool, true, false, true≢false}
+use mathlib.Core.Bool.{Bool, true, false}
 use mathlib.Core.List.{List, [], _∷_, _++_}
 use native.Mathlib.Omega.{arith}
 use lib.Dec.{eqb, ltb}
 use lib.ListN.{length}
-use borrow.Author.Tests.{le-ltb, ne-eqb, eqb-false}
+use borrow.Author.Tests.{le-ltb, ne-eqb}
 use Rattle.model.specs.Lists.{at, replace}
 use Rattle.model.specs.Exchange.{Entry, entry}
 use Rattle.model.specs.Job.{Touched, untouched, remembered, copied}
-use Rattle.model.specs.Transaction.{bank, bankValue, versionOf, storeOf, gather, takenBack, spent?}
+use Rattle.model.specs.Transaction.{bank, bankValue, versionOf, storeOf, gather, takenBack}
 use Rattle.model.proofs.Lists.{length-replace}
-use Rattle.model.proofs.Fit.Transaction.{touched?, copied?, count, countBy}
+use Rattle.model.proofs.Fit.Transaction.{touched?, count, countBy}
 use Rattle.memory.specs.Rows.{row}
-use Rattle.memory.proofs.Rows.{at-row, row-same, row-other, length-row}
+use Rattle.memory.proofs.Rows.{at-row, row-same, row-other}
 use Rattle.machine.specs.Places.{if, nextOf}
-use Rattle.machine.specs.Jobs.{Entries, entries, entered}
+use Rattle.machine.specs.Jobs.{Entries, entries}
 use Rattle.machine.specs.Blocks.{newBank, Gathering, gatheredEntry, gatheredOne, gatheredTo, takenOne, takenTo}
 use Rattle.machine.proofs.Simulation.Tabulate.{tabulate, length-tabulate, tabulate-snoc}
-use Rattle.machine.proofs.Simulation.View.{touchedOf, blocksOf}
+use Rattle.machine.proofs.Simulation.View.{touchedOf}
 use Rattle.machine.proofs.Simulation.Entries.{no-entries}
 use Rattle.machine.proofs.Simulation.Entered.{EntrySizes, rowEntries, EntryFrame, entered-frame, entered-sizes, entered-entries}
 

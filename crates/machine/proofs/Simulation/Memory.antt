@@ -1,12 +1,12 @@
 -- Reading and writing the shared arrays, seen in the model's memory.
-use Prim.Native.Nat.{ℕ, zero, suc, _+_, _*_, _<_, _≤_}
+use Prim.Native.Nat.{ℕ, zero, suc, _+_, _*_, _<_}
 use mathlib.Core.Path.{_≡_, refl, sym, ap, _∙_}
 use mathlib.Core.List.{List, [], _∷_, map}
 use native.Mathlib.Nat.{mul-le-mul-left}
 use native.Mathlib.Omega.{arith}
 use lib.ListN.{length}
 use Rattle.model.specs.Lists.{at, replace}
-use Rattle.model.specs.Word.{Word, fresh, own}
+use Rattle.model.specs.Word.{fresh, own}
 use Rattle.model.proofs.Lists.{at-map, at-past, replace-past}
 use Rattle.model.proofs.Fit.Elements.{below?}
 use Rattle.memory.specs.Packed.{unpack}

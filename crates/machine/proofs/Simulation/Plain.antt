@@ -1,12 +1,12 @@
 -- The command at work outside a transaction: LOAD, ADD, READ, PAIR, SWAP, BEGIN.
-use Prim.Native.Nat.{ℕ, suc, _+_, _*_, _%_, _<_, _≤_}
+use Prim.Native.Nat.{ℕ, suc, _+_, _*_, _<_, _≤_}
 use mathlib.Core.Path.{_≡_, refl, sym, ap, _∙_, subst}
 use mathlib.Core.Logic.{_≢_}
 use mathlib.Core.Bool.{Bool, true, false}
 use mathlib.Core.List.{List, [], _∷_, _++_}
 use native.Mathlib.Omega.{arith}
 use lib.ListN.{length}
-use Rattle.model.specs.Lists.{at, replace}
+use Rattle.model.specs.Lists.{at}
 use Rattle.model.specs.Command as C
 use Rattle.model.specs.Fault.{Body}
 use Rattle.model.specs.Exchange as X
@@ -16,19 +16,18 @@ use Rattle.model.specs.Word as W
 use Rattle.model.specs.Machine as M
 use Rattle.model.proofs.Lists.{length-replace}
 use Rattle.model.proofs.Fit.Body.{CommandFits}
-use Rattle.memory.specs.Packed.{packed}
 use Rattle.memory.specs.Rows.{row}
-use Rattle.memory.proofs.Rows.{at-row, row-same, row-other, length-row}
+use Rattle.memory.proofs.Rows.{at-row, row-same, row-other}
 use Rattle.machine.specs.Places.{nextOf}
 use Rattle.machine.specs.Reading.{afterReading}
 use Rattle.machine.specs.Exchange.{afterStart, afterExchange}
-use Rattle.machine.specs.Jobs.{bodyCommand, movedTo, inPhase, added, Entries, entered, afterDone}
+use Rattle.machine.specs.Jobs.{bodyCommand, movedTo, inPhase, added, Entries, entered}
 use Rattle.machine.specs.Statements.{Arrays, turn, entriesOf, paired, plainBy}
 use Rattle.machine.specs.declared.read.Reading.the-variants.{Load}
 use Rattle.machine.specs.declared.exchange.Step.the-variants.{Start}
 use Rattle.machine.specs.declared.job.Phase.the-variants.{Plain}
 use Rattle.machine.specs.declared.job.Job.{Job}
-use Rattle.machine.proofs.Simulation.View.{Parts, bodyFrom}
+use Rattle.machine.proofs.Simulation.View.{bodyFrom, withEntries}
 use Rattle.machine.proofs.Simulation.Body.{bodyBy, body-found}
 use Rattle.machine.proofs.Simulation.Entered.{EntrySizes, rowPairs, entered-frame, entered-sizes, entered-pairs, entered-entries}
 use Rattle.machine.proofs.Simulation.Reading.{read-tick}
@@ -37,10 +36,6 @@ use Rattle.machine.proofs.Simulation.Copied.{copied-size, copied-others
 use Rattle.machine.proofs.Simulation.Parts.{Sizes, partsOf, sharedOf, AtWork, Unloaded, Simulated}
 use Rattle.machine.proofs.Simulation.Done.{done-same, done-size, done-others, done-shape}
 use Rattle.machine.proofs.Simulation.Answers.{outside, registers-done, register-done, read-by, swap-by}
-
-abbrev withEntries : Parts → Entries → ℕ → Parts
-withEntries x e p =
-    record { registers = x .registers; copies = x .copies; counts = x .counts; kept = x .kept; names = row 8 p (e .names); olds = row 8 p (e .olds); news = row 8 p (e .news); inits = row 8 p (e .inits); overlapped = row 8 p (e .overlapped); kinds = x .kinds; remembered = x .remembered }
 
 -- what the check says of the command found, if it is one of a body
 abbrev pub FitsIf : Bool → ℕ → ℕ → Body → C.Command → Type 0

@@ -1,11 +1,10 @@
 -- READ's ticks over packed words are the model's.
-use Prim.Native.Nat.{ℕ, _+_, _*_, _%_, _/_, _<_}
-use mathlib.Core.Path.{_≡_, refl, sym, ap, _∙_}
+use Prim.Native.Nat.{ℕ, _%_, _<_}
+use mathlib.Core.Path.{_≡_, refl, ap, _∙_}
 use mathlib.Core.Bool.{Bool, true, false}
 use mathlib.Core.List.{List}
 use native.Mathlib.Omega.{arith}
 use lib.ListN.{length}
-use Rattle.model.specs.Lists.{at}
 use Rattle.model.specs.Word as W
 use Rattle.memory.specs.Packed.{unpack, valueOf, countOf, taskOf}
 use Rattle.machine.specs.Places.{if}

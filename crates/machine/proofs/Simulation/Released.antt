@@ -1,30 +1,28 @@
 -- A release that is due: dropped and counted, or a job starts.
-use Prim.Native.Nat.{ℕ, zero, suc, _+_, _*_, _%_, _^_, _<_, _≤_}
-use mathlib.Core.Path.{_≡_, refl, sym, ap, _∙_, subst}
+use Prim.Native.Nat.{ℕ, zero, suc, _+_, _%_, _^_, _<_, _≤_}
+use mathlib.Core.Path.{_≡_, refl, sym, ap, _∙_}
 use mathlib.Core.Logic.{_≢_}
 use mathlib.Core.Bool.{Bool, true, false}
-use mathlib.Core.List.{List, [], _∷_}
+use mathlib.Core.List.{List}
 use native.Mathlib.Omega.{arith}
-use lib.ListN.{length, getD, set, replicate, length-set, length-replicate}
+use lib.ListN.{length, getD, set, replicate, length-set}
 use lib.Seq.{ext-getD, set-getD, getD-set-same, getD-set-other}
 use Rattle.model.specs.Lists.{at, replace}
-use Rattle.model.specs.Sheet.{Sheet}
 use Rattle.model.specs.Job as J
 use Rattle.model.specs.Machine as M
 use Rattle.model.proofs.Lists.{replace-same, replace-other, length-replace, at-replicate, same?}
 use Rattle.memory.specs.Rows.{row}
-use Rattle.memory.proofs.Rows.{at-row, row-same, row-other, length-row}
+use Rattle.memory.proofs.Rows.{row-same, row-other, length-row}
 use Rattle.machine.specs.Jobs.{jobAt}
-use Rattle.machine.specs.Statements.{Arrays}
 use Rattle.machine.specs.World.{unfinishedJob, droppedBy, begunBy, zeroed, zeroedBy, startedBy, World, world, noJob, jobOf, withRegisters, released}
 use Rattle.machine.specs.declared.job.Phase.the-variants as Phase
 use Rattle.machine.specs.declared.job.Job.{Job}
 use Rattle.machine.proofs.Simulation.View.{bodyFrom, taskOf}
 use Rattle.machine.proofs.Simulation.Entries.{no-pairs, no-entries}
-use Rattle.machine.proofs.Simulation.Parts.{Sized, Sizes, sizes, sizesOf, partsOf, sharedOf, JobShape}
+use Rattle.machine.proofs.Simulation.Parts.{sizes, partsOf, sharedOf}
 use Rattle.machine.proofs.Simulation.Releases.{releasesFrom}
 use Rattle.machine.proofs.Simulation.Unfinished.{busy, bitOf, maskOf, mask-below, mask-set}
-use Rattle.machine.proofs.Simulation.World.{taskIn, tasksOf, machineOf, Sound, task-at, task-busy, tasks-changed}
+use Rattle.machine.proofs.Simulation.World.{tasksOf, machineOf, Sound, task-at, task-busy, tasks-changed}
 
 -- ALL REGISTERS 0
 pub zeroed-size : (n : ℕ) (registers : List ℕ) (p : ℕ) → length (zeroed n registers p) ≡ length registers

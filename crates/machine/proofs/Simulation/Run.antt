@@ -1,34 +1,32 @@
 -- The run over flat arrays ends in the model's final machine.
-use Prim.Native.Nat.{ℕ, zero, suc, _+_, _-_, _*_, _%_, _<_, _≤_}
+use Prim.Native.Nat.{ℕ, zero, suc, _+_, _-_, _%_, _<_, _≤_}
 use mathlib.Core.Path.{_≡_, refl, sym, ap, _∙_, subst}
 use mathlib.Core.Logic.{_≢_}
 use mathlib.Core.Bool.{Bool, true, false, true≢false, false≢true, _&&_}
 use mathlib.Core.List.{List, [], _∷_}
 use native.Mathlib.Omega.{arith}
 use lib.Dec.{eqb}
-use lib.ListN.{length, getD, replicate}
+use lib.ListN.{length}
 use borrow.Author.Tests.{eqb-true, eqb-false, eq-eqb}
-use Rattle.model.specs.Lists.{at, replace}
-use Rattle.model.specs.Command.{Release, commandAt}
+use Rattle.model.specs.Lists.{at}
+use Rattle.model.specs.Command.{Release}
 use Rattle.model.specs.Sheet.{Sheet}
-use Rattle.model.specs.Exchange.{entry}
 use Rattle.model.specs.Job as J
 use Rattle.model.specs.Machine as M
-use Rattle.model.proofs.Lists.{at-replicate}
 use Rattle.model.proofs.Fit.Elements.{replace-all}
-use Rattle.model.proofs.Fit.Sheet.{SheetFit, ReleasesFit, releaseAt}
+use Rattle.model.proofs.Fit.Sheet.{SheetFit, ReleasesFit}
 use Rattle.model.proofs.Fit.Machine.{Fit}
-use Rattle.model.proofs.Fit.Tick.{TasksFit, tasks-of, changed-fit, started-fit, tick-fit}
-use Rattle.model.proofs.Fit.Ranges.{TaskRange, EntryRange, Ranges}
+use Rattle.model.proofs.Fit.Tick.{tasks-of, changed-fit, started-fit, tick-fit}
+use Rattle.model.proofs.Fit.Ranges.{TaskRange, Ranges}
 use Rattle.model.proofs.Fit.RangesStatement.{zeros-range, tick-range}
 use Rattle.machine.specs.World.{stopsBy, topOf, World, comingIn, released, ticked, Ends, limited, stopped, releases, ticks}
 use Rattle.machine.specs.declared.run.Coming.{Coming}
 use Rattle.machine.specs.declared.run.Coming.the-variants.{Nothing, Later, Due}
-use Rattle.machine.proofs.Simulation.Releases.{releasesFrom, DueAt, LaterAt, ComingAt, coming-at}
-use Rattle.machine.proofs.Simulation.Unfinished.{busy, maskOf, TopTask, Top, none, some, top}
-use Rattle.machine.proofs.Simulation.World.{tasksOf, machineOf, Sound, nobody-runs, top-runs}
-use Rattle.machine.proofs.Simulation.Released.{ReleasedFits, released-fits}
-use Rattle.machine.proofs.Simulation.Ticked.{TickedFits, ticked-fits}
+use Rattle.machine.proofs.Simulation.Releases.{releasesFrom, DueAt, ComingAt, coming-at}
+use Rattle.machine.proofs.Simulation.Unfinished.{busy, Top, none, some, top}
+use Rattle.machine.proofs.Simulation.World.{machineOf, Sound, nobody-runs, top-runs}
+use Rattle.machine.proofs.Simulation.Released.{released-fits}
+use Rattle.machine.proofs.Simulation.Ticked.{ticked-fits}
 
 -- A RELEASE keeps a machine well formed and in range
 others-fit : (n now : ℕ) (r : Release) (l : List Release) → ReleasesFit n now (r ∷ l) → ReleasesFit n now l
@@ -113,9 +111,6 @@ unfolding M.run M.runBy
 run-on k m e = rw e
 
 module _ (sheet bodies : List ℕ) (s : Sheet) (c : SheetFit s) where
-  abbrev n : ℕ
-  n = length (s .bodies)
-
   abbrev viewed : World → M.Machine
   viewed w = machineOf sheet bodies (length (s .bodies)) w
 

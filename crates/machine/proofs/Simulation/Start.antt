@@ -1,18 +1,14 @@
 -- The world at the start holds the model's start.
-use Prim.Native.Nat.{ℕ, zero, suc, _+_, _*_, _<_, _≤_}
-use mathlib.Core.Path.{_≡_, refl, sym, ap, _∙_, subst}
-use mathlib.Core.Bool.{Bool, true, false}
-use mathlib.Core.List.{List, [], _∷_, map}
+use Prim.Native.Nat.{ℕ, _+_, _*_, _<_, _≤_}
+use mathlib.Core.Path.{_≡_, refl, sym, ap, _∙_}
+use mathlib.Core.Bool.{Bool}
+use mathlib.Core.List.{List, [], map}
 use native.Mathlib.Omega.{arith}
-use lib.Dec.{ltb}
-use lib.ListN.{length, getD, replicate, getD-replicate, length-replicate}
+use lib.ListN.{length, getD, replicate, length-replicate}
 use lib.Seq.{ext-getD}
 use borrow.Author.Tests.{le-ltb}
 use Rattle.model.specs.Lists.{at}
-use Rattle.model.specs.Command.{Release}
 use Rattle.model.specs.Sheet.{Sheet}
-use Rattle.model.specs.Word.{Memory, memory}
-use Rattle.model.specs.Job as J
 use Rattle.model.specs.Machine as M
 use Rattle.model.proofs.Lists.{at-replicate, at-past}
 use Rattle.model.proofs.Fit.Elements.{below?}
@@ -22,13 +18,13 @@ use Rattle.memory.specs.Packed.{unpack}
 use Rattle.memory.specs.Rows.{row, rows}
 use Rattle.memory.proofs.Rows.{at-row, length-row}
 use Rattle.machine.specs.Statements.{Arrays, arrays}
-use Rattle.machine.specs.World.{World, noJob, startWorld}
+use Rattle.machine.specs.World.{noJob, startWorld}
 use Rattle.machine.specs.declared.job.Job.{Job}
 use Rattle.machine.proofs.Simulation.View.{bodyFrom, memoryOf, taskOf}
 use Rattle.machine.proofs.Simulation.Entries.{no-pairs}
-use Rattle.machine.proofs.Simulation.Parts.{Sized, partsOf, JobShape}
+use Rattle.machine.proofs.Simulation.Parts.{partsOf}
 use Rattle.machine.proofs.Simulation.Releases.{releasesFrom}
-use Rattle.machine.proofs.Simulation.Unfinished.{busy, maskOf}
+use Rattle.machine.proofs.Simulation.Unfinished.{maskOf}
 use Rattle.machine.proofs.Simulation.World.{declaredBy, taskIn, tasksOf, machineOf, Sound, tasks-size, any-task, task-at}
 
 abbrev zeros : ℕ → List ℕ

@@ -2,7 +2,7 @@
 use Prim.Native.Nat.{ℕ, suc, _+_, _*_, _<_, _≤_}
 use mathlib.Core.Path.{_≡_, refl, sym, ap, _∙_, subst}
 use mathlib.Core.Bool.{Bool, true, false, false≢true}
-use mathlib.Core.List.{List, [], _∷_, map}
+use mathlib.Core.List.{List, [], _∷_}
 use native.Mathlib.Omega.{arith}
 use lib.ListN.{length}
 use Rattle.model.specs.Lists.{at}
@@ -13,8 +13,8 @@ use Rattle.model.specs.Exchange as X
 use Rattle.model.specs.Job as J
 use Rattle.model.specs.Transaction as T
 use Rattle.model.specs.Machine as M
-use Rattle.model.proofs.Fit.Body.{BodyCommand, Faultless, Open, CommandFits, command-fits}
-use Rattle.model.proofs.Fit.Exchange.{EntriesFit, StepFit, ExchangeFit}
+use Rattle.model.proofs.Fit.Body.{BodyCommand, Faultless, Open, command-fits}
+use Rattle.model.proofs.Fit.Exchange.{StepFit, ExchangeFit}
 use Rattle.model.proofs.Fit.Transaction.{touched?, namedSoFar, BlocksFit, put?, AgainFit, TransactionFit}
 use Rattle.model.proofs.Fit.Machine.{OutsideFit, PhaseFit, wordOf}
 use Rattle.model.proofs.Fit.Pass.{PassFit}
@@ -36,10 +36,10 @@ use Rattle.machine.specs.declared.job.Inner.the-variants.{Between, First
 use Rattle.machine.specs.declared.job.Phase.{Phase}
 use Rattle.machine.specs.declared.job.Phase.the-variants as Phase
 use Rattle.machine.specs.declared.job.Job.{Job}
-use Rattle.machine.proofs.Simulation.View.{readingOf, readOf, pairsOf, partEntries, numberOf, stepOf, exchangeOf, touchedOf, blocksOf, bodyFrom, transactionOf, innerOf, phaseOf, commandsOf, waitingOf, taskOf}
+use Rattle.machine.proofs.Simulation.View.{readingOf, readOf, pairsOf, partEntries, numberOf, stepOf, exchangeOf, touchedOf, bodyFrom, transactionOf, innerOf, phaseOf, commandsOf, waitingOf, taskOf}
 use Rattle.machine.proofs.Simulation.Tabulate.{length-tabulate}
 use Rattle.machine.proofs.Simulation.Memory.{length-map}
-use Rattle.machine.proofs.Simulation.Body.{bodyBy, body-at, body-found}
+use Rattle.machine.proofs.Simulation.Body.{body-at, body-found}
 use Rattle.machine.proofs.Simulation.Entries.{at-entries, length-entries}
 use Rattle.machine.proofs.Simulation.Blocks.{at-blocks}
 use Rattle.machine.proofs.Simulation.Reading.{read-tick}

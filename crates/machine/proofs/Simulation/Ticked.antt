@@ -1,9 +1,9 @@
 -- A tick in which no release is due: the highest task with an unfinished job does one statement, or nobody does.
-use Prim.Native.Nat.{ℕ, zero, suc, _+_, _*_, _-_, _%_, _^_, _<_, _≤_}
+use Prim.Native.Nat.{ℕ, zero, suc, _+_, _-_, _^_, _<_}
 use mathlib.Core.Path.{_≡_, refl, sym, ap, _∙_, subst}
 use mathlib.Core.Logic.{_≢_}
 use mathlib.Core.Bool.{Bool, true, false, true≢false}
-use mathlib.Core.List.{List, [], _∷_}
+use mathlib.Core.List.{List}
 use native.Mathlib.Omega.{arith}
 use lib.ListN.{length, getD, set, length-set}
 use lib.Seq.{set-getD, getD-set-same, getD-set-other}
@@ -15,26 +15,24 @@ use Rattle.model.specs.Machine as M
 use Rattle.model.proofs.Lists.{same?}
 use Rattle.model.proofs.Fit.Elements.{below?}
 use Rattle.model.proofs.Fit.Sheet.{SheetFit}
-use Rattle.model.proofs.Fit.Machine.{TaskFit, DeclaredFit, Fit}
-use Rattle.model.proofs.Fit.Outside.{TurnFit}
+use Rattle.model.proofs.Fit.Machine.{DeclaredFit, Fit}
 use Rattle.model.proofs.Fit.Statement.{statement-fit}
 use Rattle.model.proofs.Fit.Ranges.{TaskRange, Ranges}
 use Rattle.memory.specs.Rows.{row}
 use Rattle.machine.specs.Jobs.{counted}
 use Rattle.machine.specs.Statements.{Arrays, Turn, statement}
-use Rattle.machine.specs.World.{unfinishedJob, topOf, leftBy, tickedBy, World, world, noJob, jobOf, withCounts, tickedWith, tickedFor, ticked}
+use Rattle.machine.specs.World.{unfinishedJob, topOf, leftBy, World, world, noJob, jobOf, withCounts, tickedFor, ticked}
 use Rattle.machine.specs.declared.job.Phase.{Phase}
 use Rattle.machine.specs.declared.job.Phase.the-variants as Phase
 use Rattle.machine.specs.declared.job.Inner.{Inner}
 use Rattle.machine.specs.declared.job.Inner.the-variants as Inner
 use Rattle.machine.specs.declared.job.Job.{Job}
 use Rattle.machine.proofs.Mask.{top-none}
-use Rattle.machine.proofs.Simulation.View.{Parts, bodyFrom, transactionOf, innerOf, phaseOf, waitingOf, taskOf}
-use Rattle.machine.proofs.Simulation.Done.{withCounts as partsWith}
-use Rattle.machine.proofs.Simulation.Parts.{Sizes, sizes, partsOf, sharedOf, turnOf, JobShape, Simulated, counted-same, counted-other, counted-size, counted-others}
+use Rattle.machine.proofs.Simulation.View.{Parts, bodyFrom, transactionOf, innerOf, phaseOf, waitingOf, taskOf, withCounts as partsWith}
+use Rattle.machine.proofs.Simulation.Parts.{sizes, partsOf, sharedOf, turnOf, JobShape, Simulated, counted-same, counted-other, counted-size, counted-others}
 use Rattle.machine.proofs.Simulation.Releases.{releasesFrom}
 use Rattle.machine.proofs.Simulation.Statement.{statement-tick}
-use Rattle.machine.proofs.Simulation.Unfinished.{busy, bitOf, maskOf, mask-set, TopTask, Top, none, some, top}
+use Rattle.machine.proofs.Simulation.Unfinished.{busy, bitOf, mask-set, TopTask, Top, none, some, top}
 use Rattle.machine.proofs.Simulation.World.{taskIn, tasksOf, machineOf, Sound, task-at, tasks-changed, nobody-runs, top-runs}
 
 idle-phase : (f : Phase) → unfinishedJob f ≡ false → f ≡ Phase.Idle
@@ -214,8 +212,8 @@ module _ (sheet bodies : List ℕ) (s : Sheet) (c : SheetFit s) (w : World) (g :
   -- ANY TICK
   pub ticked-fits : Fit s m → Ranges m → w .ticks < 4294967295 → TickedFits (ticked sheet w)
   unfolding ticked
-  ticked-fits fit range few = go (w .mask) refl (subst (Top 8 (w .jobs)) (sym (g .mask)) (top (w .jobs) 8))
+  ticked-fits fit range few = go (subst (Top 8 (w .jobs)) (sym (g .mask)) (top (w .jobs) 8))
     where
-      go : (k : ℕ) → w .mask ≡ k → Top 8 (w .jobs) k → TickedFits (tickedFor sheet w (topOf 8 k) (jobOf w (topOf 8 k)))
-      go k e (none z f) = nobody-ticks f (topOf 8 k) (rw (z, top-none) (omega arith))
-      go k e (some l h) = statement-ticks fit range few (topOf 8 k) h
+      go : Top 8 (w .jobs) (w .mask) → TickedFits (tickedFor sheet w (topOf 8 (w .mask)) (jobOf w (topOf 8 (w .mask))))
+      go (none z f) = nobody-ticks f (topOf 8 (w .mask)) (rw (z, top-none) (omega arith))
+      go (some l h) = statement-ticks fit range few (topOf 8 (w .mask)) h

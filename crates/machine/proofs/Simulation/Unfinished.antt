@@ -1,16 +1,14 @@
 -- The mask of unfinished jobs, and the highest task that it has.
-use Prim.Native.Nat.{ℕ, zero, suc, _+_, _*_, _-_, _/_, _%_, _^_, _<_, _≤_}
-use mathlib.Core.Path.{_≡_, refl, sym, ap, _∙_, subst}
+use Prim.Native.Nat.{ℕ, zero, suc, _+_, _-_, _/_, _^_, _<_, _≤_}
+use mathlib.Core.Path.{_≡_, refl, sym, ap}
 use mathlib.Core.Logic.{_≢_}
 use mathlib.Core.Bool.{Bool, true, false}
 use mathlib.Core.List.{List}
 use native.Mathlib.Nat.{pow-suc, div-eq-of-lt-le, div-eq-of-lt}
 use native.Mathlib.Omega.{arith}
-use lib.Dec.{eqb}
 use lib.ListN.{length, getD, set}
 use lib.Seq.{getD-set-same, getD-set-other}
 use Rattle.model.proofs.Lists.{same?}
-use Rattle.machine.specs.Places.{if}
 use Rattle.machine.specs.World.{unfinishedJob, topOf, noJob}
 use Rattle.machine.specs.declared.job.Job.{Job}
 

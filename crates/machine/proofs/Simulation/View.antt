@@ -1,7 +1,7 @@
 -- The model's memory and tasks that flat arrays hold.
 use Prim.Native.Nat.{ℕ, zero, suc}
-use mathlib.Core.Bool.{Bool, true, false, not}
-use mathlib.Core.List.{List, [], _∷_, map}
+use mathlib.Core.Bool.{not}
+use mathlib.Core.List.{List, [], map}
 use lib.Dec.{eqb}
 use lib.ListN.{length}
 use Rattle.model.specs.Lists.{at}
@@ -13,6 +13,7 @@ use Rattle.model.specs.Job as J
 use Rattle.memory.specs.Packed.{unpack}
 use Rattle.memory.specs.Rows.{row, rows}
 use Rattle.sheet.specs.View.{viewAccess}
+use Rattle.machine.specs.Jobs.{Entries}
 use Rattle.machine.specs.declared.read.Reading.{Reading}
 use Rattle.machine.specs.declared.read.Reading.the-variants as Reading
 use Rattle.machine.specs.declared.read.Read.{Read}
@@ -52,6 +53,27 @@ pub record Parts : Type 0 where
   pub overlapped : List ℕ
   pub kinds : List ℕ
   pub remembered : List ℕ
+
+-- the rows with some of them written
+abbrev pub parts : List ℕ → List ℕ → List ℕ → List ℕ → List ℕ → List ℕ → List ℕ → List ℕ → List ℕ → List ℕ → List ℕ → Parts
+parts r q c k n o w l v t m =
+    record { registers = r; copies = q; counts = c; kept = k; names = n; olds = o; news = w; inits = l; overlapped = v; kinds = t; remembered = m }
+
+abbrev pub withRegisters : Parts → List ℕ → Parts
+withRegisters x r = parts r (x .copies) (x .counts) (x .kept) (x .names) (x .olds) (x .news) (x .inits) (x .overlapped) (x .kinds) (x .remembered)
+
+abbrev pub withCopies : Parts → List ℕ → Parts
+withCopies x q = parts (x .registers) q (x .counts) (x .kept) (x .names) (x .olds) (x .news) (x .inits) (x .overlapped) (x .kinds) (x .remembered)
+
+abbrev pub withCounts : Parts → List ℕ → Parts
+withCounts x c = parts (x .registers) (x .copies) c (x .kept) (x .names) (x .olds) (x .news) (x .inits) (x .overlapped) (x .kinds) (x .remembered)
+
+abbrev pub withLoaded : Parts → List ℕ → List ℕ → Parts
+withLoaded x l v = parts (x .registers) (x .copies) (x .counts) (x .kept) (x .names) (x .olds) (x .news) l v (x .kinds) (x .remembered)
+
+abbrev pub withEntries : Parts → Entries → ℕ → Parts
+withEntries x e p =
+    parts (x .registers) (x .copies) (x .counts) (x .kept) (row 8 p (e .names)) (row 8 p (e .olds)) (row 8 p (e .news)) (row 8 p (e .inits)) (row 8 p (e .overlapped)) (x .kinds) (x .remembered)
 
 -- entry e of an exchange, and as a PAIR that waits
 abbrev pub entryOf : List ℕ → List ℕ → List ℕ → List ℕ → List ℕ → ℕ → X.Entry

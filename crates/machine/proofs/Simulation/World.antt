@@ -1,23 +1,23 @@
 -- The model's machine that a world over flat arrays holds, and what the view does not show.
-use Prim.Native.Nat.{ℕ, suc, _+_, _*_, _^_, _<_, _≤_}
-use mathlib.Core.Path.{_≡_, refl, sym, ap, _∙_, subst}
+use Prim.Native.Nat.{ℕ, _<_, _≤_}
+use mathlib.Core.Path.{_≡_, refl, sym, ap, _∙_}
 use mathlib.Core.Logic.{_≢_}
 use mathlib.Core.Bool.{Bool, true, false}
-use mathlib.Core.List.{List, [], _∷_}
+use mathlib.Core.List.{List}
 use native.Mathlib.Omega.{arith}
 use lib.Dec.{ltb}
-use lib.ListN.{length, getD, set, length-set}
+use lib.ListN.{length, getD, set}
 use lib.Seq.{getD-set-same, getD-set-other}
-use borrow.Author.Tests.{lt-ltb, le-ltb, ltb-true, ltb-false}
+use borrow.Author.Tests.{lt-ltb, le-ltb}
 use Rattle.model.specs.Lists.{at, replace}
 use Rattle.model.specs.Job as J
 use Rattle.model.specs.Machine as M
-use Rattle.model.proofs.Lists.{at-past, test?}
+use Rattle.model.proofs.Lists.{at-past}
 use Rattle.model.proofs.Fit.Elements.{below?}
-use Rattle.model.proofs.Fit.Running.{Highest, highest-running, none-nobody}
+use Rattle.model.proofs.Fit.Running.{highest-running, none-nobody}
 use Rattle.model.proofs.Fit.Running.{busy as working}
 use Rattle.machine.specs.Statements.{Arrays}
-use Rattle.machine.specs.World.{unfinishedJob, topOf, World, jobOf, noJob}
+use Rattle.machine.specs.World.{unfinishedJob, World, jobOf, noJob}
 use Rattle.machine.specs.declared.job.Phase.{Phase}
 use Rattle.machine.specs.declared.job.Phase.the-variants as Phase
 use Rattle.machine.specs.declared.job.Job.{Job}
@@ -25,7 +25,7 @@ use Rattle.machine.proofs.Simulation.Tabulate.{tabulate, at-tabulate, l
 use Rattle.machine.proofs.Simulation.View.{Parts, bodyFrom, phaseOf, taskOf}
 use Rattle.machine.proofs.Simulation.Parts.{Sized, partsOf, sharedOf, JobShape}
 use Rattle.machine.proofs.Simulation.Releases.{releasesFrom}
-use Rattle.machine.proofs.Simulation.Unfinished.{busy, maskOf, TopTask, Top, none, some, top}
+use Rattle.machine.proofs.Simulation.Unfinished.{busy, maskOf, TopTask}
 
 -- a task that the sheet declares, or none
 abbrev pub declaredBy : Bool → J.Task → J.Task
