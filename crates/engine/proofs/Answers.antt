@@ -1,0 +1,76 @@
+-- The model's answer, case by case, and what each `return` of the two entries gives.
+use Prim.Native.Nat.{ℕ, _<_, _≤_}
+use mathlib.Core.Path.{_≡_, refl, sym, ap, _∙_, subst}
+use mathlib.Core.Bool.{Bool, true, false}
+use mathlib.Core.List.{List}
+use borrow.Author.Tests.{le-leb, lt-leb}
+use lib.Dec.{leb}
+use lib.ListN.{length, getD}
+use Rattle.model.specs.Refusal as R
+use Rattle.model.specs.Sheet.{Verdict, accepted, turnedDown, verdict}
+use Rattle.model.specs.Answer as M
+use Rattle.model.specs.Answer.{Checked, checkAnswer, runAnswer, answeredBy, limitedBy, written, refuse, reportOf}
+use Rattle.model.proofs.Run.Theorem.{demand-3}
+use Rattle.sheet.specs.View.{viewRefusal, viewVerdict, checkedOf}
+use Rattle.sheet.specs.declared.commands.Fault.{Fault}
+use Rattle.sheet.specs.declared.check.Verdict.the-variants.{Accepted, TurnedDown}
+use Rattle.report.specs.Text.{Reported}
+use Rattle.report.proofs.Model.{answer-written, answer-too-short}
+use Rattle.engine.specs.Contract.{Checks, ChecksFor, RunsFor, answer, answerOf}
+use Rattle.engine.specs.Flat.{Ran}
+use Rattle.engine.proofs.Final.{same-text}
+
+-- THE SHEET CHECK
+pub checks-accepted : {s : List ℕ} → checkedOf Accepted ≡ checkAnswer s → Checks s (answer 0 0)
+checks-accepted e = record { number = ap (λ (c : Checked). c .number) e; place = ap (λ (c : Checked). c .place) e }
+
+pub checks-refused : {s : List ℕ} (f : Fault) → checkedOf (TurnedDown f) ≡ checkAnswer s → Checks s (answerOf f)
+checks-refused f e = record { number = ap (λ (c : Checked). c .number) e; place = ap (λ (c : Checked). c .place) e }
+
+-- THE RUN
+module _ (s : List ℕ) (limit : ℕ) (b : List ℕ) where
+  answered : {v : Verdict} → verdict s ≡ v → runAnswer s limit b ≡ answeredBy v s limit b
+  unfolding runAnswer
+  answered e = ap (λ (v : Verdict). answeredBy v s limit b) e
+
+  limited : {t : Bool} → verdict s ≡ accepted → leb limit 65535 ≡ t → runAnswer s limit b ≡ limitedBy t s limit b
+  unfolding answeredBy
+  limited e h = answered e ∙ ap (λ t. limitedBy t s limit b) h
+
+  refused-answer : (f : R.Refusal) (p : ℕ) → verdict s ≡ turnedDown f p → runAnswer s limit b ≡ refuse f p b
+  unfolding answeredBy
+  refused-answer f p e = answered e
+
+  high-answer : verdict s ≡ accepted → 65535 < limit → runAnswer s limit b ≡ refuse R.limitTooHigh 0 b
+  unfolding limitedBy
+  high-answer e h = limited e (lt-leb limit 65535 h)
+
+  ran-answer : verdict s ≡ accepted → limit ≤ 65535 → runAnswer s limit b ≡ written (leb (length (reportOf s limit)) (length b)) (reportOf s limit) b
+  unfolding limitedBy
+  ran-answer e h = limited e (le-leb limit 65535 h)
+
+  -- a call that returns what the model answers
+  answers : {after : List ℕ} {n p : ℕ} → runAnswer s limit b ≡ record { number = n; place = p; buffer = after } → RunsFor s limit b after n p
+  answers e =
+      record {
+        number = sym (ap (λ (a : M.Answer). a .number) e);
+        place = sym (ap (λ (a : M.Answer). a .place) e);
+        buffer = sym (ap (λ (a : M.Answer). a .buffer) e);
+        whole = demand-3 s limit;
+      }
+
+  pub run-refused : (f : Fault) → viewVerdict (TurnedDown f) ≡ verdict s → RunsFor s limit b b (answerOf f .number) (answerOf f .place)
+  run-refused f e = answers (refused-answer (viewRefusal (f .refusal)) (f .place) (sym e))
+
+  pub run-too-high : viewVerdict Accepted ≡ verdict s → 65535 < limit → RunsFor s limit b b 9 0
+  run-too-high e h = answers (high-answer (sym e) h)
+
+  module _ (small : (i : ℕ) → getD s i 0 < 256) (e : viewVerdict Accepted ≡ verdict s) (most : limit ≤ 65535) {after : List ℕ} {n : ℕ} (r : Ran s limit b after n) where
+    reported : Reported (reportOf s limit) b after n
+    reported = subst (λ (text : List ℕ). Reported text b after n) (same-text small (sym e) limit most (r .run)) (r .reported)
+
+    pub run-too-short : length b < n → RunsFor s limit b after 10 n
+    run-too-short h = answers (ran-answer (sym e) most ∙ sym (answer-too-short reported h))
+
+    pub run-written : n ≤ length b → RunsFor s limit b after 0 n
+    run-written h = answers (ran-answer (sym e) most ∙ sym (answer-written reported h))

@@ -1,0 +1,93 @@
+-- The text that the run over flat arrays ends with is the model's report.
+use Prim.Native.Nat.{ℕ, _<_, _≤_}
+use mathlib.Core.Path.{_≡_, refl, sym, ap, _∙_}
+use mathlib.Core.List.{List, [], _∷_}
+use lib.ListN.{length, getD}
+use Rattle.model.specs.Lists.{at}
+use Rattle.model.specs.Command.{Release, Command, WORD, BLOCK, TASK, RELEASE, END, LOAD, ADD, READ, PAIR, SWAP, BEGIN, access, COMMIT}
+use Rattle.model.specs.Sheet.{declared, commandsFrom, sheetOf, verdict, accepted}
+use Rattle.model.specs.Machine.{Machine, run, startMachine}
+use Rattle.model.specs.Report.{report}
+use Rattle.model.specs.Answer.{reportOf}
+use Rattle.model.proofs.Fit.Accepted.{accepted-fit}
+use Rattle.sheet.specs.Places.{commandsAt, declaredAt, bodyAt, releasesAt}
+use Rattle.sheet.specs.Indexed.{OnlyReleases, Indexed}
+use Rattle.sheet.specs.declared.index.Sheet.{Sheet}
+use Rattle.machine.proofs.Simulation.View.{bodyFrom}
+use Rattle.machine.proofs.Simulation.Releases.{leading, releasesFrom}
+use Rattle.machine.proofs.Simulation.Start.{Starts}
+use Rattle.machine.proofs.Simulation.Final as simulation
+use Rattle.report.specs.Text.{Holds, Within}
+use Rattle.report.proofs.Model.{same-report}
+use Rattle.engine.specs.Flat.{FlatRun, totals}
+
+-- where only releases stand, the leading ones are all that is declared
+leading-declared : (l : List Command) → OnlyReleases l → leading l ≡ declared l .sheet .releases
+unfolding declared
+leading-declared [] h = refl
+leading-declared (RELEASE r ∷ l) h = ap (λ (k : List Release). r ∷ k) (leading-declared l h)
+leading-declared (END ∷ l) h = refl
+leading-declared (WORD v ∷ l) h = absurd h
+leading-declared (BLOCK b ∷ l) h = absurd h
+leading-declared (TASK ∷ l) h = absurd h
+leading-declared (LOAD r v ∷ l) h = absurd h
+leading-declared (ADD r q ∷ l) h = absurd h
+leading-declared (READ r w ∷ l) h = absurd h
+leading-declared (PAIR w o n ∷ l) h = absurd h
+leading-declared (SWAP r ∷ l) h = absurd h
+leading-declared (BEGIN ∷ l) h = absurd h
+leading-declared (access a ∷ l) h = absurd h
+leading-declared (COMMIT ∷ l) h = absurd h
+
+-- the places of an index are those of the model's bodies and releases
+module _ {s : List ℕ} {x : Sheet} (h : Indexed s x) where
+  body-start : (p : ℕ) → p < length (sheetOf s .bodies) → bodyFrom s (at 0 (x .bodies) p) ≡ at [] (sheetOf s .bodies) p
+  unfolding at bodyFrom declaredAt commandsAt
+  body-start p l = sym (h .bodies p (rw (h .tasks) l))
+
+  releases-start : releasesFrom s (x .released) ≡ sheetOf s .releases
+  unfolding releasesFrom declaredAt commandsAt
+  releases-start = leading-declared (commandsFrom (length s) s (x .released)) (h .released .only) ∙ sym (h .released .all)
+
+module _ {s : List ℕ} (small : (i : ℕ) → getD s i 0 < 256) (good : verdict s ≡ accepted) (limit : ℕ) (most : limit ≤ 65535) {text : List ℕ} (r : FlatRun s limit text) where
+  abbrev last-machine : Machine
+  last-machine = run limit (startMachine (sheetOf s))
+
+  starts : Starts s (r .index .bodies) (r .index .released) (sheetOf s) (r .cells) (r .stores) (r .copies)
+  starts =
+      record {
+        cellsSize = r .cellsStart .size;
+        cellsStart = r .cellsStart .start;
+        storesSize = r .storesStart .size;
+        storesStart = r .storesStart .start;
+        copiesSize = r .copiesStart .size;
+        copiesStart = r .copiesStart .start;
+        body = body-start (r .indexed);
+        releases = releases-start (r .indexed);
+      }
+
+  ended : simulation.Holds (sheetOf s) last-machine (r .last) (r .ended)
+  ended = simulation.final s small good limit most (r .index .bodies) (r .index .released) (r .cells) (r .stores) (r .copies) starts (r .last) (r .ended) (r .finished)
+
+  held : Holds (sheetOf s) last-machine (r .last .cells) (r .last .status) (r .last .saves) (r .last .stores) (r .last .registers) (r .last .counts) (totals (r .index) (r .ended))
+  held =
+      record {
+        words = r .indexed .words;
+        blocks = r .indexed .blocks;
+        tasks = r .indexed .tasks;
+        memory = ended .memory;
+        registerRows = ended .registers;
+        countRows = ended .counts;
+        now = ended .now;
+        dropped = ended .dropped;
+      }
+
+  within : Within (sheetOf s)
+  within = let c = accepted-fit s good in record { words = c .words; blocks = c .blocks; bodies = c .bodies }
+
+  report-of : reportOf s limit ≡ report (sheetOf s) last-machine
+  unfolding reportOf
+  report-of = refl
+
+  pub same-text : text ≡ reportOf s limit
+  same-text = r .text-is ∙ same-report held within ∙ sym report-of

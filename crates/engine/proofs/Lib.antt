@@ -1,0 +1,3 @@
+pub mod Flat
+pub mod Final
+pub mod Answers

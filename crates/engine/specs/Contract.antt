@@ -1,0 +1,36 @@
+-- The contracts of the two public entries: number, place and buffer, each by an equation with the model's answer, and the claim.
+use Prim.Native.Nat.{ℕ}
+use mathlib.Core.Path.{_≡_}
+use mathlib.Core.List.{List}
+use Rattle.model.specs.Refusal as R
+use Rattle.model.specs.Sheet.{verdict, accepted}
+use Rattle.model.specs.Answer.{checkAnswer, runAnswer}
+use Rattle.model.specs.Claim.{WholeOperations}
+use Rattle.sheet.specs.View.{viewRefusal}
+use Rattle.sheet.specs.declared.commands.Fault.{Fault}
+use Rattle.engine.specs.declared.Answer.{Answer}
+
+abbrev pub answer : ℕ → ℕ → Answer
+answer n p = record { number = n; place = p }
+
+abbrev pub answerOf : Fault → Answer
+answerOf f = answer (R.number (viewRefusal (f .refusal))) (f .place)
+
+-- THE SHEET CHECK
+pub record ChecksFor (sheet : List ℕ) (n p : ℕ) : Type 0 where
+  pub number : n ≡ checkAnswer sheet .number
+  pub place : p ≡ checkAnswer sheet .place
+
+abbrev pub Checks : List ℕ → Answer → Type 0
+Checks sheet r = ChecksFor sheet (r .number) (r .place)
+
+-- THE RUN, with the buffer before and after
+pub record RunsFor (sheet : List ℕ) (limit : ℕ) (before after : List ℕ) (n p : ℕ) : Type 0 where
+  pub number : n ≡ runAnswer sheet limit before .number
+  pub place : p ≡ runAnswer sheet limit before .place
+  pub buffer : after ≡ runAnswer sheet limit before .buffer
+  -- demand 3, of the same sheet and limit
+  pub whole : verdict sheet ≡ accepted → WholeOperations sheet limit
+
+abbrev pub Runs : List ℕ → ℕ → List ℕ → List ℕ → Answer → Type 0
+Runs sheet limit before after r = RunsFor sheet limit before after (r .number) (r .place)

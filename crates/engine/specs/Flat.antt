@@ -1,0 +1,44 @@
+-- The run over flat arrays: how it starts, that it ends, and the text that is read off the arrays then.
+use Prim.Native.Nat.{ℕ}
+use mathlib.Core.Path.{_≡_}
+use mathlib.Core.List.{List}
+use lib.ListN.{replicate}
+use Rattle.sheet.specs.Indexed.{Indexed}
+use Rattle.sheet.specs.declared.index.Sheet.{Sheet}
+use Rattle.start.specs.Contract.{Cells, Stores, Copies}
+use Rattle.machine.specs.Statements.{Arrays, arrays}
+use Rattle.machine.specs.World.{Finished}
+use Rattle.machine.specs.declared.run.Ended.{Ended}
+use Rattle.report.specs.Text.{reportText, Reported}
+use Rattle.report.specs.declared.Totals.{Totals}
+
+abbrev zeros : ℕ → List ℕ
+zeros n = replicate n 0
+
+-- nothing is saved, no job has run
+abbrev pub startArrays : List ℕ → List ℕ → List ℕ → Arrays
+startArrays cells stores copies =
+    arrays cells (zeros 8) (zeros 64) stores (zeros 64) (zeros 64) copies (zeros 64) (zeros 64) (zeros 64) (zeros 64) (zeros 64) (zeros 128) (zeros 128) (zeros 32)
+
+abbrev pub totals : Sheet → Ended → Totals
+totals x e = record { words = x .words; blocks = x .blocks; tasks = x .tasks; now = e .ticks; dropped = e .dropped }
+
+pub record FlatRun (s : List ℕ) (limit : ℕ) (text : List ℕ) : Type 0 where
+  pub index : Sheet
+  pub indexed : Indexed s index
+  pub cells : List ℕ
+  pub stores : List ℕ
+  pub copies : List ℕ
+  pub cellsStart : Cells s cells
+  pub storesStart : Stores s stores
+  pub copiesStart : Copies copies
+  pub last : Arrays
+  pub ended : Ended
+  pub finished : Finished s (index .bodies) (index .released) limit (startArrays cells stores copies) last ended
+  pub text-is : text ≡ reportText (last .cells) (last .status) (last .saves) (last .stores) (last .registers) (last .counts) (totals index ended)
+
+-- what the run leaves in the buffer
+pub record Ran (s : List ℕ) (limit : ℕ) (before after : List ℕ) (length : ℕ) : Type 0 where
+  pub text : List ℕ
+  pub run : FlatRun s limit text
+  pub reported : Reported text before after length
