@@ -1,0 +1,55 @@
+/* Runs a sheet from a file through the proved library and prints its report, or says what is wrong and where. */
+#include <inttypes.h>
+#include <stdio.h>
+#include "hizgrael.h"
+
+/* No sheet has more bytes, and no command; so the first fault of a longer file lies in what is read of it. */
+#define LONGEST_SHEET 4857
+#define LONGEST_COMMAND 37
+
+static const char *meaning(uint8_t number)
+{
+    switch (number) {
+    case HIZGRAEL_NO_COMMAND: return "the byte names no command";
+    case HIZGRAEL_CUT_SHORT: return "the sheet ends inside a command or before END";
+    case HIZGRAEL_BYTE_AFTER_END: return "a byte follows END";
+    case HIZGRAEL_MISPLACED: return "the command may not come there";
+    case HIZGRAEL_CEILING_PASSED: return "a ceiling would be passed";
+    case HIZGRAEL_OUT_OF_RANGE: return "an operand is out of range or names something not declared";
+    case HIZGRAEL_WORD_REPEATED: return "the word is already in the waiting PAIRs";
+    case HIZGRAEL_RELEASES_NOT_RISING: return "the releases do not rise";
+    case HIZGRAEL_LIMIT_TOO_HIGH: return "the tick limit is above 65,535";
+    case HIZGRAEL_BUFFER_TOO_SHORT: return "the report buffer is too short";
+    default: return "accepted";
+    }
+}
+
+int main(int count, char **words)
+{
+    static uint8_t sheet[LONGEST_SHEET + LONGEST_COMMAND];
+    static uint8_t report[HIZGRAEL_LONGEST_REPORT];
+    uint64_t place = 0;
+    uint8_t number;
+    size_t length;
+    FILE *file;
+
+    if (count != 2) {
+        fprintf(stderr, "usage: run_sheet FILE\n");
+        return 2;
+    }
+    file = fopen(words[1], "rb");
+    if (file == NULL) {
+        perror(words[1]);
+        return 2;
+    }
+    length = fread(sheet, 1, sizeof sheet, file);
+    fclose(file);
+
+    number = hizgrael_run(sheet, length, 65535, report, sizeof report, &place);
+    if (number != HIZGRAEL_ACCEPTED) {
+        fprintf(stderr, "%s: refused as %u at %" PRIu64 ": %s\n", words[1], number, place, meaning(number));
+        return 1;
+    }
+    fwrite(report, 1, (size_t)place, stdout);
+    return 0;
+}

@@ -1,0 +1,53 @@
+/* Hizgrael, the exchange engine: the two entries of the proved library (libengine.a, x86-64 Linux).
+ *
+ * A run sheet is a string of commands that declares words, blocks of eight words, tasks and their releases (README.md; the
+ * text form of tools/ makes sheets). The engine runs it one statement a tick, always the highest task with work, and writes a
+ * report.
+ *
+ * What is proved, for every sheet, limit and buffer: both entries return; number, place and every byte of the report buffer
+ * are those of the definitions in crates/model/specs (Answer.antt); an accepted run is a sequence of whole operations
+ * (Claim.antt). What the caller must see to: each pointer is valid for its length and for the whole call, and the sheet, the
+ * report buffer and *place do not overlap. A pointer whose length is 0 is not read but must not be null. Neither entry keeps
+ * a pointer, allocates, or uses more stack than docs/FIGURES.md states.
+ */
+#ifndef HIZGRAEL_H
+#define HIZGRAEL_H
+
+#include <stddef.h>
+#include <stdint.h>
+
+#ifdef __cplusplus
+extern "C" {
+#endif
+
+/* The numbers that both entries return. In the comments: what *place then holds. */
+enum {
+    HIZGRAEL_ACCEPTED = 0,            /* check: 0; run: the length of the report */
+    HIZGRAEL_NO_COMMAND = 1,          /* the byte that names no command */
+    HIZGRAEL_CUT_SHORT = 2,           /* the command in which the sheet ends, or the sheet's length if END is missing */
+    HIZGRAEL_BYTE_AFTER_END = 3,      /* the byte after END */
+    HIZGRAEL_MISPLACED = 4,           /* the command that may not come there */
+    HIZGRAEL_CEILING_PASSED = 5,      /* the command that would pass a ceiling */
+    HIZGRAEL_OUT_OF_RANGE = 6,        /* the command with an operand out of range, or of something not declared */
+    HIZGRAEL_WORD_REPEATED = 7,       /* the PAIR whose word is already in the waiting PAIRs */
+    HIZGRAEL_RELEASES_NOT_RISING = 8, /* the RELEASE that does not come after the one before it */
+    HIZGRAEL_LIMIT_TOO_HIGH = 9,      /* 0: the limit is above 65,535 (run only) */
+    HIZGRAEL_BUFFER_TOO_SHORT = 10    /* the length that the report needs (run only) */
+};
+
+/* No report is longer, so a buffer of this length is always enough. */
+#define HIZGRAEL_LONGEST_REPORT 3848
+
+/* Is the sheet well formed? */
+uint8_t hizgrael_check(const uint8_t *sheet, size_t sheet_length, uint64_t *place);
+
+/* Runs the sheet for at most limit ticks and writes the report to the front of the buffer; the bytes past the report are
+ * unchanged. If the number is not 0, every byte of the buffer is unchanged. */
+uint8_t hizgrael_run(const uint8_t *sheet, size_t sheet_length, uint64_t limit,
+                     uint8_t *report, size_t report_length, uint64_t *place);
+
+#ifdef __cplusplus
+}
+#endif
+
+#endif

@@ -1,0 +1,90 @@
+//! The proved library against the second simulator: both entries, byte for byte, the buffer past the report included.
+//!
+//! `COMPARE_SEED` and `COMPARE_CASES` run another or a larger corpus.
+
+use simulator::generator::{case, SEED};
+
+const CASES: u64 = 24_000;
+
+fn setting(name: &str, otherwise: u64) -> u64 {
+    std::env::var(name).map_or(otherwise, |text| text.parse().expect("a decimal number"))
+}
+
+fn compare(seed: u64, index: u64) -> u8 {
+    let case = case(seed, index);
+    let expected = simulator::check(&case.sheet);
+    let found = linked::check(&case.sheet);
+    assert_eq!(
+        (found.number, found.place),
+        (expected.number, expected.place as u64),
+        "check of case {index}, seed {seed}"
+    );
+
+    let mut expected_buffer = case.buffer();
+    let mut found_buffer = case.buffer();
+    let expected = simulator::run(&case.sheet, case.limit, &mut expected_buffer);
+    let found = linked::run(&case.sheet, case.limit, &mut found_buffer);
+    assert_eq!(
+        (found.number, found.place),
+        (expected.number, expected.place as u64),
+        "run of case {index}, seed {seed}"
+    );
+    assert!(found_buffer == expected_buffer, "buffer of case {index}, seed {seed}");
+    found.number
+}
+
+#[test]
+fn library_and_simulator_agree() {
+    let seed = setting("COMPARE_SEED", SEED);
+    let cases = setting("COMPARE_CASES", CASES);
+    let mut by_number = [0u64; 11];
+    for index in 0..cases {
+        by_number[usize::from(compare(seed, index))] += 1;
+    }
+    println!("{cases} cases of seed {seed}, by number: {by_number:?}");
+    if cases >= CASES {
+        assert!(by_number.iter().all(|&count| count > 0), "every answer occurs: {by_number:?}");
+    }
+}
+
+/// Every small limit of one contended sheet.
+#[test]
+fn every_limit_agrees() {
+    let sheet = (0..)
+        .map(|index| case(SEED, index).sheet)
+        .find(|sheet| simulator::check(sheet).number == 0 && sheet.len() > 150)
+        .expect("the corpus has valid sheets");
+    for limit in 0..600 {
+        let mut expected = [0x2E; 4096];
+        let mut found = [0x2E; 4096];
+        let answer = simulator::run(&sheet, limit, &mut expected);
+        let other = linked::run(&sheet, limit, &mut found);
+        assert_eq!(
+            (other.number, other.place),
+            (answer.number, answer.place as u64),
+            "limit {limit}"
+        );
+        assert!(found == expected, "limit {limit}");
+    }
+}
+
+/// Noise of every small length, and ten megabytes of it.
+#[test]
+fn noise_agrees() {
+    let mut state = SEED;
+    let mut byte = move || {
+        state =
+            state.wrapping_mul(6_364_136_223_846_793_005).wrapping_add(1_442_695_040_888_963_407);
+        (state >> 56) as u8
+    };
+    for length in (0..2_000).chain([10_000_000]) {
+        let noise: Vec<u8> = (0..length).map(|_| byte()).collect();
+        let expected = simulator::check(&noise);
+        let found = linked::check(&noise);
+        assert_eq!(
+            (found.number, found.place),
+            (expected.number, expected.place as u64),
+            "length {length}"
+        );
+    }
+}
