@@ -13,10 +13,10 @@ use Rattle.model.proofs.Fit.Accepted.{accepted-fit}
 use Rattle.sheet.specs.Places.{commandsAt, declaredAt, bodyAt, releasesAt}
 use Rattle.sheet.specs.Indexed.{OnlyReleases, Indexed}
 use Rattle.sheet.specs.declared.index.Sheet.{Sheet}
-use Rattle.machine.proofs.Simulation.View.{bodyFrom}
-use Rattle.machine.proofs.Simulation.Releases.{leading, releasesFrom}
-use Rattle.machine.proofs.Simulation.Start.{Starts}
-use Rattle.machine.proofs.Simulation.Final as simulation
+use Rattle.simulation.proofs.View.{bodyFrom}
+use Rattle.simulation.proofs.Releases.{leading, releasesFrom}
+use Rattle.simulation.proofs.Start.{Starts}
+use Rattle.simulation.proofs.Final as simulation
 use Rattle.report.specs.Text.{Holds, Within}
 use Rattle.report.proofs.Model.{same-report}
 use Rattle.engine.specs.Flat.{FlatRun, totals}

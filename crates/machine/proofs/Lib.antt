@@ -1,6 +1,3 @@
-pub mod Decoded
-pub mod Walks
 pub mod Turns
 pub mod Mask
 pub mod Runs
-pub mod Simulation

@@ -16,7 +16,7 @@ use Rattle.sheet.specs.declared.commands.Command.{Command}
 use Rattle.sheet.specs.declared.commands.Command.the-variants as C
 use Rattle.machine.specs.Statements.{Arrays, turn, statement}
 use Rattle.machine.specs.World.{unfinishedJob, dueBy, comingBy, comingAt, stopsBy, topOf, droppedBy, begunBy, zeroedBy, startedBy, leftBy, tickedBy, World, world, noJob, withRegisters, withCounts, released, ticked, comingIn, Ends, stopped, releases, ticks}
-use Rattle.machine.specs.declared.job.Job.{Job}
+use Rattle.transactions.specs.declared.job.Job.{Job}
 use Rattle.machine.specs.declared.run.Coming.{Coming}
 use Rattle.machine.specs.declared.run.Coming.the-variants.{Nothing, Later, Due}
 

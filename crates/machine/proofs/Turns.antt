@@ -1,34 +1,39 @@
 -- What the parts of a statement ensure makes the statement's turn: one law for each way through the longer functions.
 use Prim.Native.Nat.{ℕ}
-use mathlib.Core.Path.{_≡_}
+use mathlib.Core.Path.{_≡_, refl}
 use mathlib.Core.List.{List}
 use Rattle.model.specs.Command.{commandAt}
-use Rattle.sheet.specs.View.{viewDecoded}
+use Rattle.sheet.specs.View.{viewAccess, viewDecoded}
 use Rattle.sheet.specs.declared.commands.Access.{Access}
+use Rattle.sheet.specs.declared.commands.Access.the-variants.{Get, Put}
 use Rattle.sheet.specs.declared.commands.Command.{Command}
 use Rattle.sheet.specs.declared.commands.Command.the-variants as C
 use Rattle.sheet.specs.declared.commands.Decoded.{Decoded}
 use Rattle.sheet.specs.declared.commands.Decoded.the-variants.{Got}
-use Rattle.machine.specs.Places.{nextOf, Went, went}
-use Rattle.machine.specs.Reading.{afterReading}
-use Rattle.machine.specs.Exchange.{Left, exchanged}
-use Rattle.machine.specs.Jobs.{movedTo, Entries, afterDone, answered, readBy, swapBy}
-use Rattle.machine.specs.Blocks.{bankOf, namedBlock}
-use Rattle.machine.specs.Accesses.{Touching, firstRead, Accessed, accessTick, Checked, againRead}
-use Rattle.machine.specs.Commits.{Committed, committedBy}
-use Rattle.machine.specs.Statements.{Arrays, entriesOf, turn, onAnswer, onEntries, onExchange, onTouching, onAccess, onChecked, onCommitted, paired, exchangeTick, plainBy, plainTick, betweenBy, betweenTick, transactionTick, statement}
-use Rattle.machine.specs.declared.read.Reading.{Reading}
-use Rattle.machine.specs.declared.read.Reading.the-variants.{Load}
-use Rattle.machine.specs.declared.read.Read.{Read}
-use Rattle.machine.specs.declared.exchange.Step.{Step}
-use Rattle.machine.specs.declared.exchange.Step.the-variants.{Start}
-use Rattle.machine.specs.declared.exchange.Exchanged.{Exchanged}
-use Rattle.machine.specs.declared.job.Inner.{Inner}
-use Rattle.machine.specs.declared.job.Inner.the-variants.{First, Again}
-use Rattle.machine.specs.declared.job.Phase.{Phase}
-use Rattle.machine.specs.declared.job.Phase.the-variants as P
-use Rattle.machine.specs.declared.job.Job.{Job}
-use Rattle.machine.proofs.Decoded.{access-view}
+use Rattle.exchanges.specs.Places.{nextOf, Went, went}
+use Rattle.exchanges.specs.Reading.{afterReading}
+use Rattle.exchanges.specs.Exchange.{Left, exchanged}
+use Rattle.transactions.specs.Jobs.{movedTo, Entries, afterDone, answered, readBy, swapBy}
+use Rattle.transactions.specs.Blocks.{bankOf, namedBlock}
+use Rattle.transactions.specs.Accesses.{Touching, firstRead, Accessed, accessTick, Checked, againRead}
+use Rattle.transactions.specs.Commits.{Committed, committedBy}
+use Rattle.machine.specs.Statements.{Arrays, accessOf, entriesOf, turn, onAnswer, onEntries, onExchange, onTouching, onAccess, onChecked, onCommitted, paired, exchangeTick, plainBy, plainTick, betweenBy, betweenTick, transactionTick, statement}
+use Rattle.exchanges.specs.declared.read.Reading.{Reading}
+use Rattle.exchanges.specs.declared.read.Reading.the-variants.{Load}
+use Rattle.exchanges.specs.declared.read.Read.{Read}
+use Rattle.exchanges.specs.declared.exchange.Step.{Step}
+use Rattle.exchanges.specs.declared.exchange.Step.the-variants.{Start}
+use Rattle.exchanges.specs.declared.exchange.Exchanged.{Exchanged}
+use Rattle.transactions.specs.declared.job.Inner.{Inner}
+use Rattle.transactions.specs.declared.job.Inner.the-variants.{First, Again}
+use Rattle.transactions.specs.declared.job.Phase.{Phase}
+use Rattle.transactions.specs.declared.job.Phase.the-variants as P
+use Rattle.transactions.specs.declared.job.Job.{Job}
+
+-- a viewed GET or PUT is the decoded one
+access-view : (a : Access) → accessOf (viewAccess a) ≡ a
+access-view (Get r b o) = refl
+access-view (Put b o r) = refl
 
 pub step-idle : (sheet : List ℕ) (a : Arrays) (p : ℕ) (j : Job) {f : Phase} → f ≡ P.Idle → turn j a ≡ statement sheet a p j f
 unfolding statement

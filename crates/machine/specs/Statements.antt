@@ -6,21 +6,21 @@ use Rattle.model.specs.Lists.{at, replace}
 use Rattle.model.specs.Command as M
 use Rattle.sheet.specs.declared.commands.Access.{Access}
 use Rattle.sheet.specs.declared.commands.Access.the-variants.{Get, Put}
-use Rattle.machine.specs.Places.{nextOf, Went}
-use Rattle.machine.specs.Reading.{afterReading}
-use Rattle.machine.specs.Exchange.{Left, afterExchange}
-use Rattle.machine.specs.Jobs.{jobAt, movedTo, added, copied, Entries, entries, entered, afterDone, Answered, readBy, swapBy}
-use Rattle.machine.specs.Blocks.{bankOf, namedBlock, cleared}
-use Rattle.machine.specs.Accesses.{goesOn, Touching, firstRead, afterCopy, Accessed, accessTick, Checked, againRead}
-use Rattle.machine.specs.Commits.{Gathered, commitBy, Committed, committedBy}
-use Rattle.machine.specs.declared.read.Reading.the-variants.{Load}
-use Rattle.machine.specs.declared.exchange.Step.{Step}
-use Rattle.machine.specs.declared.exchange.Step.the-variants.{Start}
-use Rattle.machine.specs.declared.job.Inner.{Inner}
-use Rattle.machine.specs.declared.job.Inner.the-variants.{Between, First, Copying, Again, Committing}
-use Rattle.machine.specs.declared.job.Phase.{Phase}
-use Rattle.machine.specs.declared.job.Phase.the-variants as P
-use Rattle.machine.specs.declared.job.Job.{Job}
+use Rattle.exchanges.specs.Places.{nextOf, Went}
+use Rattle.exchanges.specs.Reading.{afterReading}
+use Rattle.exchanges.specs.Exchange.{Left, afterExchange}
+use Rattle.transactions.specs.Jobs.{jobAt, movedTo, added, copied, Entries, entries, entered, afterDone, Answered, readBy, swapBy}
+use Rattle.transactions.specs.Blocks.{bankOf, namedBlock, cleared}
+use Rattle.transactions.specs.Accesses.{goesOn, Touching, firstRead, afterCopy, Accessed, accessTick, Checked, againRead}
+use Rattle.transactions.specs.Commits.{Gathered, commitBy, Committed, committedBy}
+use Rattle.exchanges.specs.declared.read.Reading.the-variants.{Load}
+use Rattle.exchanges.specs.declared.exchange.Step.{Step}
+use Rattle.exchanges.specs.declared.exchange.Step.the-variants.{Start}
+use Rattle.transactions.specs.declared.job.Inner.{Inner}
+use Rattle.transactions.specs.declared.job.Inner.the-variants.{Between, First, Copying, Again, Committing}
+use Rattle.transactions.specs.declared.job.Phase.{Phase}
+use Rattle.transactions.specs.declared.job.Phase.the-variants as P
+use Rattle.transactions.specs.declared.job.Job.{Job}
 
 pub record Arrays : Type 0 where
   pub cells : List ℕ

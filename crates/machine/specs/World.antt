@@ -9,12 +9,12 @@ use Rattle.model.specs.Lists.{at, replace}
 use Rattle.model.specs.Command as M
 use Rattle.sheet.specs.declared.commands.Command.{Command}
 use Rattle.sheet.specs.declared.commands.Command.the-variants as C
-use Rattle.machine.specs.Places.{if}
-use Rattle.machine.specs.Jobs.{job, jobAt, counted}
+use Rattle.exchanges.specs.Places.{if}
+use Rattle.transactions.specs.Jobs.{job, jobAt, counted}
 use Rattle.machine.specs.Statements.{Arrays, arrays, Turn, turn, statement}
-use Rattle.machine.specs.declared.job.Phase.{Phase}
-use Rattle.machine.specs.declared.job.Phase.the-variants as P
-use Rattle.machine.specs.declared.job.Job.{Job}
+use Rattle.transactions.specs.declared.job.Phase.{Phase}
+use Rattle.transactions.specs.declared.job.Phase.the-variants as P
+use Rattle.transactions.specs.declared.job.Job.{Job}
 use Rattle.machine.specs.declared.run.Coming.{Coming}
 use Rattle.machine.specs.declared.run.Coming.the-variants.{Nothing, Later, Due}
 use Rattle.machine.specs.declared.run.Ended.{Ended}

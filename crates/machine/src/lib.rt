@@ -1,8 +1,3 @@
-// The machine: flat arrays of numbers, lent to one function for each statement and changed in place.
-pub mod exchange;
-pub mod job;
-pub mod places;
-pub mod read;
+// The machine: one statement of a task, and the run.
 pub mod run;
 pub mod step;
-pub mod transaction;

@@ -4,14 +4,14 @@ ghost use Prim.Native.Nat.{_+_, _*_, _-_, _^_, _%_, _<_, _≤_};
 ghost use Rattle.model.specs.Command.{commandAt};
 ghost use Rattle.machine.specs.Statements.{arrays};
 ghost use Rattle.machine.specs.World.{unfinishedJob, comingBy, comingAt, stopsBy, topOf, droppedBy, begunBy, zeroed, zeroedBy, startedBy, leftBy, tickedBy, Finished};
-use crate::job;
-use crate::job::Job;
-use crate::job::Phase;
-use crate::places;
 use crate::step;
+use exchanges::places;
 use sheet::commands;
 use sheet::commands::Command;
 use sheet::commands::Decoded;
+use transactions::job;
+use transactions::job::Job;
+use transactions::job::Phase;
 
 // The next release: none, one of a later tick, or one due now, with its task and the place after it.
 pub enum Coming {

@@ -1,20 +1,20 @@
 // One statement of a task: the command at work outside and inside a transaction, and each phase of a job.
 ghost use mathlib.Core.Path.{_≡_};
-ghost use Rattle.machine.specs.Jobs.{entries};
+ghost use Rattle.transactions.specs.Jobs.{entries};
 ghost use Rattle.machine.specs.Statements.{arrays, turn, paired, plainTick, betweenTick, transactionTick, statement};
-use crate::exchange;
-use crate::exchange::Step;
-use crate::job;
-use crate::job::Inner;
-use crate::job::Job;
-use crate::job::Phase;
-use crate::places;
-use crate::read;
-use crate::read::Reading;
-use crate::transaction;
+use exchanges::exchange;
+use exchanges::exchange::Step;
+use exchanges::places;
+use exchanges::read;
+use exchanges::read::Reading;
 use sheet::commands;
 use sheet::commands::Command;
 use sheet::commands::Decoded;
+use transactions::job;
+use transactions::job::Inner;
+use transactions::job::Job;
+use transactions::job::Phase;
+use transactions::transaction;
 
 // PAIR records both values.
 fn pair(

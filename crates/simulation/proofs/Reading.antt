@@ -1,0 +1,37 @@
+-- READ's ticks over packed words are the model's.
+use Prim.Native.Nat.{ℕ, _%_, _<_}
+use mathlib.Core.Path.{_≡_, refl, ap, _∙_}
+use mathlib.Core.Bool.{Bool, true, false}
+use mathlib.Core.List.{List}
+use native.Mathlib.Omega.{arith}
+use lib.ListN.{length}
+use Rattle.model.specs.Word as W
+use Rattle.memory.specs.Packed.{unpack, valueOf, countOf, taskOf}
+use Rattle.exchanges.specs.Places.{if}
+use Rattle.exchanges.specs.Reading.{owned, savedFor, afterLook, afterReading}
+use Rattle.exchanges.specs.declared.read.Reading.{Reading}
+use Rattle.exchanges.specs.declared.read.Reading.the-variants.{Load, Look, Fetch}
+use Rattle.exchanges.specs.declared.read.Read.the-variants.{Reads, Gives}
+use Rattle.memory.specs.Rows.{rows}
+use Rattle.simulation.proofs.View.{memoryOf, readingOf, readOf}
+use Rattle.simulation.proofs.Memory.{cell-at, own-unpack, rows-at}
+
+eighth : (w : ℕ) → w % 8 < 8
+eighth w = omega arith
+
+-- the save place of a word's task and count
+pub saved-for : (saves : List ℕ) (w : ℕ) → length saves ≡ 64 → W.saved (rows 8 8 saves) (unpack w .task) (unpack w .count) ≡ savedFor saves w
+unfolding unpack
+saved-for saves w e = rows-at 8 8 (taskOf w) (countOf w) saves e (eighth _)
+
+module _ (cells status saves stores : List ℕ) (cell : ℕ) (below : cell < length cells) (size : length saves ≡ 64) where
+  look-by : (w : ℕ) (b : Bool) → W.lookBy b (unpack w) ≡ readOf (if b (Gives (valueOf w)) (Reads (Fetch w)))
+  unfolding W.lookBy unpack
+  look-by w true = refl
+  look-by w false = refl
+
+  pub read-tick : (r : Reading) → W.readTick (memoryOf cells status saves stores) cell (readingOf r) ≡ readOf (afterReading cells status saves cell r)
+  unfolding W.readTick afterReading afterLook
+  read-tick Load = ap (λ (w : W.Word). W.reads (W.looking w)) (cell-at cells cell below)
+  read-tick (Look w) = ap (λ (b : Bool). W.lookBy b (unpack w)) (own-unpack status w) ∙ look-by w (owned status w)
+  read-tick (Fetch w) = ap W.gives (saved-for saves w size)

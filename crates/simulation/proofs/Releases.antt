@@ -1,0 +1,95 @@
+-- The releases from a place on, and which of them is due.
+use Prim.Native.Nat.{ℕ, suc}
+use mathlib.Core.Path.{_≡_, refl, ap, _∙_}
+use mathlib.Core.Bool.{Bool, true, false}
+use mathlib.Core.List.{List, [], _∷_}
+use native.Mathlib.Omega.{arith}
+use lib.Dec.{eqb}
+use lib.ListN.{length}
+use borrow.Author.Tests.{eqb-true}
+use Rattle.model.specs.Refusal.{Refusal}
+use Rattle.model.specs.Command.{Release, Command, WORD, BLOCK, TASK, RELEASE, END, LOAD, ADD, READ, PAIR, SWAP, BEGIN, access, COMMIT, Found, found, refused, commandAt}
+use Rattle.model.specs.Sheet.{listed, commandsFrom}
+use Rattle.machine.specs.World.{dueBy, comingAt}
+use Rattle.machine.specs.declared.run.Coming.{Coming}
+use Rattle.machine.specs.declared.run.Coming.the-variants.{Nothing, Later, Due}
+use Rattle.simulation.proofs.Body.{enough}
+
+-- the releases with which commands begin
+abbrev pub leading : List Command → List Release
+leading [] = []
+leading (RELEASE r ∷ l) = r ∷ leading l
+leading (WORD v ∷ l) = []
+leading (BLOCK b ∷ l) = []
+leading (TASK ∷ l) = []
+leading (END ∷ l) = []
+leading (LOAD r v ∷ l) = []
+leading (ADD r q ∷ l) = []
+leading (READ r w ∷ l) = []
+leading (PAIR w o n ∷ l) = []
+leading (SWAP r ∷ l) = []
+leading (BEGIN ∷ l) = []
+leading (access a ∷ l) = []
+leading (COMMIT ∷ l) = []
+
+unfoldable pub releasesFrom : List ℕ → ℕ → List Release
+releasesFrom sheet place = leading (commandsFrom (length sheet) sheet place)
+
+module _ (sheet : List ℕ) (place : ℕ) where
+  releases-at : releasesFrom sheet place ≡ leading (listed (commandsFrom (length sheet) sheet) (commandAt sheet place))
+  unfolding releasesFrom commandsFrom
+  releases-at = ap leading (enough sheet (length sheet) (suc (length sheet)) place (omega arith) (omega arith))
+
+  release-found : (r : Release) (next : ℕ) → commandAt sheet place ≡ found (RELEASE r) next → releasesFrom sheet place ≡ r ∷ releasesFrom sheet next
+  unfolding releasesFrom listed
+  release-found r next e = releases-at ∙ ap (λ (f : Found). leading (listed (commandsFrom (length sheet) sheet) f)) e
+
+  -- a release due at that tick
+  pub record DueAt (tick task next : ℕ) : Type 0 where
+    pub release : Release
+    pub releases : releasesFrom sheet place ≡ release ∷ releasesFrom sheet next
+    pub now : release .tick ≡ tick
+    pub to : release .task ≡ task
+
+  -- a later release, or none
+  pub record LaterAt (tick : ℕ) : Type 0 where
+    pub release : Release
+    pub others : List Release
+    pub releases : releasesFrom sheet place ≡ release ∷ others
+    pub later : eqb (release .tick) tick ≡ false
+
+  abbrev pub ComingAt : ℕ → Coming → Type 0
+  ComingAt tick Nothing = releasesFrom sheet place ≡ []
+  ComingAt tick Later = LaterAt tick
+  ComingAt tick (Due task next) = DueAt tick task next
+
+  none-found : (c : Command) (next : ℕ) → commandAt sheet place ≡ found c next → leading (c ∷ commandsFrom (length sheet) sheet next) ≡ [] → releasesFrom sheet place ≡ []
+  unfolding listed
+  none-found c next e q = releases-at ∙ ap (λ (f : Found). leading (listed (commandsFrom (length sheet) sheet) f)) e ∙ q
+
+  none-refused : (f : Refusal) (n : ℕ) → commandAt sheet place ≡ refused f n → releasesFrom sheet place ≡ []
+  unfolding listed
+  none-refused f n e = releases-at ∙ ap (λ (f : Found). leading (listed (commandsFrom (length sheet) sheet) f)) e
+
+  pub coming-at : (tick : ℕ) → ComingAt tick (comingAt tick (commandAt sheet place))
+  coming-at tick = go (commandAt sheet place) refl
+    where
+      due : (r : Release) (next : ℕ) → commandAt sheet place ≡ found (RELEASE r) next → (b : Bool) → eqb (r .tick) tick ≡ b → ComingAt tick (dueBy b (r .task) next)
+      due r next e true q = record { release = r; releases = release-found r next e; now = eqb-true _ _ q; to = refl }
+      due r next e false q = record { release = r; others = releasesFrom sheet next; releases = release-found r next e; later = q }
+
+      go : (f : Found) → commandAt sheet place ≡ f → ComingAt tick (comingAt tick f)
+      go (refused f n) e = none-refused f n e
+      go (found (RELEASE r) n) e = due r n e (eqb (r .tick) tick) refl
+      go (found (WORD v) n) e = none-found _ n e refl
+      go (found (BLOCK b) n) e = none-found _ n e refl
+      go (found TASK n) e = none-found _ n e refl
+      go (found END n) e = none-found _ n e refl
+      go (found (LOAD r v) n) e = none-found _ n e refl
+      go (found (ADD r q) n) e = none-found _ n e refl
+      go (found (READ r w) n) e = none-found _ n e refl
+      go (found (PAIR w o q) n) e = none-found _ n e refl
+      go (found (SWAP r) n) e = none-found _ n e refl
+      go (found BEGIN n) e = none-found _ n e refl
+      go (found (access a) n) e = none-found _ n e refl
+      go (found COMMIT n) e = none-found _ n e refl

@@ -1,0 +1,30 @@
+use Rattle.transactions.specs.Jobs.{counted}
+use borrow.Author.Needs.{needs}
+use Rattle.transactions.proofs.job.count.Statement.{statement}
+use Rattle.transactions.proofs.job.count.Tie as tie
+
+quarter-requires : tie.Need-quarter-requires
+quarter-requires c κs = search needs
+
+u32-at-requires : tie.Need-u32-at-requires
+u32-at-requires c κs = search needs
+
+wrapping-add-u32-requires : tie.Need-wrapping-add-u32-requires
+wrapping-add-u32-requires c κs = search needs
+
+set-u32x32-requires : tie.Need-set-u32x32-requires
+set-u32x32-requires c κs = search needs
+
+returns : tie.Need-returns
+unfolding counted
+returns c = rw (← c .before .before .before .before .before .before .quarter .ensures, ← c .before .before .before .u32-at .ensures, ← c .before .wrapping-add-u32 .ensures, c .set-u32x32 .ensures)
+
+pub count-spec : {M : Type 1} → statement M
+count-spec =
+    tie.close
+    (tie.spec
+    quarter-requires
+    u32-at-requires
+    wrapping-add-u32-requires
+    set-u32x32-requires
+    returns)

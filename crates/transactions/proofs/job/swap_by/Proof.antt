@@ -1,0 +1,39 @@
+use Rattle.transactions.specs.Jobs.{swapBy}
+use borrow.Author.Needs.{needs}
+use Rattle.transactions.proofs.job.swap_by.Statement.{statement}
+use Rattle.transactions.proofs.job.swap_by.Tie as tie
+
+enum-known-exchanged : tie.Need-enum-known-exchanged
+enum-known-exchanged c = search needs
+
+in-phase-requires : tie.Need-in-phase-requires
+in-phase-requires c κs = search needs
+
+returns : tie.Need-returns
+unfolding swapBy
+returns c = rw (c .before .before .exchanged .given .1, c .in-phase .ensures)
+
+enum-known-exchanged-2 : tie.Need-enum-known-exchanged-2
+enum-known-exchanged-2 c = search needs
+
+cast-give : tie.Need-cast-give
+cast-give c = search needs
+
+give-requires : tie.Need-give-requires
+give-requires c κs = search needs
+
+returns-2 : tie.Need-returns-2
+unfolding swapBy
+returns-2 c = rw (c .before .before .before .before .exchanged2 .given .1, ← c .give .ensures)
+
+pub swap-by-spec : {M : Type 1} → statement M
+swap-by-spec =
+    tie.close
+    (tie.spec
+    enum-known-exchanged
+    in-phase-requires
+    returns
+    enum-known-exchanged-2
+    cast-give
+    give-requires
+    returns-2)

@@ -1,0 +1,4 @@
+pub mod Jobs
+pub mod Blocks
+pub mod Accesses
+pub mod Commits
