@@ -11,8 +11,9 @@ use Rattle.model.specs.Sheet.{Verdict, accepted, turnedDown, verdict}
 use Rattle.model.specs.Answer as M
 use Rattle.model.specs.Answer.{Checked, checkAnswer, runAnswer, answeredBy, limitedBy, written, refuse, reportOf}
 use Rattle.model.proofs.Run.Theorem.{demand-3}
-use Rattle.sheet.specs.View.{viewRefusal, viewVerdict, checkedOf}
-use Rattle.sheet.specs.declared.commands.Fault.{Fault}
+use Rattle.commands.specs.View.{viewRefusal}
+use Rattle.sheet.specs.View.{viewVerdict, checkedOf}
+use Rattle.commands.specs.declared.Fault.{Fault}
 use Rattle.sheet.specs.declared.check.Verdict.the-variants.{Accepted, TurnedDown}
 use Rattle.report.specs.Text.{Reported}
 use Rattle.report.proofs.Model.{answer-written, answer-too-short}

@@ -6,8 +6,8 @@ use Rattle.model.specs.Refusal as R
 use Rattle.model.specs.Sheet.{verdict, accepted}
 use Rattle.model.specs.Answer.{checkAnswer, runAnswer}
 use Rattle.model.specs.Claim.{WholeOperations}
-use Rattle.sheet.specs.View.{viewRefusal}
-use Rattle.sheet.specs.declared.commands.Fault.{Fault}
+use Rattle.commands.specs.View.{viewRefusal}
+use Rattle.commands.specs.declared.Fault.{Fault}
 use Rattle.engine.specs.declared.Answer.{Answer}
 
 abbrev pub answer : ℕ → ℕ → Answer

@@ -4,9 +4,9 @@ ghost use Prim.Native.Nat.{_≤_};
 ghost use Rattle.model.specs.Sheet.{verdict, accepted};
 ghost use Rattle.engine.specs.Contract.{Checks, Runs, answerOf};
 ghost use Rattle.engine.specs.Flat.{Ran};
+use commands::Fault;
 use report::Totals;
 use sheet::check::Verdict;
-use sheet::commands::Fault;
 use start::Counts;
 
 mod exports;
@@ -22,7 +22,7 @@ fn refused(f: Fault) -> Answer
 {
     let refusal = f.refusal;
     Answer {
-        number: sheet::commands::number(refusal),
+        number: commands::number(refusal),
         place: f.place,
     }
 }

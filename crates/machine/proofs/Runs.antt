@@ -11,9 +11,9 @@ use lib.ListN.{length, getD, set}
 use Rattle.model.specs.Lists.{at}
 use Rattle.model.specs.Command as M
 use Rattle.model.proofs.Lists.{test?}
-use Rattle.sheet.specs.View.{viewCommand}
-use Rattle.sheet.specs.declared.commands.Command.{Command}
-use Rattle.sheet.specs.declared.commands.Command.the-variants as C
+use Rattle.commands.specs.View.{viewCommand}
+use Rattle.commands.specs.declared.Command.{Command}
+use Rattle.commands.specs.declared.Command.the-variants as C
 use Rattle.machine.specs.Statements.{Arrays, turn, statement}
 use Rattle.machine.specs.World.{unfinishedJob, dueBy, comingBy, comingAt, stopsBy, topOf, droppedBy, begunBy, zeroedBy, startedBy, leftBy, tickedBy, World, world, noJob, withRegisters, withCounts, released, ticked, comingIn, Ends, stopped, releases, ticks}
 use Rattle.transactions.specs.declared.job.Job.{Job}

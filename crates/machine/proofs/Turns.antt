@@ -3,13 +3,13 @@ use Prim.Native.Nat.{ℕ}
 use mathlib.Core.Path.{_≡_, refl}
 use mathlib.Core.List.{List}
 use Rattle.model.specs.Command.{commandAt}
-use Rattle.sheet.specs.View.{viewAccess, viewDecoded}
-use Rattle.sheet.specs.declared.commands.Access.{Access}
-use Rattle.sheet.specs.declared.commands.Access.the-variants.{Get, Put}
-use Rattle.sheet.specs.declared.commands.Command.{Command}
-use Rattle.sheet.specs.declared.commands.Command.the-variants as C
-use Rattle.sheet.specs.declared.commands.Decoded.{Decoded}
-use Rattle.sheet.specs.declared.commands.Decoded.the-variants.{Got}
+use Rattle.commands.specs.View.{viewAccess, viewDecoded}
+use Rattle.commands.specs.declared.Access.{Access}
+use Rattle.commands.specs.declared.Access.the-variants.{Get, Put}
+use Rattle.commands.specs.declared.Command.{Command}
+use Rattle.commands.specs.declared.Command.the-variants as C
+use Rattle.commands.specs.declared.Decoded.{Decoded}
+use Rattle.commands.specs.declared.Decoded.the-variants.{Got}
 use Rattle.exchanges.specs.Places.{nextOf, Went, went}
 use Rattle.exchanges.specs.Reading.{afterReading}
 use Rattle.exchanges.specs.Exchange.{Left, exchanged}

@@ -4,8 +4,8 @@ use mathlib.Core.Bool.{Bool, true, false}
 use mathlib.Core.List.{List}
 use Rattle.model.specs.Lists.{at, replace}
 use Rattle.model.specs.Command as M
-use Rattle.sheet.specs.declared.commands.Access.{Access}
-use Rattle.sheet.specs.declared.commands.Access.the-variants.{Get, Put}
+use Rattle.commands.specs.declared.Access.{Access}
+use Rattle.commands.specs.declared.Access.the-variants.{Get, Put}
 use Rattle.exchanges.specs.Places.{nextOf, Went}
 use Rattle.exchanges.specs.Reading.{afterReading}
 use Rattle.exchanges.specs.Exchange.{Left, afterExchange}

@@ -7,8 +7,8 @@ use lib.Dec.{eqb}
 use lib.ListN.{getD, set, replicate}
 use Rattle.model.specs.Lists.{at, replace}
 use Rattle.model.specs.Command as M
-use Rattle.sheet.specs.declared.commands.Command.{Command}
-use Rattle.sheet.specs.declared.commands.Command.the-variants as C
+use Rattle.commands.specs.declared.Command.{Command}
+use Rattle.commands.specs.declared.Command.the-variants as C
 use Rattle.exchanges.specs.Places.{if}
 use Rattle.transactions.specs.Jobs.{job, jobAt, counted}
 use Rattle.machine.specs.Statements.{Arrays, arrays, Turn, turn, statement}

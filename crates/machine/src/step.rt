@@ -2,14 +2,13 @@
 ghost use mathlib.Core.Path.{_≡_};
 ghost use Rattle.transactions.specs.Jobs.{entries};
 ghost use Rattle.machine.specs.Statements.{arrays, turn, paired, plainTick, betweenTick, transactionTick, statement};
+use commands::Command;
+use commands::Decoded;
 use exchanges::exchange;
 use exchanges::exchange::Step;
 use exchanges::places;
 use exchanges::read;
 use exchanges::read::Reading;
-use sheet::commands;
-use sheet::commands::Command;
-use sheet::commands::Decoded;
 use transactions::job;
 use transactions::job::Inner;
 use transactions::job::Job;

@@ -8,10 +8,10 @@ use lib.ListN.{length, getD}
 use Rattle.model.specs.Command.{Block, Command, WORD, BLOCK, TASK, RELEASE, END, LOAD, ADD, READ, PAIR, SWAP, BEGIN, access, COMMIT, bigEndian, found, commandAt}
 use Rattle.model.specs.Fault.{Known}
 use Rattle.model.specs.Sheet.{Sheet, Declared, after, declared, verdict, accepted, sheetOf}
-use Rattle.sheet.specs.Stages.{valuesFrom}
+use Rattle.commands.specs.Stages.{valuesFrom}
 use Rattle.sheet.specs.Places.{ofBody, commandsAt}
 use Rattle.sheet.specs.WellFormed.{Stand, nothing, first, Faultless, unread, good, WellFormed}
-use Rattle.sheet.proofs.Decoding.{past-the-end}
+use Rattle.commands.proofs.Decoding.{past-the-end}
 use Rattle.sheet.proofs.Faults.{keeps}
 use Rattle.sheet.proofs.Reading.{next-after}
 use Rattle.sheet.proofs.Places.{declared-cons, declare-body, commands-found, commands-refused, commands-stand, declared-is, sheet-is}

@@ -11,7 +11,7 @@ use lib.ListN.{length, getD}
 use Rattle.model.specs.Refusal.{Refusal, noCommand, cutShort}
 use Rattle.model.specs.Command.{Row, table, rowOf, total, refused, foundWhole, foundRow, foundByte, commandAt}
 use Rattle.sheet.specs.WellFormed.{Missing, noRow, noByte, cut}
-use Rattle.sheet.proofs.Decoding as decoding
+use Rattle.commands.proofs.Decoding as decoding
 
 module _ (s : List ℕ) (p : ℕ) where
   pub is-refused-there : {f : Refusal} {q : ℕ} → Missing s p f q → commandAt s p ≡ refused f q

@@ -17,7 +17,7 @@ use Rattle.sheet.specs.Places.{ofBody, declaredAt, bodyAt, releasesAt, c
 use Rattle.sheet.specs.WellFormed.{Stand, nothing, first, Faultless, unread, good, WellFormed}
 use Rattle.sheet.specs.Indexed.{OnlyReleases, ReleasesStand, Indexed, emptyIndex, placeOr, counted, Room}
 use Rattle.sheet.specs.declared.index.Sheet.{Sheet}
-use Rattle.sheet.proofs.Decoding.{past-the-end, cases}
+use Rattle.commands.proofs.Decoding.{past-the-end, cases}
 use Rattle.sheet.proofs.Accepted.{accepted-when-well-formed}
 use Rattle.sheet.proofs.Faults.{keeps}
 use Rattle.sheet.proofs.Reading.{next-after}

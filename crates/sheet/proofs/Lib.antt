@@ -1,4 +1,3 @@
-pub mod Decoding
 pub mod Gaps
 pub mod Membership
 pub mod Faults

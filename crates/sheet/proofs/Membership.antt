@@ -11,7 +11,7 @@ use lib.ListN.{length, getD, take, drop, set, length-take, drop-of-length-le}
 use lib.Seq.{drop-cons, getD-take, take-suc-set}
 use Rattle.model.specs.Ceilings.{maxTouched, maxPuts}
 use Rattle.model.specs.Fault.{among, none?, room, include, includeBy}
-use Rattle.sheet.proofs.Decoding.{cases}
+use Rattle.commands.proofs.Decoding.{cases}
 
 module _ (x n : ℕ) (l : List ℕ) where
   within : (i : ℕ) → i < n → i < length l → i < length (take n l)

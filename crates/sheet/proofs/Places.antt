@@ -10,7 +10,7 @@ use Rattle.model.specs.Command.{Command, WORD, BLOCK, TASK, RELEASE, END, LOAD,
 use Rattle.model.specs.Sheet.{listed, commandsFrom, Declared, declares, inOpenBody, declare, declared, sheetOf}
 use Rattle.sheet.specs.Places.{commandsAt, declaredAt, bodyAt, ofBody}
 use Rattle.sheet.specs.WellFormed.{Stand, nothing, first}
-use Rattle.sheet.proofs.Decoding.{past-the-end}
+use Rattle.commands.proofs.Decoding.{past-the-end}
 use Rattle.sheet.proofs.Reading.{next-after}
 
 -- COMMANDS

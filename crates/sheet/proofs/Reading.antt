@@ -16,7 +16,7 @@ use Rattle.model.specs.Answer.{checkedBy, checkAnswer}
 use Rattle.sheet.specs.View.{viewVerdict, checkedOf}
 use Rattle.sheet.specs.declared.check.Verdict as Answer
 use Rattle.sheet.specs.declared.check.Verdict.the-variants.{Accepted, TurnedDown}
-use Rattle.sheet.proofs.Decoding.{past-the-end}
+use Rattle.commands.proofs.Decoding.{past-the-end}
 
 -- The reading has come to a place, with what is known there: the verdict from there on, at enough commands, is that of the sheet.
 pub record Reached (s : List ℕ) (at : ℕ) (k : Known) : Type 0 where

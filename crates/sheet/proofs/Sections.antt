@@ -11,9 +11,9 @@ use lib.ListN.{length, getD}
 use Rattle.model.specs.Command.{Block, Release, Command, GET, PUT, WORD, BLOCK, TASK, RELEASE, END, LOAD, ADD, READ, PAIR, SWAP, BEGIN, access, COMMIT, Row, table, rowBy, rowOf, total, operand, bigEndian, found, foundWhole, foundRow, foundByte, commandAt}
 use Rattle.model.specs.Fault.{Section, wordSection, blockSection, bodySection, releaseSection, words?, blocks?, body?, releases?, Known, inPlace}
 use Rattle.model.specs.Sheet.{end?}
-use Rattle.sheet.specs.Stages.{valuesFrom, rowFrom, operandsOf}
+use Rattle.commands.specs.Stages.{valuesFrom, rowFrom, operandsOf}
 use Rattle.sheet.specs.Places.{ofBody}
-use Rattle.sheet.proofs.Decoding.{word-operands, block-operands}
+use Rattle.commands.proofs.Decoding.{word-operands, block-operands}
 
 -- THE BYTE OF A COMMAND
 abbrev pub byteOf : Command → ℕ

@@ -14,9 +14,9 @@ use Rattle.sheet.specs.Indexed.{counted, Room}
 use Rattle.sheet.specs.declared.index.Sheet.{Sheet}
 use Rattle.sheet.proofs.Places.{body-found, body-over}
 use Rattle.sheet.proofs.Reading.{Reached, is-judged, next-reached}
-use Rattle.sheet.specs.View.{viewCommand}
-use Rattle.sheet.specs.declared.commands.Command.{Command}
-use Rattle.sheet.specs.declared.commands.Command.the-variants.{Word, Block, Task, Release, End, Load, Add, Read, Pair, Swap, Begin, Access, Commit}
+use Rattle.commands.specs.View.{viewCommand}
+use Rattle.commands.specs.declared.Command.{Command}
+use Rattle.commands.specs.declared.Command.the-variants.{Word, Block, Task, Release, End, Load, Add, Read, Pair, Swap, Begin, Access, Commit}
 
 module _ (vs : List ℕ) where
   pub fault-values : (k : Known) (c : Command) → faultOf k (viewCommand vs c) ≡ faultOf k (viewCommand [] c)

@@ -1,5 +1,5 @@
 pub mod View
-pub mod Stages
+pub mod Judgement
 pub mod WellFormed
 pub mod Places
 pub mod Indexed

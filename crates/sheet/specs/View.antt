@@ -4,19 +4,10 @@ use mathlib.Core.List.{List}
 use mathlib.Core.Option.{Option, none, some}
 use lib.ListN.{take}
 use Rattle.model.specs.Refusal as R
-use Rattle.model.specs.Command as M
 use Rattle.model.specs.Fault as F
 use Rattle.model.specs.Sheet as S
 use Rattle.model.specs.Answer.{Checked}
-use Rattle.sheet.specs.declared.commands.Refusal.{Refusal}
-use Rattle.sheet.specs.declared.commands.Refusal.the-variants.{NoCommand, CutShort, ByteAfterEnd, Misplaced, CeilingPassed, OutOfRange, WordRepeated, ReleasesNotRising, LimitTooHigh, BufferTooShort}
-use Rattle.sheet.specs.declared.commands.Release.{Release}
-use Rattle.sheet.specs.declared.commands.Access.{Access}
-use Rattle.sheet.specs.declared.commands.Access.the-variants.{Get, Put}
-use Rattle.sheet.specs.declared.commands.Command.{Command}
-use Rattle.sheet.specs.declared.commands.Command.the-variants as C
-use Rattle.sheet.specs.declared.commands.Decoded.{Decoded}
-use Rattle.sheet.specs.declared.commands.Decoded.the-variants.{Got, Refused}
+use Rattle.commands.specs.View.{viewRefusal, viewRelease}
 use Rattle.sheet.specs.declared.known.Section.{Section}
 use Rattle.sheet.specs.declared.known.Section.the-variants.{Words, Blocks, Bodies, Releases}
 use Rattle.sheet.specs.declared.known.Counts.{Counts}
@@ -27,45 +18,6 @@ use Rattle.sheet.specs.declared.rules.Flaw.{Flaw}
 use Rattle.sheet.specs.declared.rules.Flaw.the-variants.{None, Some}
 use Rattle.sheet.specs.declared.check.Verdict.{Verdict}
 use Rattle.sheet.specs.declared.check.Verdict.the-variants.{Accepted, TurnedDown}
-
-abbrev pub viewRefusal : Refusal → R.Refusal
-viewRefusal NoCommand = R.noCommand
-viewRefusal CutShort = R.cutShort
-viewRefusal ByteAfterEnd = R.byteAfterEnd
-viewRefusal Misplaced = R.misplaced
-viewRefusal CeilingPassed = R.ceilingPassed
-viewRefusal OutOfRange = R.outOfRange
-viewRefusal WordRepeated = R.wordRepeated
-viewRefusal ReleasesNotRising = R.releasesNotRising
-viewRefusal LimitTooHigh = R.limitTooHigh
-viewRefusal BufferTooShort = R.bufferTooShort
-
-abbrev pub viewRelease : Release → M.Release
-viewRelease r = record { tick = r .tick; task = r .task }
-
-abbrev pub viewAccess : Access → M.Access
-viewAccess (Get r b o) = M.GET r b o
-viewAccess (Put b o r) = M.PUT b o r
-
--- a command, with the eight values that lie beside a BLOCK
-abbrev pub viewCommand : List ℕ → Command → M.Command
-viewCommand vs (C.Word v) = M.WORD v
-viewCommand vs (C.Block version) = M.BLOCK (record { version = version; values = vs })
-viewCommand vs C.Task = M.TASK
-viewCommand vs (C.Release r) = M.RELEASE (viewRelease r)
-viewCommand vs C.End = M.END
-viewCommand vs (C.Load r v) = M.LOAD r v
-viewCommand vs (C.Add r q) = M.ADD r q
-viewCommand vs (C.Read r w) = M.READ r w
-viewCommand vs (C.Pair w o n) = M.PAIR w o n
-viewCommand vs (C.Swap r) = M.SWAP r
-viewCommand vs C.Begin = M.BEGIN
-viewCommand vs (C.Access a) = M.access (viewAccess a)
-viewCommand vs C.Commit = M.COMMIT
-
-abbrev pub viewDecoded : List ℕ → Decoded → M.Found
-viewDecoded vs (Got c next) = M.found (viewCommand vs c) next
-viewDecoded vs (Refused f) = M.refused (viewRefusal (f .refusal)) (f .place)
 
 -- WHAT IS KNOWN
 abbrev pub viewSection : Section → F.Section

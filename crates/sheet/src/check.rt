@@ -5,17 +5,17 @@ ghost use lib.Dec.{ltb};
 ghost use Rattle.model.specs.Sheet.{end?, atEnd};
 ghost use Rattle.model.specs.Sheet as whole;
 ghost use Rattle.model.specs.Answer.{checkAnswer};
-ghost use Rattle.sheet.specs.View.{viewCommand, viewKnown, viewVerdict, checkedOf};
-ghost use Rattle.sheet.specs.Stages.{JudgedSays};
-use crate::commands;
-use crate::commands::Command;
-use crate::commands::Decoded;
-use crate::commands::Fault;
-use crate::commands::Refusal;
+ghost use Rattle.commands.specs.View.{viewCommand};
+ghost use Rattle.sheet.specs.View.{viewKnown, viewVerdict, checkedOf};
+ghost use Rattle.sheet.specs.Judgement.{JudgedSays};
 use crate::known;
 use crate::known::Known;
 use crate::rules;
 use crate::rules::Flaw;
+use commands::Command;
+use commands::Decoded;
+use commands::Fault;
+use commands::Refusal;
 
 pub enum Verdict {
     Accepted,

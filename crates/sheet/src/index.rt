@@ -4,12 +4,11 @@ ghost use mathlib.Core.Path.{_≡_};
 ghost use mathlib.Core.List.{[]};
 ghost use lib.ListN.{getD};
 ghost use Rattle.model.specs.Sheet.{sheetOf, verdict, accepted};
-ghost use Rattle.sheet.specs.View.{viewCommand};
+ghost use Rattle.commands.specs.View.{viewCommand};
 ghost use lib.Dec.{eqb};
 ghost use Rattle.sheet.specs.Indexed.{Indexed, Room, counted, placeOr, emptyIndex, IsWord, IsBlock, noBlock};
-use crate::commands;
-use crate::commands::Command;
-use crate::commands::Decoded;
+use commands::Command;
+use commands::Decoded;
 
 pub struct Sheet {
     pub words: u8,

@@ -8,10 +8,11 @@ ghost use lib.ListN.{length, take};
 ghost use Rattle.model.specs.Ceilings.{maxTouched};
 ghost use Rattle.model.specs.Fault as rule;
 ghost use Rattle.model.specs.Sheet as next;
-ghost use Rattle.sheet.specs.View.{viewAccess, viewCommand, viewCounts, viewNumbers, viewBody, viewKnown};
-use crate::commands::Access;
-use crate::commands::Command;
-use crate::commands::Release;
+ghost use Rattle.commands.specs.View.{viewAccess, viewCommand};
+ghost use Rattle.sheet.specs.View.{viewCounts, viewNumbers, viewBody, viewKnown};
+use commands::Access;
+use commands::Command;
+use commands::Release;
 
 pub enum Section {
     Words,

@@ -1,6 +1,5 @@
-// The run sheet: its commands, and the check that gives the first fault in byte order.
+// The run sheet: the check that gives the first fault in byte order, and the index of an accepted sheet.
 pub mod check;
-pub mod commands;
 pub mod index;
 pub mod known;
 pub mod rules;

@@ -5,17 +5,18 @@ ghost use mathlib.Core.List.{[]};
 ghost use Prim.Native.Nat.{_≤_};
 ghost use Rattle.model.specs.Command.{access};
 ghost use Rattle.model.specs.Fault as rule;
-ghost use Rattle.sheet.specs.View.{viewRelease, viewAccess, viewCommand, viewSection, viewCounts, viewNumbers, viewBody, viewKnown, viewFlaw};
-use crate::commands::Access;
-use crate::commands::Command;
-use crate::commands::Refusal;
-use crate::commands::Release;
+ghost use Rattle.commands.specs.View.{viewRelease, viewAccess, viewCommand};
+ghost use Rattle.sheet.specs.View.{viewSection, viewCounts, viewNumbers, viewBody, viewKnown, viewFlaw};
 use crate::index::Sheet;
 use crate::known::Counts;
 use crate::known::Known;
 use crate::known::Numbers;
 use crate::known::Section;
 use crate::known::Task;
+use commands::Access;
+use commands::Command;
+use commands::Refusal;
+use commands::Release;
 
 // The first rule that a command breaks.
 pub enum Flaw {

@@ -55,7 +55,7 @@ fn answer(sheet: &[u8]) {
         }
         Verdict::TurnedDown(f) => {
             let refusal = f.refusal;
-            io::print_decimal(STDOUT_FILENO, sheet::commands::number(refusal) as u64);
+            io::print_decimal(STDOUT_FILENO, commands::number(refusal) as u64);
             io::write_all(STDOUT_FILENO, b" ");
             io::print_decimal(STDOUT_FILENO, f.place as u64);
         }

@@ -16,9 +16,9 @@ use Rattle.model.proofs.Lists.{length-replace}
 use Rattle.model.proofs.Fit.Transaction.{touched?, registerOf, offsetOf, put?}
 use Rattle.memory.specs.Rows.{row, rows}
 use Rattle.memory.proofs.Rows.{at-row, row-same, row-other, length-row}
-use Rattle.sheet.specs.View.{viewAccess}
-use Rattle.sheet.specs.declared.commands.Access.{Access}
-use Rattle.sheet.specs.declared.commands.Access.the-variants.{Get, Put}
+use Rattle.commands.specs.View.{viewAccess}
+use Rattle.commands.specs.declared.Access.{Access}
+use Rattle.commands.specs.declared.Access.the-variants.{Get, Put}
 use Rattle.exchanges.specs.Places.{if, nextOf, went}
 use Rattle.exchanges.specs.Reading.{afterReading}
 use Rattle.transactions.specs.Blocks.{bankOf, namedBlock}

@@ -14,9 +14,9 @@ use Rattle.model.proofs.Fit.Pass.{PassFit, first-command}
 use Rattle.model.proofs.Fit.TransactionTick.{at-work, put-first}
 use Rattle.memory.specs.Rows.{row}
 use Rattle.memory.proofs.Rows.{row-same, row-other}
-use Rattle.sheet.specs.View.{viewAccess}
-use Rattle.sheet.specs.declared.commands.Access.{Access}
-use Rattle.sheet.specs.declared.commands.Access.the-variants.{Get, Put}
+use Rattle.commands.specs.View.{viewAccess}
+use Rattle.commands.specs.declared.Access.{Access}
+use Rattle.commands.specs.declared.Access.the-variants.{Get, Put}
 use Rattle.transactions.specs.Jobs.{bodyCommand, movedTo, inPhase}
 use Rattle.machine.specs.Statements.{Arrays, turn, betweenBy}
 use Rattle.transactions.specs.declared.job.Inner.the-variants.{Between}

@@ -21,9 +21,9 @@ use Rattle.model.proofs.Fit.Pass.{PassFit}
 use Rattle.model.proofs.Fit.Ranges.{Value, ExchangeRange, TouchedRange, TransactionRange, PhaseRange}
 use Rattle.memory.specs.Rows.{row}
 use Rattle.memory.proofs.Rows.{at-row}
-use Rattle.sheet.specs.View.{viewAccess}
-use Rattle.sheet.specs.declared.commands.Access.{Access}
-use Rattle.sheet.specs.declared.commands.Access.the-variants.{Get, Put}
+use Rattle.commands.specs.View.{viewAccess}
+use Rattle.commands.specs.declared.Access.{Access}
+use Rattle.commands.specs.declared.Access.the-variants.{Get, Put}
 use Rattle.exchanges.specs.Reading.{afterReading}
 use Rattle.transactions.specs.Blocks.{bankOf, namedBlock}
 use Rattle.exchanges.specs.Exchange.{Left, afterExchange}

@@ -12,7 +12,7 @@ use Rattle.model.specs.Exchange as X
 use Rattle.model.specs.Job as J
 use Rattle.memory.specs.Packed.{unpack}
 use Rattle.memory.specs.Rows.{row, rows}
-use Rattle.sheet.specs.View.{viewAccess}
+use Rattle.commands.specs.View.{viewAccess}
 use Rattle.transactions.specs.Jobs.{Entries}
 use Rattle.exchanges.specs.declared.read.Reading.{Reading}
 use Rattle.exchanges.specs.declared.read.Reading.the-variants as Reading

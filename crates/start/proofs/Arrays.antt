@@ -16,7 +16,7 @@ use Rattle.model.proofs.Fit.Sheet.{SheetFit, noBlock, blockAt}
 use Rattle.model.proofs.Fit.Accepted.{accepted-fit}
 use Rattle.memory.specs.Packed.{unpack, packed}
 use Rattle.memory.specs.Rows.{row, rows}
-use Rattle.sheet.specs.Stages.{valuesFrom}
+use Rattle.commands.specs.Stages.{valuesFrom}
 use Rattle.sheet.specs.Indexed.{IsWord, IsBlock}
 use Rattle.sheet.proofs.Declared.{block-of, fits}
 use Rattle.start.specs.Start.{bankStart, bankBy, cellBy, cellStart, storedBy, storedStart}

@@ -79,7 +79,7 @@ fn stored_start(sheet: &[u8], n: Counts, i: usize) -> u32
     }
     let b = store - 4 * n.tasks;
     if b < n.blocks {
-        return sheet::commands::value4(sheet, 5 * n.words + 37 * b + 5 + 4 * (i % 8));
+        return commands::value4(sheet, 5 * n.words + 37 * b + 5 + 4 * (i % 8));
     }
     0
 }

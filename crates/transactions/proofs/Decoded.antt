@@ -2,9 +2,9 @@
 use mathlib.Core.Path.{_≡_, refl}
 use mathlib.Core.List.{List}
 use Prim.Native.Nat.{ℕ}
-use Rattle.sheet.specs.View.{viewCommand}
-use Rattle.sheet.specs.declared.commands.Command.{Command}
-use Rattle.sheet.specs.declared.commands.Command.the-variants as C
+use Rattle.commands.specs.View.{viewCommand}
+use Rattle.commands.specs.declared.Command.{Command}
+use Rattle.commands.specs.declared.Command.the-variants as C
 use Rattle.transactions.specs.Jobs.{isBody, bodyCommand}
 
 pub body-view : (vs : List ℕ) (c : Command) → bodyCommand (viewCommand vs c) ≡ isBody c

@@ -5,8 +5,8 @@ use mathlib.Core.List.{List}
 use Rattle.model.specs.Lists.{at, replace}
 use Rattle.model.specs.Command as M
 use Rattle.model.specs.Machine.{answer}
-use Rattle.sheet.specs.declared.commands.Command.{Command}
-use Rattle.sheet.specs.declared.commands.Command.the-variants as C
+use Rattle.commands.specs.declared.Command.{Command}
+use Rattle.commands.specs.declared.Command.the-variants as C
 use Rattle.memory.specs.Packed.{packed}
 use Rattle.exchanges.specs.Places.{if, Went, went}
 use Rattle.exchanges.specs.declared.read.Read.{Read}

@@ -5,16 +5,15 @@ ghost use Rattle.model.specs.Lists.{replace};
 ghost use Rattle.model.specs.Command.{commandAt};
 ghost use Rattle.exchanges.specs.Places.{went};
 ghost use Rattle.transactions.specs.Jobs.{isBody, inBody, jobAt, movedTo, inPhase, counted, added, copied, afterDone, answered, afterGiving, readBy, swapBy, entries, entered};
+use commands::Access;
+use commands::Command;
+use commands::Decoded;
 use exchanges::exchange::Exchanged;
 use exchanges::exchange::Step;
 use exchanges::places;
 use exchanges::read::Read;
 use exchanges::read::Reading;
 use memory::Word;
-use sheet::commands;
-use sheet::commands::Access;
-use sheet::commands::Command;
-use sheet::commands::Decoded;
 
 // The inner step of a transaction: between inner steps; in the first reading of a bank word; after n copied values;
 // in the second reading, with the value that GET fetched; in the exchange of COMMIT.

@@ -10,13 +10,13 @@ use crate::job;
 use crate::job::Inner;
 use crate::job::Job;
 use crate::job::Phase;
+use commands::Access;
 use exchanges::exchange::Exchanged;
 use exchanges::exchange::Step;
 use exchanges::places;
 use exchanges::read;
 use exchanges::read::Read;
 use exchanges::read::Reading;
-use sheet::commands::Access;
 
 // The cell of a block's bank word.
 pub fn bank(block: u8) -> usize

@@ -4,9 +4,9 @@ use Rattle.model.specs.Command.{commandAt, found}
 use Rattle.sheet.proofs.Faults.{keeps}
 use Rattle.sheet.proofs.Reading.{Reached, is-cut-short, is-refused, next-after, start}
 use Rattle.sheet.proofs.Values.{stopped, went-on}
-use Rattle.sheet.specs.Stages.{valuesFrom}
+use Rattle.commands.specs.Stages.{valuesFrom}
 use Rattle.sheet.specs.View.{viewKnown}
-use Rattle.sheet.specs.declared.commands.Decoded.the-variants.{Refused}
+use Rattle.commands.specs.declared.Decoded.the-variants.{Refused}
 use borrow.Author.Needs.{needs}
 use lib.ListN.{length}
 use mathlib.Core.Path.{_≡_, sym}

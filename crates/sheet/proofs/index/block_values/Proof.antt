@@ -3,7 +3,7 @@ use Prim.Native.Nat.{ℕ}
 use Rattle.model.specs.Command.{Block}
 use Rattle.sheet.proofs.Declared.{block-of, fits}
 use Rattle.sheet.specs.Indexed.{noBlock}
-use Rattle.sheet.specs.Stages.{valuesFrom}
+use Rattle.commands.specs.Stages.{valuesFrom}
 use mathlib.Core.Path.{_∙_, ap, sym}
 use native.Mathlib.Omega.{arith}
 use Rattle.sheet.proofs.index.block_values.Statement.{statement}

@@ -4,8 +4,8 @@ use Rattle.model.specs.Command.{commandAt, found}
 use Rattle.sheet.proofs.Indexing.{Walk, begin, finished, here, is-found, not-refused}
 use Rattle.sheet.proofs.Reading.{next-after}
 use Rattle.sheet.proofs.Values.{counted-values, room-values}
-use Rattle.sheet.specs.Stages.{valuesFrom}
-use Rattle.sheet.specs.declared.commands.Decoded.the-variants.{Refused}
+use Rattle.commands.specs.Stages.{valuesFrom}
+use Rattle.commands.specs.declared.Decoded.the-variants.{Refused}
 use borrow.Author.Needs.{needs}
 use lib.ListN.{length}
 use mathlib.Core.Path.{_≡_, sym}

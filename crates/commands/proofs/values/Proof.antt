@@ -1,8 +1,8 @@
 -- `values` meets its contract.
-use Rattle.sheet.proofs.Decoding.{block-values}
+use Rattle.commands.proofs.Decoding.{block-values}
 use borrow.Author.Needs.{needs}
-use Rattle.sheet.proofs.commands.values.Statement.{statement}
-use Rattle.sheet.proofs.commands.values.Tie as tie
+use Rattle.commands.proofs.values.Statement.{statement}
+use Rattle.commands.proofs.values.Tie as tie
 
 add-value4 : tie.Need-add-value4
 add-value4 c = search needs

@@ -11,9 +11,9 @@ use lib.Dec.{ltb, eqb}
 use lib.ListN.{length, getD}
 use Rattle.model.specs.Refusal.{cutShort, noCommand}
 use Rattle.model.specs.Command.{GET, PUT, WORD, BLOCK, TASK, RELEASE, END, LOAD, ADD, READ, PAIR, SWAP, BEGIN, access, COMMIT, Row, table, rowOf, total, bigEndian, found, refused, commandAt}
-use Rattle.sheet.specs.Stages.{indexOf, byteAt, widthAt, valuesFrom, operandsOf}
-use Rattle.sheet.specs.declared.commands.Index.{Index}
-use Rattle.sheet.specs.declared.commands.Index.the-variants.{At, Unknown}
+use Rattle.commands.specs.Stages.{indexOf, byteAt, widthAt, valuesFrom, operandsOf}
+use Rattle.commands.specs.declared.Index.{Index}
+use Rattle.commands.specs.declared.Index.the-variants.{At, Unknown}
 
 -- THE TABLE
 -- the byte has a row, and its operands take that many bytes

@@ -1,11 +1,11 @@
 -- `operands` meets its contract.
 use Rattle.model.specs.Command.{rowOf, table}
-use Rattle.sheet.proofs.Decoding.{begin-operands, block-operands, commit-operands, end-operands, get-operands, load-operands, no-operands, pair-operands, put-operands, read-operands, release-operands, sum-operands, swap-operands, task-operands, word-operands}
+use Rattle.commands.proofs.Decoding.{begin-operands, block-operands, commit-operands, end-operands, get-operands, load-operands, no-operands, pair-operands, put-operands, read-operands, release-operands, sum-operands, swap-operands, task-operands, word-operands}
 use borrow.Author.Tests.{ne-eqb}
 use mathlib.Core.Path.{sym}
 use borrow.Author.Needs.{needs}
-use Rattle.sheet.proofs.commands.operands.Statement.{statement}
-use Rattle.sheet.proofs.commands.operands.Tie as tie
+use Rattle.commands.proofs.operands.Statement.{statement}
+use Rattle.commands.proofs.operands.Tie as tie
 
 value4-requires : tie.Need-value4-requires
 value4-requires c κs = search needs

@@ -3,8 +3,8 @@ use Rattle.model.specs.Command.{bigEndian}
 use native.Mathlib.Nat.{add-zero}
 use native.Mathlib.Omega.{arith}
 use borrow.Author.Needs.{needs}
-use Rattle.sheet.proofs.commands.value4.Statement.{statement}
-use Rattle.sheet.proofs.commands.value4.Tie as tie
+use Rattle.commands.proofs.value4.Statement.{statement}
+use Rattle.commands.proofs.value4.Tie as tie
 
 byte-requires : tie.Need-byte-requires
 byte-requires c κs = search needs

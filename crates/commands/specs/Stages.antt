@@ -1,5 +1,4 @@
--- The stages of the reading, each a part of the model's: the row of a byte, the byte at a place, the operands of a byte, the
--- judgement of a command.
+-- The stages of the decoding, each a part of the model's: the row of a byte, the byte at a place, the operands of a byte.
 use Prim.Native.Nat.{ℕ, suc, _+_, _-_, _<_}
 use mathlib.Core.Path.{_≡_}
 use mathlib.Core.Bool.{Bool, true, false}
@@ -8,17 +7,13 @@ use mathlib.Core.Option.{Option, none, some}
 use lib.Dec.{ltb, leb}
 use lib.ListN.{length, getD}
 use Rattle.model.specs.Refusal.{noCommand}
-use Rattle.model.specs.Command.{Command, blockOf, Row, table, rowOf, total, operand, Found, found, refused, commandAt}
-use Rattle.model.specs.Fault.{Known, faultOf}
-use Rattle.model.specs.Sheet.{Verdict, end?, judgeFault}
-use Rattle.sheet.specs.View.{viewRefusal, viewVerdict}
-use Rattle.sheet.specs.declared.commands.Entry.{Entry}
-use Rattle.sheet.specs.declared.commands.Index.{Index}
-use Rattle.sheet.specs.declared.commands.Index.the-variants.{At, Unknown}
-use Rattle.sheet.specs.declared.commands.Opcode.{Opcode}
-use Rattle.sheet.specs.declared.commands.Opcode.the-variants as opcode
-use Rattle.sheet.specs.declared.check.Judged.{Judged}
-use Rattle.sheet.specs.declared.check.Judged.the-variants.{Stops, Goes}
+use Rattle.model.specs.Command.{blockOf, Row, table, rowOf, total, operand, Found, found, refused, commandAt}
+use Rattle.commands.specs.View.{viewRefusal}
+use Rattle.commands.specs.declared.Entry.{Entry}
+use Rattle.commands.specs.declared.Index.{Index}
+use Rattle.commands.specs.declared.Index.the-variants.{At, Unknown}
+use Rattle.commands.specs.declared.Opcode.{Opcode}
+use Rattle.commands.specs.declared.Opcode.the-variants as opcode
 
 abbrev pub pick : {A : Type 0} → Bool → A → A → A
 pick true a b = a
@@ -81,8 +76,3 @@ operandsOf s p b = rowFrom s p (rowOf b table)
 abbrev pub ByteSays : List ℕ → ℕ → Opcode → Type 0
 ByteSays s at (opcode.Refused f) = commandAt s at ≡ refused (viewRefusal (f .refusal)) (f .place)
 ByteSays s at (opcode.Known b) = (at < length s) × (commandAt s at ≡ operandsOf s (suc at) b)
-
--- what is said of a command at a place: the reading stops with a verdict whatever follows, or the command is good and not END
-abbrev pub JudgedSays : List ℕ → ℕ → Known → Command → ℕ → Judged → Type 0
-JudgedSays s at k c next (Stops v) = (go : ℕ → Known → Verdict) → judgeFault go s at k c next (faultOf k c) ≡ viewVerdict v
-JudgedSays s at k c next Goes = (faultOf k c ≡ none) × (end? c ≡ false)

@@ -4,8 +4,8 @@ ghost use Prim.Native.Nat.{suc, _+_, _≤_, _<_};
 ghost use lib.ListN.{length, getD};
 ghost use Rattle.model.specs.Command.{bigEndian, commandAt};
 ghost use Rattle.model.specs.Refusal.{number};
-ghost use Rattle.sheet.specs.View.{viewRefusal, viewDecoded};
-ghost use Rattle.sheet.specs.Stages.{indexOf, widthAt, ByteSays, operandsOf, valuesFrom};
+ghost use Rattle.commands.specs.View.{viewRefusal, viewDecoded};
+ghost use Rattle.commands.specs.Stages.{indexOf, widthAt, ByteSays, operandsOf, valuesFrom};
 
 pub struct Release {
     pub tick: u16,

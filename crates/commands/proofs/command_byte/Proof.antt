@@ -1,13 +1,13 @@
 -- `command_byte` meets its contract.
-use Rattle.sheet.proofs.Decoding.{cut, index-says, no-row, past-the-end, whole}
-use Rattle.sheet.specs.Stages.{indexOf}
-use Rattle.sheet.specs.declared.commands.Index.the-variants.{At, Unknown}
+use Rattle.commands.proofs.Decoding.{cut, index-says, no-row, past-the-end, whole}
+use Rattle.commands.specs.Stages.{indexOf}
+use Rattle.commands.specs.declared.Index.the-variants.{At, Unknown}
 use lib.ListN.{getD}
 use mathlib.Core.Path.{_≡_}
 use native.Mathlib.Omega.{arith}
 use borrow.Author.Needs.{needs}
-use Rattle.sheet.proofs.commands.command_byte.Statement.{statement}
-use Rattle.sheet.proofs.commands.command_byte.Tie as tie
+use Rattle.commands.proofs.command_byte.Statement.{statement}
+use Rattle.commands.proofs.command_byte.Tie as tie
 
 returns : tie.Need-returns
 returns c = past-the-end _ _ (c .if1 .taken)

@@ -1,11 +1,11 @@
 -- `decode` meets its contract.
-use Rattle.sheet.specs.declared.commands.Opcode.the-variants.{Known, Refused}
+use Rattle.commands.specs.declared.Opcode.the-variants.{Known, Refused}
 use mathlib.Core.Path.{_∙_, _≡_, sym}
 use native.Mathlib.Numerals.{add-one}
 use native.Mathlib.Omega.{arith}
 use borrow.Author.Needs.{needs}
-use Rattle.sheet.proofs.commands.decode.Statement.{statement}
-use Rattle.sheet.proofs.commands.decode.Tie as tie
+use Rattle.commands.proofs.decode.Statement.{statement}
+use Rattle.commands.proofs.decode.Tie as tie
 
 command-byte-requires : tie.Need-command-byte-requires
 command-byte-requires c κs = search needs

@@ -2,8 +2,8 @@
 use lib.ListN.{List·getD-eq-default}
 use mathlib.Core.Path.{sym}
 use borrow.Author.Needs.{needs}
-use Rattle.sheet.proofs.commands.byte.Statement.{statement}
-use Rattle.sheet.proofs.commands.byte.Tie as tie
+use Rattle.commands.proofs.byte.Statement.{statement}
+use Rattle.commands.proofs.byte.Tie as tie
 
 shared-slice-read-result : tie.Need-shared-slice-read-result
 shared-slice-read-result c = search needs

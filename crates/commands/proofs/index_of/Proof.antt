@@ -1,10 +1,10 @@
 -- `index_of` meets its contract.
-use Rattle.sheet.specs.Stages.{indexOf}
+use Rattle.commands.specs.Stages.{indexOf}
 use borrow.Author.Tests.{le-leb, le-ltb, lt-leb, lt-ltb}
 use native.Mathlib.Omega.{arith}
 use borrow.Author.Needs.{needs}
-use Rattle.sheet.proofs.commands.index_of.Statement.{statement}
-use Rattle.sheet.proofs.commands.index_of.Tie as tie
+use Rattle.commands.proofs.index_of.Statement.{statement}
+use Rattle.commands.proofs.index_of.Tie as tie
 
 cast-t5 : tie.Need-cast-t5
 cast-t5 c = search needs
