@@ -7,7 +7,8 @@ use mathlib.Core.Option.{Option, none, some}
 use native.Mathlib.Omega.{arith}
 use borrow.Author.Tests.{leb-true}
 use lib.Dec.{eqb, ltb, leb}
-use lib.ListN.{length, getD, set}
+use lib.ListN.{length, getD, set, replicate}
+use lib.Seq.{set-getD, set-set, getD-set-same}
 use Rattle.model.specs.Lists.{at}
 use Rattle.model.specs.Command as M
 use Rattle.model.proofs.Lists.{test?}
@@ -15,47 +16,70 @@ use Rattle.commands.specs.View.{viewCommand}
 use Rattle.commands.specs.declared.Command.{Command}
 use Rattle.commands.specs.declared.Command.the-variants as C
 use Rattle.machine.specs.Statements.{Arrays, turn, statement}
-use Rattle.machine.specs.World.{unfinishedJob, dueBy, comingBy, comingAt, stopsBy, topOf, droppedBy, begunBy, zeroedBy, startedBy, leftBy, tickedBy, World, world, noJob, withRegisters, withCounts, released, ticked, comingIn, Ends, stopped, releases, ticks}
+use Rattle.machine.specs.World.{unfinishedJob, pendingBy, pendingAt, dueBy, comingBy, stopsBy, topOf, startWorld, droppedBy, begunBy, zeroedBy, startedBy, leftBy, tickedBy, World, world, noJob, withRegisters, withCounts, released, ticked, comingIn, Ends, stopped, releases, ticks}
+use Rattle.transactions.specs.Jobs.{jobAt}
+use Rattle.transactions.specs.declared.job.Phase.the-variants as P
 use Rattle.transactions.specs.declared.job.Job.{Job}
 use Rattle.machine.specs.declared.run.Coming.{Coming}
 use Rattle.machine.specs.declared.run.Coming.the-variants.{Nothing, Later, Due}
 
-pub coming-view : (vs : List ℕ) (c : Command) (next tick : ℕ) → comingAt tick (M.found (viewCommand vs c) next) ≡ comingBy c next tick
-coming-view vs (C.Word v) next tick = refl
-coming-view vs (C.Block v) next tick = refl
-coming-view vs C.Task next tick = refl
-coming-view vs (C.Release r) next tick = refl
-coming-view vs C.End next tick = refl
-coming-view vs (C.Load r v) next tick = refl
-coming-view vs (C.Add r q) next tick = refl
-coming-view vs (C.Read r w) next tick = refl
-coming-view vs (C.Pair w o n) next tick = refl
-coming-view vs (C.Swap r) next tick = refl
-coming-view vs C.Begin next tick = refl
-coming-view vs (C.Access a) next tick = refl
-coming-view vs C.Commit next tick = refl
+pub pending-view : (vs : List ℕ) (c : Command) (next : ℕ) → pendingAt (M.found (viewCommand vs c) next) ≡ pendingBy c next
+pending-view vs (C.Word v) next = refl
+pending-view vs (C.Block v) next = refl
+pending-view vs C.Task next = refl
+pending-view vs (C.Release r) next = refl
+pending-view vs C.End next = refl
+pending-view vs (C.Load r v) next = refl
+pending-view vs (C.Add r q) next = refl
+pending-view vs (C.Read r w) next = refl
+pending-view vs (C.Pair w o n) next = refl
+pending-view vs (C.Swap r) next = refl
+pending-view vs C.Begin next = refl
+pending-view vs (C.Access a) next = refl
+pending-view vs C.Commit next = refl
 
-module _ (bodies : List ℕ) (a : Arrays) (jobs : List Job) (m r t d task next : ℕ) where
-  pub release-world : {p i m' d' body : ℕ} {rs : List ℕ} {j : Job}
-      → p ≡ task % 8 → i ≡ p
-      → d' ≡ droppedBy (unfinishedJob (getD jobs i noJob .phase)) d
-      → m' ≡ begunBy (unfinishedJob (getD jobs i noJob .phase)) m i
-      → rs ≡ zeroedBy (unfinishedJob (getD jobs i noJob .phase)) (a .registers) p
+-- one turn more of the loop while the highest task is not the one at hand
+abbrev pub apart : Bool → ℕ
+apart true = 0
+apart false = 1
+
+pub apart-most : (b : Bool) → apart b ≤ 1
+apart-most true = omega arith
+apart-most false = omega arith
+
+-- The job k of the task at hand is held beside the others; the world has it in its place.
+module _ (sheet bodies : List ℕ) (limit : ℕ) (w v : World) where
+  pub same-world : v ≡ w → (u : World) → Ends sheet bodies limit v u → Ends sheet bodies limit w u
+  same-world e u r = subst (λ (x : World). Ends sheet bodies limit x u) e r
+
+pub start-world : (a : Arrays) (r : ℕ) (k : Job) → k ≡ jobAt P.Idle 0 0 → world a (set (replicate 8 noJob) 0 k) 0 r 0 0 ≡ startWorld a r
+start-world a r k e = rw e
+
+module _ (bodies : List ℕ) (a : Arrays) (jobs : List Job) (k : Job) (m r t d task next : ℕ) where
+  pub release-turn : {q x p i m' d' body : ℕ} {rs : List ℕ} {j : Job}
+      → x ≡ q → p ≡ task % 8 → i ≡ p
+      → d' ≡ droppedBy (unfinishedJob (getD (set jobs x k) i noJob .phase)) d
+      → m' ≡ begunBy (unfinishedJob (getD (set jobs x k) i noJob .phase)) m i
+      → rs ≡ zeroedBy (unfinishedJob (getD (set jobs x k) i noJob .phase)) (a .registers) p
       → body ≡ at 0 bodies i
-      → j ≡ startedBy (unfinishedJob (getD jobs i noJob .phase)) (getD jobs i noJob) body
-      → world (withRegisters a rs) (set jobs i j) m' next t d' ≡ released bodies (world a jobs m r t d) task next
+      → j ≡ startedBy (unfinishedJob (getD (set jobs x k) i noJob .phase)) (getD (set jobs x k) i noJob) body
+      → world (withRegisters a rs) (set (set jobs x k) p j) m' next t d' ≡ released bodies (world a (set jobs q k) m r t d) task next
   unfolding released
-  release-world e1 e2 e3 e4 e5 e6 e7 = rw (e3, e4, e5, e7, e6, e2, e1)
+  release-turn e0 e1 e2 e3 e4 e5 e6 e7 = rw (e3, e4, e5, e7, e6, e2, e1, e0)
 
-module _ (sheet : List ℕ) (a b : Arrays) (jobs : List Job) (m r t d : ℕ) (s : Job) where
-  pub tick-world : {p i m' : ℕ} {cs : List ℕ}
-      → p ≡ topOf 8 m → i ≡ p
-      → turn s b ≡ statement sheet a p (getD jobs i noJob) (getD jobs i noJob .phase)
-      → m' ≡ leftBy (unfinishedJob (getD jobs i noJob .phase)) (unfinishedJob (s .phase)) m i
-      → cs ≡ tickedBy (unfinishedJob (getD jobs i noJob .phase)) (b .counts) p
-      → world (withCounts b cs) (set jobs i s) m' r (t + 1) d ≡ ticked sheet (world a jobs m r t d)
+module _ (a : Arrays) (jobs : List Job) (k : Job) (m r t d p q x y : ℕ) where
+  pub switched : x ≡ p → y ≡ q → world a (set (set jobs x k) q (getD (set jobs x k) y noJob)) m r t d ≡ world a (set jobs p k) m r t d
+  switched e1 e2 = rw (e1, e2, set-getD (set jobs p k) q noJob)
+
+module _ (sheet : List ℕ) (a b : Arrays) (jobs : List Job) (k s : Job) (m r t d p : ℕ) where
+  pub tick-turn : {h i m' : ℕ} {cs : List ℕ}
+      → h ≡ topOf 8 m → h ≡ p → i ≡ p → p < length jobs
+      → turn s b ≡ statement sheet a p k (k .phase)
+      → m' ≡ leftBy (unfinishedJob (k .phase)) (unfinishedJob (s .phase)) m i
+      → cs ≡ tickedBy (unfinishedJob (k .phase)) (b .counts) p
+      → world (withCounts b cs) (set jobs p s) m' r (t + 1) d ≡ ticked sheet (world a (set jobs p k) m r t d)
   unfolding ticked
-  tick-world e1 e2 e3 e4 e5 = rw (e4, e5, e2, ← e1, ← (rw e2 at e3))
+  tick-turn e1 e2 e3 lt e4 e5 e6 = rw (e5, e6, e3, sym e1 ∙ e2, getD-set-same jobs p k noJob lt, ← e4, set-set jobs p k s)
 
 -- a command found lies within the sheet
 module _ (sheet : List ℕ) (place : ℕ) (c : M.Command) (next : ℕ) where
@@ -80,7 +104,7 @@ module _ (sheet : List ℕ) (place : ℕ) (c : M.Command) (next : ℕ) where
       byte false q = let z : _≡_ {A = ℕ} 0 1 = cc in (omega arith, omega arith)
 
 -- a release due now is a command found
-pub due-within : (sheet : List ℕ) (place tick task next : ℕ) → comingAt tick (M.commandAt sheet place) ≡ Due task next → (place < next) × (next ≤ length sheet)
+pub due-within : (sheet : List ℕ) (place tick task next : ℕ) → comingBy (pendingAt (M.commandAt sheet place)) tick ≡ Due task next → (place < next) × (next ≤ length sheet)
 due-within sheet place tick task next e = go (M.commandAt sheet place) refl e
   where
     no : {P : Type 0} → Nothing ≡ Due task next → P
@@ -90,7 +114,7 @@ due-within sheet place tick task next e = go (M.commandAt sheet place) refl e
     same true n q e = cc
     same false n q e = let z : _≡_ {A = ℕ} 0 1 = cc in absurd (omega arith)
 
-    go : (f : M.Found) → M.commandAt sheet place ≡ f → comingAt tick f ≡ Due task next → (place < next) × (next ≤ length sheet)
+    go : (f : M.Found) → M.commandAt sheet place ≡ f → comingBy (pendingAt f) tick ≡ Due task next → (place < next) × (next ≤ length sheet)
     go (M.refused f p) q e = no e
     go (M.found (M.RELEASE r) n) q e =
         let here = found-within sheet place (M.RELEASE r) n q in

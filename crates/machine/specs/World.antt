@@ -15,6 +15,7 @@ use Rattle.machine.specs.Statements.{Arrays, arrays, Turn, turn, stateme
 use Rattle.transactions.specs.declared.job.Phase.{Phase}
 use Rattle.transactions.specs.declared.job.Phase.the-variants as P
 use Rattle.transactions.specs.declared.job.Job.{Job}
+use Rattle.machine.specs.declared.run.Pending.{Pending}
 use Rattle.machine.specs.declared.run.Coming.{Coming}
 use Rattle.machine.specs.declared.run.Coming.the-variants.{Nothing, Later, Due}
 use Rattle.machine.specs.declared.run.Ended.{Ended}
@@ -27,40 +28,54 @@ unfinishedJob (P.Exchange r s) = true
 unfinishedJob (P.Transaction s) = true
 
 -- the next release, by the command at the place where releases are read
+abbrev pub noRelease : Pending
+noRelease = record { some = false; tick = 0; task = 0; after = 0 }
+
+abbrev pub releaseAfter : ℕ → ℕ → ℕ → Pending
+releaseAfter tick task next = record { some = true; tick = tick; task = task; after = next }
+
+abbrev pub pendingBy : Command → ℕ → Pending
+pendingBy (C.Word v) next = noRelease
+pendingBy (C.Block v) next = noRelease
+pendingBy C.Task next = noRelease
+pendingBy (C.Release r) next = releaseAfter (r .tick) (r .task) next
+pendingBy C.End next = noRelease
+pendingBy (C.Load r v) next = noRelease
+pendingBy (C.Add r q) next = noRelease
+pendingBy (C.Read r w) next = noRelease
+pendingBy (C.Pair w o n) next = noRelease
+pendingBy (C.Swap r) next = noRelease
+pendingBy C.Begin next = noRelease
+pendingBy (C.Access a) next = noRelease
+pendingBy C.Commit next = noRelease
+
+abbrev pub pendingAt : M.Found → Pending
+pendingAt (M.refused f place) = noRelease
+pendingAt (M.found (M.RELEASE r) next) = releaseAfter (r .tick) (r .task) next
+pendingAt (M.found (M.WORD v) next) = noRelease
+pendingAt (M.found (M.BLOCK b) next) = noRelease
+pendingAt (M.found M.TASK next) = noRelease
+pendingAt (M.found M.END next) = noRelease
+pendingAt (M.found (M.LOAD r v) next) = noRelease
+pendingAt (M.found (M.ADD r q) next) = noRelease
+pendingAt (M.found (M.READ r w) next) = noRelease
+pendingAt (M.found (M.PAIR w o n) next) = noRelease
+pendingAt (M.found (M.SWAP r) next) = noRelease
+pendingAt (M.found M.BEGIN next) = noRelease
+pendingAt (M.found (M.access a) next) = noRelease
+pendingAt (M.found M.COMMIT next) = noRelease
+
+-- whether it is due at a tick
 abbrev pub dueBy : Bool → ℕ → ℕ → Coming
 dueBy true task next = Due task next
 dueBy false task next = Later
 
-abbrev pub comingBy : Command → ℕ → ℕ → Coming
-comingBy (C.Word v) next tick = Nothing
-comingBy (C.Block v) next tick = Nothing
-comingBy C.Task next tick = Nothing
-comingBy (C.Release r) next tick = dueBy (eqb (r .tick) tick) (r .task) next
-comingBy C.End next tick = Nothing
-comingBy (C.Load r v) next tick = Nothing
-comingBy (C.Add r q) next tick = Nothing
-comingBy (C.Read r w) next tick = Nothing
-comingBy (C.Pair w o n) next tick = Nothing
-comingBy (C.Swap r) next tick = Nothing
-comingBy C.Begin next tick = Nothing
-comingBy (C.Access a) next tick = Nothing
-comingBy C.Commit next tick = Nothing
+abbrev pub comingFor : Bool → Pending → ℕ → Coming
+comingFor true q tick = dueBy (eqb (q .tick) tick) (q .task) (q .after)
+comingFor false q tick = Nothing
 
-abbrev pub comingAt : ℕ → M.Found → Coming
-comingAt tick (M.refused f place) = Nothing
-comingAt tick (M.found (M.RELEASE r) next) = dueBy (eqb (r .tick) tick) (r .task) next
-comingAt tick (M.found (M.WORD v) next) = Nothing
-comingAt tick (M.found (M.BLOCK b) next) = Nothing
-comingAt tick (M.found M.TASK next) = Nothing
-comingAt tick (M.found M.END next) = Nothing
-comingAt tick (M.found (M.LOAD r v) next) = Nothing
-comingAt tick (M.found (M.ADD r q) next) = Nothing
-comingAt tick (M.found (M.READ r w) next) = Nothing
-comingAt tick (M.found (M.PAIR w o n) next) = Nothing
-comingAt tick (M.found (M.SWAP r) next) = Nothing
-comingAt tick (M.found M.BEGIN next) = Nothing
-comingAt tick (M.found (M.access a) next) = Nothing
-comingAt tick (M.found M.COMMIT next) = Nothing
+abbrev pub comingBy : Pending → ℕ → Coming
+comingBy q tick = comingFor (q .some) q tick
 
 abbrev pub stopsBy : Coming → ℕ → Bool
 stopsBy Nothing mask = eqb mask 0
@@ -160,7 +175,7 @@ unfoldable pub ticked : List ℕ → World → World
 ticked sheet w = tickedFor sheet w (topOf 8 (w .mask)) (jobOf w (topOf 8 (w .mask)))
 
 abbrev pub comingIn : List ℕ → World → Coming
-comingIn sheet w = comingAt (w .ticks) (M.commandAt sheet (w .place))
+comingIn sheet w = comingBy (pendingAt (M.commandAt sheet (w .place))) (w .ticks)
 
 -- the run from one world ends in another
 pub data Ends (sheet bodies : List ℕ) (limit : ℕ) : World → World → Type 0 where

@@ -3,7 +3,7 @@ ghost use mathlib.Core.Path.{_≡_};
 ghost use Prim.Native.Nat.{_+_, _*_, _-_, _^_, _%_, _<_, _≤_};
 ghost use Rattle.model.specs.Command.{commandAt};
 ghost use Rattle.machine.specs.Statements.{arrays};
-ghost use Rattle.machine.specs.World.{unfinishedJob, comingBy, comingAt, stopsBy, topOf, droppedBy, begunBy, zeroed, zeroedBy, startedBy, leftBy, tickedBy, Finished};
+ghost use Rattle.machine.specs.World.{unfinishedJob, noRelease, pendingBy, pendingAt, comingBy, stopsBy, topOf, droppedBy, begunBy, zeroed, zeroedBy, startedBy, leftBy, tickedBy, Finished};
 use crate::step;
 use commands::Command;
 use commands::Decoded;
@@ -12,7 +12,15 @@ use transactions::job;
 use transactions::job::Job;
 use transactions::job::Phase;
 
-// The next release: none, one of a later tick, or one due now, with its task and the place after it.
+// The next release, decoded once: whether there is one, its tick and task, and the place after it.
+pub struct Pending {
+    pub some: bool,
+    pub tick: u32,
+    pub task: u8,
+    pub after: usize,
+}
+
+// The next release at a tick: none, one of a later tick, or one due now, with its task and the place after it.
 pub enum Coming {
     Nothing,
     Later,
@@ -47,60 +55,82 @@ fn unfinished(phase: Phase) -> bool
     }
 }
 
-fn release_by(command: Command, next: usize, tick: u32) -> Coming
-    ensures { λ r. ⌜ r ≡ comingBy command next tick ⌝ }
+fn no_release() -> Pending
+    ensures { λ r. ⌜ r ≡ noRelease ⌝ }
+{
+    Pending {
+        some: false,
+        tick: 0,
+        task: 0,
+        after: 0,
+    }
+}
+
+fn pending_by(command: Command, next: usize) -> Pending
+    ensures { λ r. ⌜ r ≡ pendingBy command next ⌝ }
 {
     match command {
-        Command::Word(_) => Coming::Nothing,
-        Command::Block(_) => Coming::Nothing,
-        Command::Task => Coming::Nothing,
-        Command::Release(release) => {
-            let at = release.tick;
-            if places::half(at) == tick {
-                return Coming::Due(release.task, next);
-            }
-            return Coming::Later;
-        }
-        Command::End => Coming::Nothing,
+        Command::Word(_) => no_release(),
+        Command::Block(_) => no_release(),
+        Command::Task => no_release(),
+        Command::Release(release) => Pending {
+            some: true,
+            tick: places::half(release.tick),
+            task: release.task,
+            after: next,
+        },
+        Command::End => no_release(),
         Command::Load {
             register: _,
             value: _,
-        } => Coming::Nothing,
+        } => no_release(),
         Command::Add {
             register: _,
             other: _,
-        } => Coming::Nothing,
+        } => no_release(),
         Command::Read {
             register: _,
             word: _,
-        } => Coming::Nothing,
+        } => no_release(),
         Command::Pair {
             word: _,
             old: _,
             new: _,
-        } => Coming::Nothing,
-        Command::Swap(_) => Coming::Nothing,
-        Command::Begin => Coming::Nothing,
-        Command::Access(_) => Coming::Nothing,
-        Command::Commit => Coming::Nothing,
+        } => no_release(),
+        Command::Swap(_) => no_release(),
+        Command::Begin => no_release(),
+        Command::Access(_) => no_release(),
+        Command::Commit => no_release(),
     }
 }
 
-fn next_release(sheet: &[u8], place: usize, tick: u32) -> Coming
-    ensures { λ r. ⌜ r ≡ comingAt tick (commandAt (now (sheet .entry)) place) ⌝ }
+fn pending_at(sheet: &[u8], place: usize) -> Pending
+    ensures { λ r. ⌜ r ≡ pendingAt (commandAt (now (sheet .entry)) place) ⌝ }
 {
     let decoded = commands::decode(sheet, place);
     match decoded {
-        Decoded::Got(command, next) => release_by(command, next, tick),
-        Decoded::Refused(_) => Coming::Nothing,
+        Decoded::Got(command, next) => pending_by(command, next),
+        Decoded::Refused(_) => no_release(),
     }
 }
 
-// No job is unfinished and no release is to come.
-fn stops(coming: Coming, mask: u32) -> bool
-    ensures { λ r. ⌜ r ≡ stopsBy coming mask ⌝ }
+fn coming_at(next: Pending, tick: u32) -> Coming
+    ensures { λ r. ⌜ r ≡ comingBy next tick ⌝ }
 {
-    match coming {
+    if next.some {
+        if next.tick == tick {
+            return Coming::Due(next.task, next.after);
+        }
+        return Coming::Later;
+    }
+    Coming::Nothing
+}
+
+// No job is unfinished and no release is to come.
+fn stops(release: Coming, mask: u32) -> bool
+    ensures { λ r. ⌜ r ≡ stopsBy release mask ⌝ }
+{
+    match release {
         Coming::Nothing => mask == 0,
         Coming::Later => false,
         Coming::Due(_, _) => false,
@@ -236,33 +266,43 @@ pub fn run(
         pairs: 0,
         used: 0,
     }; 8];
+    // The job of task p, which ran last, is held apart, and goes back when another task runs.
+    let mut p: u8 = 0;
+    let mut job = job::job_at(Phase::Idle, 0, 0);
     let mut mask: u32 = 0;
     let mut place = releases;
+    let mut next = pending_at(sheet, place);
     let mut tick: u32 = 0;
     let mut dropped: u32 = 0;
     while tick < limit {
-        let next = next_release(sheet, place, tick);
-        if let Coming::Due(task, after) = next {
-            let p = places::octal(task);
+        let release = coming_at(next, tick);
+        if let Coming::Due(task, after) = release {
+            jobs[places::wide(p)] = job;
+            p = places::octal(task);
             let i = places::wide(p);
-            let job = jobs[i];
-            let phase = job.phase;
+            let found = jobs[i];
+            let phase = found.phase;
             dropped = drop_by(dropped, phase);
             mask = begun(mask, i, phase);
             zero_by(&mut *registers, p, phase);
-            jobs[i] = started(job, memory::usize_at(bodies, i));
+            job = started(found, memory::usize_at(bodies, i));
             place = after;
+            next = pending_at(sheet, place);
             continue;
         }
-        if stops(next, mask) {
+        if stops(release, mask) {
             return Ended {
                 ticks: tick,
                 dropped: dropped,
             };
         }
-        let p = top(mask);
-        let i = places::wide(p);
-        let job = jobs[i];
+        let highest = top(mask);
+        if highest != p {
+            jobs[places::wide(p)] = job;
+            p = highest;
+            job = jobs[places::wide(p)];
+            continue;
+        }
         let before = job.phase;
         let done = step::step(
             sheet,
@@ -285,9 +325,9 @@ pub fn run(
             job,
         );
         let after = done.phase;
-        mask = left(mask, i, before, after);
+        mask = left(mask, places::wide(p), before, after);
         used(&mut *counts, p, before);
-        jobs[i] = done;
+        job = done;
         tick += 1;
     }
     Ended {

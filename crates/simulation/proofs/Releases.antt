@@ -10,7 +10,7 @@ use borrow.Author.Tests.{eqb-true}
 use Rattle.model.specs.Refusal.{Refusal}
 use Rattle.model.specs.Command.{Release, Command, WORD, BLOCK, TASK, RELEASE, END, LOAD, ADD, READ, PAIR, SWAP, BEGIN, access, COMMIT, Found, found, refused, commandAt}
 use Rattle.model.specs.Sheet.{listed, commandsFrom}
-use Rattle.machine.specs.World.{dueBy, comingAt}
+use Rattle.machine.specs.World.{pendingAt, dueBy, comingBy}
 use Rattle.machine.specs.declared.run.Coming.{Coming}
 use Rattle.machine.specs.declared.run.Coming.the-variants.{Nothing, Later, Due}
 use Rattle.simulation.proofs.Body.{enough}
@@ -71,14 +71,14 @@ module _ (sheet : List ℕ) (place : ℕ) where
   unfolding listed
   none-refused f n e = releases-at ∙ ap (λ (f : Found). leading (listed (commandsFrom (length sheet) sheet) f)) e
 
-  pub coming-at : (tick : ℕ) → ComingAt tick (comingAt tick (commandAt sheet place))
+  pub coming-at : (tick : ℕ) → ComingAt tick (comingBy (pendingAt (commandAt sheet place)) tick)
   coming-at tick = go (commandAt sheet place) refl
     where
       due : (r : Release) (next : ℕ) → commandAt sheet place ≡ found (RELEASE r) next → (b : Bool) → eqb (r .tick) tick ≡ b → ComingAt tick (dueBy b (r .task) next)
       due r next e true q = record { release = r; releases = release-found r next e; now = eqb-true _ _ q; to = refl }
       due r next e false q = record { release = r; others = releasesFrom sheet next; releases = release-found r next e; later = q }
 
-      go : (f : Found) → commandAt sheet place ≡ f → ComingAt tick (comingAt tick f)
+      go : (f : Found) → commandAt sheet place ≡ f → ComingAt tick (comingBy (pendingAt f) tick)
       go (refused f n) e = none-refused f n e
       go (found (RELEASE r) n) e = due r n e (eqb (r .tick) tick) refl
       go (found (WORD v) n) e = none-found _ n e refl
