@@ -5,8 +5,6 @@ use mathlib.Core.List.{List}
 use Rattle.model.specs.Lists.{at, replace}
 use Rattle.model.specs.Command as M
 use Rattle.model.specs.Machine.{answer}
-use Rattle.commands.specs.declared.Command.{Command}
-use Rattle.commands.specs.declared.Command.the-variants as C
 use Rattle.memory.specs.Packed.{packed}
 use Rattle.exchanges.specs.Places.{if, Went, went}
 use Rattle.exchanges.specs.declared.read.Read.{Read}
@@ -28,21 +26,6 @@ movedTo j next = job (j .phase) (j .at) next (j .begin) (j .pairs) (j .used)
 
 abbrev pub inPhase : Job → Phase → Job
 inPhase j f = job f (j .at) (j .next) (j .begin) (j .pairs) (j .used)
-
-abbrev pub isBody : Command → Bool
-isBody (C.Word v) = false
-isBody (C.Block v) = false
-isBody C.Task = false
-isBody (C.Release r) = false
-isBody C.End = false
-isBody (C.Load r v) = true
-isBody (C.Add r q) = true
-isBody (C.Read r w) = true
-isBody (C.Pair w o n) = true
-isBody (C.Swap r) = true
-isBody C.Begin = true
-isBody (C.Access a) = true
-isBody C.Commit = true
 
 abbrev pub bodyCommand : M.Command → Bool
 bodyCommand (M.WORD v) = false

@@ -4,10 +4,9 @@ ghost use Prim.Native.Nat.{_+_, _*_};
 ghost use Rattle.model.specs.Lists.{replace};
 ghost use Rattle.model.specs.Command.{commandAt};
 ghost use Rattle.exchanges.specs.Places.{went};
-ghost use Rattle.transactions.specs.Jobs.{isBody, inBody, jobAt, movedTo, inPhase, counted, added, copied, afterDone, answered, afterGiving, readBy, swapBy, entries, entered};
+ghost use Rattle.transactions.specs.Jobs.{inBody, jobAt, movedTo, inPhase, counted, added, copied, afterDone, answered, afterGiving, readBy, swapBy, entries, entered};
 use commands::Access;
-use commands::Command;
-use commands::Decoded;
+use commands::Opcode;
 use exchanges::exchange::Exchanged;
 use exchanges::exchange::Step;
 use exchanges::places;
@@ -85,47 +84,18 @@ pub fn in_phase(job: Job, phase: Phase) -> Job
     }
 }
 
-fn is_body(command: Command) -> bool
-    ensures { λ r. ⌜ r ≡ isBody command ⌝ }
-{
-    match command {
-        Command::Word(_) => false,
-        Command::Block(_) => false,
-        Command::Task => false,
-        Command::Release(_) => false,
-        Command::End => false,
-        Command::Load {
-            register: _,
-            value: _,
-        } => true,
-        Command::Add {
-            register: _,
-            other: _,
-        } => true,
-        Command::Read {
-            register: _,
-            word: _,
-        } => true,
-        Command::Pair {
-            word: _,
-            old: _,
-            new: _,
-        } => true,
-        Command::Swap(_) => true,
-        Command::Begin => true,
-        Command::Access(_) => true,
-        Command::Commit => true,
-    }
-}
-
-// A body goes on at that place.
+// A body goes on at that place: the byte there names a body command, which is whole.
 pub fn in_body(sheet: &[u8], place: usize) -> bool
     ensures { λ r. ⌜ r ≡ inBody (commandAt (now (sheet .entry)) place) ⌝ }
 {
-    let decoded = commands::decode(sheet, place);
-    match decoded {
-        Decoded::Got(command, _) => is_body(command),
-        Decoded::Refused(_) => false,
+    let opcode = commands::command_byte(sheet, place);
+    match opcode {
+        Opcode::Known(b) => match b {
+            0x10..=0x14 => true,
+            0x20..=0x23 => true,
+            _ => false,
+        },
+        Opcode::Refused(_) => false,
     }
 }
 
