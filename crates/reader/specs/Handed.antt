@@ -1,6 +1,7 @@
 -- What a reader hands out, and where it stands after it: past the command, or where it was at a fault.
 use Prim.Native.Nat.{ℕ, suc}
 use mathlib.Core.Path.{_≡_}
+use mathlib.Core.Bool.{Bool, true, false}
 use mathlib.Core.List.{List}
 use Rattle.model.specs.Command.{Found, found, refused, commandAt}
 use Rattle.sheet.specs.View.{viewDecoded}
@@ -20,3 +21,8 @@ after at (refused f place) = at
 -- a reader that has handed out the command at its offset
 abbrev pub moved : Reader → Reader
 moved r = record { sheet = r .sheet; at = after (r .at) (commandAt (r .sheet .now) (r .at)) }
+
+-- whether a command was found
+abbrev pub command? : Found → Bool
+command? (found c next) = true
+command? (refused f place) = false

@@ -2,8 +2,10 @@
 // struct that holds a slice, so `over` and `next` are walked by hand; the work is done by covered functions.
 ghost use mathlib.Core.Path.{_≡_};
 ghost use mathlib.Core.List.{[]};
+ghost use lib.ListN.{length};
+ghost use Rattle.model.specs.Sheet.{commandsFrom};
 ghost use Rattle.sheet.specs.View.{viewDecoded};
-ghost use Rattle.reader.specs.Handed.{Command-at, after, moved};
+ghost use Rattle.reader.specs.Handed.{Command-at, after, moved, command?};
 use sheet::commands;
 use sheet::commands::Decoded;
 
@@ -19,6 +21,16 @@ pub fn place_after(at: usize, d: Decoded) -> usize
     match d {
         Decoded::Got(_, next) => next,
         Decoded::Refused(_) => at,
+    }
+}
+
+// Whether a command was found.
+fn is_command(d: Decoded) -> bool
+    ensures { λ r. ⌜ r ≡ command? (viewDecoded [] d) ⌝ }
+{
+    match d {
+        Decoded::Got(_, _) => true,
+        Decoded::Refused(_) => false,
     }
 }
 
@@ -39,4 +51,16 @@ impl<'a> Reader<'a> {
         self.at = place_after(at, d);
         d
     }
+}
+
+// How many commands a reader hands out before the end or a fault of form. Its parameter is a plain slice: callers need no walk.
+pub fn count(sheet: &[u8]) -> usize
+    ensures { λ r. ⌜ r ≡ length (commandsFrom (length (now (sheet .entry))) (now (sheet .entry)) 0) ⌝ }
+{
+    let mut reader = Reader::over(sheet);
+    let mut n = 0;
+    while is_command(reader.next()) {
+        n = n + 1;
+    }
+    n
 }
