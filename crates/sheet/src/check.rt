@@ -62,7 +62,7 @@ fn at_end(next: usize, length: usize) -> Verdict
 }
 
 // The fault of the command at a place, or the end of the reading after END; `next` is the place after the command.
-fn judge(sheet: &[u8], at: usize, k: Known, c: Command, next: usize) -> Judged
+pub fn judge(sheet: &[u8], at: usize, k: Known, c: Command, next: usize) -> Judged
     ensures { λ r. ⌜ JudgedSays (now (sheet .entry)) at (viewKnown k) (viewCommand [] c) next r ⌝ }
 {
     let f = rules::fault(k, c);
