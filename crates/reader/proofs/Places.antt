@@ -7,11 +7,11 @@ use Rattle.sheet.specs.View.{viewDecoded}
 use Rattle.sheet.specs.Stages.{valuesFrom}
 use Rattle.sheet.specs.declared.commands.Decoded.{Decoded}
 use Rattle.sheet.specs.declared.commands.Decoded.the-variants.{Got, Refused}
-use Rattle.reader.specs.Handed.{Command-at, after}
+use Rattle.reader.specs.Handed.{HandsOut, after}
 
 after-viewed : (at : ℕ) (vs ws : List ℕ) (d : Decoded) → after at (viewDecoded vs d) ≡ after at (viewDecoded ws d)
 after-viewed at vs ws (Got c next) = refl
 after-viewed at vs ws (Refused f) = refl
 
-pub after-command : (sheet : List ℕ) (at : ℕ) (d : Decoded) → Command-at sheet at d → (place : ℕ) → place ≡ after at (viewDecoded [] d) → place ≡ after at (commandAt sheet at)
+pub after-command : (sheet : List ℕ) (at : ℕ) (d : Decoded) → HandsOut sheet at d → (place : ℕ) → place ≡ after at (viewDecoded [] d) → place ≡ after at (commandAt sheet at)
 after-command sheet at d e place p = p ∙ (after-viewed at [] (valuesFrom sheet (suc at)) d ∙ ap (after at) e)

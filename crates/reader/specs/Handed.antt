@@ -1,7 +1,6 @@
 -- What a reader hands out, and where it stands after it: past the command, or where it was at a fault.
 use Prim.Native.Nat.{ℕ, suc}
 use mathlib.Core.Path.{_≡_}
-use mathlib.Core.Bool.{Bool, true, false}
 use mathlib.Core.List.{List}
 use Rattle.model.specs.Command.{Found, found, refused, commandAt}
 use Rattle.sheet.specs.View.{viewDecoded}
@@ -9,9 +8,9 @@ use Rattle.sheet.specs.Stages.{valuesFrom}
 use Rattle.sheet.specs.declared.commands.Decoded.{Decoded}
 use Rattle.reader.specs.declared.Reader.{Reader}
 
--- a command with its operands, BLOCK's values lying beside it, is the one at a place of the sheet
-abbrev pub Command-at : List ℕ → ℕ → Decoded → Type 0
-Command-at sheet at d = viewDecoded (valuesFrom sheet (suc at)) d ≡ commandAt sheet at
+-- d is what stands at a place of the sheet: the command with its operands, BLOCK's values lying beside it, or the fault
+abbrev pub HandsOut : List ℕ → ℕ → Decoded → Type 0
+HandsOut sheet at d = viewDecoded (valuesFrom sheet (suc at)) d ≡ commandAt sheet at
 
 -- the place after what was found at a place
 abbrev pub after : ℕ → Found → ℕ
@@ -21,8 +20,3 @@ after at (refused f place) = at
 -- a reader that has handed out the command at its offset
 abbrev pub moved : Reader → Reader
 moved r = record { sheet = r .sheet; at = after (r .at) (commandAt (r .sheet .now) (r .at)) }
-
--- whether a command was found
-abbrev pub command? : Found → Bool
-command? (found c next) = true
-command? (refused f place) = false

@@ -36,7 +36,7 @@ use Rattle.sheet.specs.declared.commands.Decoded.{Decoded}
 use Rattle.sheet.specs.declared.check.Judged.the-variants.{Goes}
 use Rattle.sheet.specs.declared.check.Verdict.{Verdict}
 use Rattle.sheet.proofs.commands.Decoded as S
-use Rattle.reader.specs.Handed.{Command-at, after, moved}
+use Rattle.reader.specs.Handed.{HandsOut, after, moved}
 use Rattle.reader.specs.declared.Reader.{Reader}
 use Rattle.reader.proofs.Lent.{R}
 use Rattle.reader.proofs.Reader.over as over
@@ -110,7 +110,7 @@ module _ {M : Type 1} (𝓤 : URA M) (H : Heap 𝓤) (A : Atoms 𝓤) (W : Given
       nothing ! $ move ! (2 ∷ 0 ∷ []) $ fjoin ! $ move ! (1 ∷ 0 ∷ []) $ join ! $ frame ! $ done !
 
   abbrev pub Hands : ℕ → Decoded → Reader → Type 0
-  Hands p d r = Command-at (now s) p d × (r ≡ moved (h p))
+  Hands p d r = HandsOut (now s) p d × (r ≡ moved (h p))
 
   -- BEGUN
   abbrev pub to-begun : Begun 𝓤 H A at-mem run .Ghost
@@ -159,7 +159,7 @@ module _ {M : Type 1} (𝓤 : URA M) (H : Heap 𝓤) (A : Atoms 𝓤) (W : Given
     to-read-on = (((κ, tt), (q, tt), tt, (s, (p, (r, (d, tt)))), passed), tt)
 
     abbrev pub Come : Type 0
-    Come = Reached (now s) p (viewKnown (r .known)) × Command-at (now s) p d
+    Come = Reached (now s) p (viewKnown (r .known)) × HandsOut (now s) p d
 
     asked : Come → ent 𝓤 (⋆ 𝓤 H A ((‵ (flft κ q) ⊛ ‵ ftrue) ∷ ‵ (owns (ShrSlice (named 0) κ u8 ∷ usize ∷ B.the-row ∷ S.the-row ∷ []) (s, (p, (r, (d, tt)))) passed) ∷ [])) (ReadOn 𝓤 H A at-mem run .pre to-read-on)
     asked come = qed W ((‵ (flft κ q) ⊛ ‵ ftrue) ∷ ‵ (owns (ShrSlice (named 0) κ u8 ∷ usize ∷ B.the-row ∷ S.the-row ∷ []) (s, (p, (r, (d, tt)))) passed) ∷ []) ∵ says ! come $ frame ! $ done !

@@ -1,7 +1,7 @@
 -- The course of a reading: the reader's offset, what the reading holds there, and that each command brings it nearer to its end.
-use Prim.Native.Nat.{ℕ, suc, _-_, _<_, _≤_}
+use Prim.Native.Nat.{ℕ, suc, _-_, _<_}
 use mathlib.Core.Path.{_≡_, refl, sym, subst}
-use mathlib.Core.Bool.{Bool, not}
+use mathlib.Core.Bool.{not}
 use mathlib.Core.List.{List, []}
 use mathlib.Core.WellFounded.{WellFounded, InvImage·wf}
 use native.Mathlib.Omega.{arith}
@@ -17,7 +17,7 @@ use Rattle.sheet.specs.declared.commands.Decoded.{Decoded}
 use Rattle.sheet.specs.declared.check.Judged.{Judged}
 use Rattle.sheet.specs.declared.check.Judged.the-variants.{Stops, Goes}
 use Rattle.sheet.proofs.Reading.{start}
-use Rattle.reader.specs.Handed.{Command-at, after}
+use Rattle.reader.specs.Handed.{HandsOut, after}
 use Rattle.reader.proofs.Places.{after-command}
 use Rattle.reading.specs.Read.{Reached, goes?, Right, RightAt, Further, verdictOf}
 use Rattle.reading.specs.declared.Reading.{Reading}
@@ -59,7 +59,7 @@ less s at next Goes (Stops v) t f = omega arith
 less s at next (Stops u) i t f = absurd t
 
 -- A COMMAND MORE
-module _ (s : List ℕ) (x : Course s) (d : Decoded) (e : Command-at s (x .at) d) (r : Reading) where
+module _ (s : List ℕ) (x : Course s) (d : Decoded) (e : HandsOut s (x .at) d) (r : Reading) where
   moves : after (x .at) (viewDecoded [] d) ≡ after (x .at) (commandAt s (x .at))
   moves = after-command s (x .at) d e (after (x .at) (viewDecoded [] d)) refl
 

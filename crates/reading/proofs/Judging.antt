@@ -20,7 +20,7 @@ use Rattle.sheet.specs.declared.check.Verdict.the-variants.{TurnedDown}
 use Rattle.sheet.proofs.Reading as sheet
 use Rattle.sheet.proofs.Reading.{is-refused, next-after}
 use Rattle.sheet.proofs.Values.{stopped, went-on}
-use Rattle.reader.specs.Handed.{Command-at, after}
+use Rattle.reader.specs.Handed.{HandsOut, after}
 use Rattle.reading.specs.Read.{Reached}
 
 -- the same, as the sheet's own theorems have it
@@ -30,13 +30,13 @@ come r = record { left = r .left; enough = r .enough; same = r .same }
 abbrev pub gone : {s : List ℕ} {at : ℕ} {k : Known} → sheet.Reached s at k → Reached s at k
 gone r = record { left = r .left; enough = r .enough; same = r .same }
 
-module _ (s : List ℕ) (at : ℕ) (k : Known) (r : Reached s at k) (d : Decoded) (e : Command-at s at d) where
+module _ (s : List ℕ) (at : ℕ) (k : Known) (r : Reached s at k) (d : Decoded) (e : HandsOut s at d) where
   pub at-fault : (f : F.Fault) → d ≡ Refused f → viewVerdict (TurnedDown f) ≡ verdict s
-  at-fault f is = is-refused s at k (come r) (sym (subst (Command-at s at) is e))
+  at-fault f is = is-refused s at k (come r) (sym (subst (HandsOut s at) is e))
 
   module _ (c : Command) (next : ℕ) (is : d ≡ Got c next) (j : Judged) (says : JudgedSays s at k (viewCommand [] c) next j) where
-    found : Command-at s at (Got c next)
-    found = subst (Command-at s at) is e
+    found : HandsOut s at (Got c next)
+    found = subst (HandsOut s at) is e
 
     pub at-stop : (v : Verdict) → j ≡ Stops v → viewVerdict v ≡ verdict s
     at-stop v stops = stopped s at k (come r) (valuesFrom s (suc at)) c (sym found) (subst (JudgedSays s at k (viewCommand [] c) next) stops says)

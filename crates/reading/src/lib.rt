@@ -6,7 +6,7 @@ ghost use Rattle.model.specs.Sheet as whole;
 ghost use Rattle.model.specs.Answer.{checkAnswer};
 ghost use Rattle.sheet.specs.View.{viewDecoded, viewKnown, viewVerdict, checkedOf};
 ghost use Rattle.sheet.specs.declared.check.Judged.the-variants as judged;
-ghost use Rattle.reader.specs.Handed.{Command-at, after};
+ghost use Rattle.reader.specs.Handed.{HandsOut, after};
 ghost use Rattle.reading.specs.Read.{Reached, goes?, RightAt, Further, verdictOf};
 use reader::Reader;
 use sheet::check::Judged;
@@ -55,7 +55,7 @@ impl Reading {
 
 // The reading after what was handed out at a place.
 fn read_on(sheet: &[u8], at: usize, reading: Reading, d: Decoded) -> Reading
-    requires { ⌜ Reached (now sheet) at (viewKnown (reading .known)) × Command-at (now sheet) at d ⌝ }
+    requires { ⌜ Reached (now sheet) at (viewKnown (reading .known)) × HandsOut (now sheet) at d ⌝ }
     ensures { λ r. ⌜ RightAt (now (sheet .entry)) (after at (viewDecoded [] d)) r × Further (now (sheet .entry)) at (after at (viewDecoded [] d)) (r .judged) ⌝ }
 {
     let known = reading.known;

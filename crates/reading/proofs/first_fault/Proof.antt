@@ -18,8 +18,7 @@ use ghost.Atoms.{Atoms}
 use contract.BorrowLft.{meet-⊑-left}
 use contract.Monad.{Fun, fact}
 use contract.Running.{givenOf, tables, tablesOf}
-use types.Kit.{Given, Item, ‵, raw, runs, anyQ, atRet, Sq, _⊛_, ⋆, some, later, _$_, _∵_, !, qed, by, move, keep, drop, use0, use1, use2, use3, split, join, pick, rewrite, fsplit, fjoin, suffices, frame, await}
-use types.Kit.{done}
+use types.Kit.{Given, Item, ‵, raw, runs, anyQ, atRet, Sq, _⊛_, ⋆, some, later, _$_, _∵_, !, qed, by, move, keep, drop, use0, use1, use2, use3, split, join, pick, rewrite, fsplit, fjoin, suffices, frame, await, done}
 use types.Part.{whole, sub, look-in}
 use types.Run.{look, store, init, forget, stop, fld, from, load, addr, of-opd, and-then, no-more, assigns, first, skips, jumps, blocks, branches, land, land-last, returns, enter, alloc1, alloc0, params1, pass1, pass0, free1, free0, exec, Below, again, loops}
 use types.SemTy.{Body}
@@ -50,11 +49,10 @@ use Rattle.sheet.specs.declared.commands.Decoded.{Decoded}
 use Rattle.sheet.specs.declared.check.Verdict.{Verdict}
 use Rattle.sheet.proofs.commands.Decoded as S
 use Rattle.sheet.proofs.commands.Decoded.Laws as S′
-use Rattle.sheet.proofs.check.Verdict as V′′
-use Rattle.sheet.proofs.check.Verdict.Laws as V′
-use Rattle.reader.specs.Handed.{moved}
+use Rattle.sheet.proofs.check.Verdict as Vd
+use Rattle.sheet.proofs.check.Verdict.Laws as Vd′
 use Rattle.reader.specs.declared.Reader.{Reader}
-use Rattle.reader.proofs.Lent.{α, R, lays, lifts, Kept, shares-out, shares-back}
+use Rattle.reader.proofs.Lent.{R, lays, lifts, Kept, shares-out, shares-back}
 use Rattle.reader.proofs.Reader as T
 use Rattle.reader.proofs.Reader.Laws as T′
 use Rattle.reader.proofs.Reader.over as over
@@ -122,9 +120,9 @@ module _ {M : Type 1} (𝓤 : URA M) (H : Heap 𝓤) (A : Atoms 𝓤) (W : Given
   abbrev Post : Val → SProp 𝓤
   Post = walkOf 𝓤 H A first-fault.ended stayed (first-fault.clauses 𝓤 H A at-mem run) .post (((κ, tt), (q, tt), tt, (s, tt), (vs ∷ [], tt)), tt)
 
-  exits : (r : Verdict) (u : Val) → viewVerdict r ≡ verdict (now s) → ent 𝓤 (⋆ 𝓤 H A (‵ (V′′.the-row .own r (u ∷ [])) ∷ (‵ (flft κ q) ⊛ ‵ ftrue) ∷ ‵ (Own 𝓤 H A W at-mem run κ q s) ∷ [])) (Post u)
+  exits : (r : Verdict) (u : Val) → viewVerdict r ≡ verdict (now s) → ent 𝓤 (⋆ 𝓤 H A (‵ (Vd.the-row .own r (u ∷ [])) ∷ (‵ (flft κ q) ⊛ ‵ ftrue) ∷ ‵ (Own 𝓤 H A W at-mem run κ q s) ∷ [])) (Post u)
   exits r u e =
-      qed W (‵ (V′′.the-row .own r (u ∷ [])) ∷ (‵ (flft κ q) ⊛ ‵ ftrue) ∷ ‵ (Own 𝓤 H A W at-mem run κ q s) ∷ []) ∵
+      qed W (‵ (Vd.the-row .own r (u ∷ [])) ∷ (‵ (flft κ q) ⊛ ‵ ftrue) ∷ ‵ (Own 𝓤 H A W at-mem run κ q s) ∷ []) ∵
       suffices ! _ (ends-at 𝓤 H A first-fault.ended stayed (first-fault.clauses 𝓤 H A at-mem run) W (((κ, tt), (q, tt), tt, (s, tt), (vs ∷ [], tt)), tt) u r (tt, tt) (tt, tt)) $ says ! e $
       move ! (1 ∷ []) $ frame ! $ nothing ! $ move ! (2 ∷ 0 ∷ []) $ fjoin ! $ frame ! $ done !
 
@@ -151,14 +149,14 @@ module _ {M : Type 1} (𝓤 : URA M) (H : Heap 𝓤) (A : Atoms 𝓤) (W : Given
 
     module _ (l₀ l₁ l₂ l₃ l₄ l₅ l₆ l₇ l₈ : ℕ) where
       abbrev En : Env 𝓤 H
-      En = (V′.mir, l₀) ∷ (slice, l₁) ∷ (T′.mir erased, l₂) ∷ (B′.mir, l₃) ∷ (tyInt w64, l₄) ∷ (S′.mir, l₅) ∷ (T′.mir erased, l₆) ∷ (tyBool, l₇) ∷ (lender, l₈) ∷ []
+      En = (Vd′.mir, l₀) ∷ (slice, l₁) ∷ (T′.mir erased, l₂) ∷ (B′.mir, l₃) ∷ (tyInt w64, l₄) ∷ (S′.mir, l₅) ∷ (T′.mir erased, l₆) ∷ (tyBool, l₇) ∷ (lender, l₈) ∷ []
 
       -- what does not change from turn to turn: room for _8 down to _4, and _2's end, _1 and room for _0
       abbrev temporaries : List (Item 𝓤) → List (Item 𝓤)
       temporaries Γ = ‵ (froom lender l₈ 0) ∷ ‵ (fdies lender l₈) ∷ ‵ (froom tyBool l₇ 0) ∷ ‵ (fdies tyBool l₇) ∷ ‵ (froom (T′.mir erased) l₆ 0) ∷ ‵ (fdies (T′.mir erased) l₆) ∷ ‵ (froom S′.mir l₅ 0) ∷ ‵ (fdies S′.mir l₅) ∷ ‵ (froom (tyInt w64) l₄ 0) ∷ ‵ (fdies (tyInt w64) l₄) ∷ Γ
 
       abbrev rest : List (Item 𝓤)
-      rest = ‵ (fat fullShare slice l₁ 0 vs) ∷ ‵ (fdies slice l₁) ∷ ‵ (froom V′.mir l₀ 0) ∷ ‵ (fdies V′.mir l₀) ∷ []
+      rest = ‵ (fat fullShare slice l₁ 0 vs) ∷ ‵ (fdies slice l₁) ∷ ‵ (froom Vd′.mir l₀ 0) ∷ ‵ (fdies Vd′.mir l₀) ∷ []
 
       -- the invariant: the reader lies in _2 at the offset, and the reading in _3
       abbrev At : Course (now s) → List (Item 𝓤)
@@ -176,10 +174,10 @@ module _ {M : Type 1} (𝓤 : URA M) (H : Heap 𝓤) (A : Atoms 𝓤) (W : Given
       leaves x stops =
           use1 W (raw (Ended 𝓤 H A at-mem run .pre (to-ended 𝓤 H A W at-mem run κ q s (x .reading) (x .value)))) (goes-ended 𝓤 H A W at-mem run κ q s (x .reading) (x .value)) $
           calls-at ! fm (Ended 𝓤 H A at-mem run) (known .ended-met) (to-ended 𝓤 H A W at-mem run κ q s (x .reading) (x .value)) (and-then ! (load ! (from ! (stop !)) (look ! 14 refl)) (no-more !)) (λ w.
-          use1 W (later (some (λ (r : Verdict). (‵ ftrue ⊛ ‵ (V′′.the-row .own r (w ∷ []))) ⊛ raw (ensured 𝓤 H A ended.ended (ended.clauses 𝓤 H A at-mem run) tt (x .reading, tt) tt r)))) (id⊢ 𝓤 _) $ await ! tt $ pick ! (λ r.
+          use1 W (later (some (λ (r : Verdict). (‵ ftrue ⊛ ‵ (Vd.the-row .own r (w ∷ []))) ⊛ raw (ensured 𝓤 H A ended.ended (ended.clauses 𝓤 H A at-mem run) tt (x .reading, tt) tt r)))) (id⊢ 𝓤 _) $ await ! tt $ pick ! (λ r.
           split ! $ move ! (1 ∷ []) $ use1 W (raw (fact 𝓤 (Ends 𝓤 H A W at-mem run κ q s (x .reading) r))) (ended-said 𝓤 H A W at-mem run κ q s (x .reading) r) $ heard ! (Ends 𝓤 H A W at-mem run κ q s (x .reading) r) (λ e. split ! $ drop ! $
-          peeks ! V′′.the-row (Is V′′.the-row) (shows 𝓤 H A V′′.the-row) r (w ∷ []) (λ is.
-          land ! (from ! (stop !)) (init ! 19 refl (EL.lawful V′′.the-type V′.the-laws 𝓤 H A W tt .typed r _ is .0)) $
+          peeks ! Vd.the-row (Is Vd.the-row) (shows 𝓤 H A Vd.the-row) r (w ∷ []) (λ is.
+          land ! (from ! (stop !)) (init ! 19 refl (EL.lawful Vd.the-type Vd′.the-laws 𝓤 H A W tt .typed r _ is .0)) $
           move ! (1 ∷ []) $ use1 W (‵ (fat fullShare (T′.mir erased) l₂ 0 (T′.lowered (h 𝓤 H A W at-mem run κ q s (x .at)))) ⊛ ‵ (R κ .own (h 𝓤 H A W at-mem run κ q s (x .at)) (T′.lowered (h 𝓤 H A W at-mem run κ q s (x .at)) ∷ []))) (lifts 𝓤 H A W κ (h 𝓤 H A W at-mem run κ q s (x .at)) l₂) $ split ! $
           -- [_2; what the reader owns; the result; the token; what s owns; room for _8; …; _7; …; _6; …; _5; …; _4; …; _3; …; …; _1; …; _0; …]
           returns ! (look ! 20 refl) $ forget ! 0 refl $ forget ! 15 refl $ forget ! 18 refl $ forget ! 20 refl $

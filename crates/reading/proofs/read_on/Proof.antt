@@ -6,10 +6,6 @@ use Rattle.reading.proofs.Judging.{at-fault, at-stop, no-fault, at-next
 use borrow.Author.Needs.{needs}
 use Rattle.reading.proofs.read_on.Statement.{statement}
 use Rattle.reading.proofs.read_on.Tie as tie
-use Rattle.reading.proofs.read_on.Reads as reads
-use Rattle.reading.proofs.read_on.Lts as lts
-use Rattle.sheet.proofs.check.judge.Reads as judge-reads
-use Rattle.sheet.proofs.known.after.Reads as after-reads
 
 enum-known-d : tie.Need-enum-known-d
 enum-known-d c = search needs

@@ -53,7 +53,7 @@ use Rattle.sheet.proofs.commands.decode as decode
 use Rattle.sheet.proofs.commands.decode.Symbol as decode-def
 use Rattle.sheet.proofs.commands.decode.Symbol.{name as #sheet·commands·decode}
 use Rattle.sheet.proofs.commands.decode.Met as decode-thm
-use Rattle.reader.specs.Handed.{Command-at, after}
+use Rattle.reader.specs.Handed.{HandsOut, after}
 use Rattle.reader.specs.declared.Reader.{Reader}
 use Rattle.reader.proofs.Places.{after-command}
 use Rattle.reader.proofs.Reader as T
@@ -140,7 +140,7 @@ module _ {M : Type 1} (𝓤 : URA M) (H : Heap 𝓤) (A : Atoms 𝓤) (W : Given
       move ! (2 ∷ 0 ∷ []) $ use2 W (raw (Decode 𝓤 H A at-mem run .pre to-decode)) asked $ frame ! $ done !)
 
   abbrev Found : Decoded → Type 0
-  Found d = Command-at (now (h .sheet)) (h .at) d
+  Found d = HandsOut (now (h .sheet)) (h .at) d
 
   decode-said : (d : Decoded) → ent 𝓤 (ensured 𝓤 H A decode.ended (decode.clauses 𝓤 H A at-mem run) (κ′, tt) (h .sheet, (h .at, tt)) tt d) (fact 𝓤 (Found d))
   decode-said d = exE 𝓤 _ (λ ws. snd∗ 𝓤 (sem 𝓤 H A (lasts decode.ended (κ′, tt) (h .sheet, (h .at, tt)) ws)) (fact 𝓤 (Found d)))

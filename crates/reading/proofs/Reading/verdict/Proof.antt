@@ -4,8 +4,6 @@ use Rattle.reading.specs.Read.{verdictOf}
 use borrow.Author.Needs.{needs}
 use Rattle.reading.proofs.Reading.verdict.Statement.{statement}
 use Rattle.reading.proofs.Reading.verdict.Tie as tie
-use Rattle.reading.proofs.Reading.verdict.Reads as reads
-use Rattle.reading.proofs.Reading.verdict.Lts as lts
 
 enum-known-judged : tie.Need-enum-known-judged
 enum-known-judged c = search needs
