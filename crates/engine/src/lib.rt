@@ -30,7 +30,7 @@ fn refused(f: Fault) -> Answer
 pub fn check(sheet: &[u8]) -> Answer
     ensures { λ r. ⌜ Checks (now (sheet .entry)) r ⌝ }
 {
-    let v = sheet::check::check(sheet);
+    let v = reading::check(sheet);
     match v {
         Verdict::Accepted => Answer {
             number: 0,
@@ -112,7 +112,7 @@ fn run_accepted(sheet: &[u8], limit: u32, buffer: &mut [u8]) -> usize
 pub fn run(sheet: &[u8], limit: u64, buffer: &mut [u8]) -> Answer
     ensures { λ r. ⌜ Runs (now (sheet .entry)) limit (now (buffer .entry)) (now (buffer .exit)) r ⌝ }
 {
-    let v = sheet::check::first_fault(sheet);
+    let v = reading::first_fault(sheet);
     if let Verdict::TurnedDown(f) = v {
         return refused(f);
     }

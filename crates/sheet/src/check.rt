@@ -1,19 +1,15 @@
-// The sheet check: the first fault in byte order, in one pass over the lent sheet.
+// The judgement of one command at its place: a fault, the end of the reading, or neither.
 ghost use mathlib.Core.Path.{_≡_};
 ghost use mathlib.Core.List.{[]};
 ghost use lib.Dec.{ltb};
 ghost use Rattle.model.specs.Sheet.{end?, atEnd};
-ghost use Rattle.model.specs.Sheet as whole;
-ghost use Rattle.model.specs.Answer.{checkAnswer};
 ghost use Rattle.commands.specs.View.{viewCommand};
-ghost use Rattle.sheet.specs.View.{viewKnown, viewVerdict, checkedOf};
+ghost use Rattle.sheet.specs.View.{viewKnown, viewVerdict};
 ghost use Rattle.sheet.specs.Judgement.{JudgedSays};
-use crate::known;
 use crate::known::Known;
 use crate::rules;
 use crate::rules::Flaw;
 use commands::Command;
-use commands::Decoded;
 use commands::Fault;
 use commands::Refusal;
 
@@ -62,7 +58,7 @@ fn at_end(next: usize, length: usize) -> Verdict
 }
 
 // The fault of the command at a place, or the end of the reading after END; `next` is the place after the command.
-fn judge(sheet: &[u8], at: usize, k: Known, c: Command, next: usize) -> Judged
+pub fn judge(sheet: &[u8], at: usize, k: Known, c: Command, next: usize) -> Judged
     ensures { λ r. ⌜ JudgedSays (now (sheet .entry)) at (viewKnown k) (viewCommand [] c) next r ⌝ }
 {
     let f = rules::fault(k, c);
@@ -73,38 +69,4 @@ fn judge(sheet: &[u8], at: usize, k: Known, c: Command, next: usize) -> Judged
         return Judged::Stops(at_end(next, sheet.len()));
     }
     Judged::Goes
-}
-
-// The commands one after another, with the place of the next and what is known before it.
-pub fn first_fault(sheet: &[u8]) -> Verdict
-    ensures { λ r. ⌜ viewVerdict r ≡ whole.verdict (now (sheet .entry)) ⌝ }
-{
-    let mut k = Known::nothing();
-    let mut at = 0;
-    while at < sheet.len() {
-        let d = commands::decode(sheet, at);
-        let Decoded::Got(c, next) = d else {
-            return match d {
-                Decoded::Refused(f) => Verdict::TurnedDown(f),
-                Decoded::Got(_, _) => Verdict::Accepted,
-            };
-        };
-        let j = judge(sheet, at, k, c, next);
-        if let Judged::Stops(v) = j {
-            return v;
-        }
-        k = known::after(k, c);
-        at = next;
-    }
-    Verdict::TurnedDown(Fault {
-        refusal: Refusal::CutShort,
-        place: sheet.len(),
-    })
-}
-
-// The public check of any bytes.
-pub fn check(sheet: &[u8]) -> Verdict
-    ensures { λ r. ⌜ checkedOf r ≡ checkAnswer (now (sheet .entry)) ⌝ }
-{
-    first_fault(sheet)
 }

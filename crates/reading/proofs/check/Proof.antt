@@ -1,8 +1,8 @@
--- `check` meets its contract: number and place of the verdict.
-use Rattle.sheet.proofs.Reading.{checked-is}
+-- `check` meets its contract: number and place of the verdict are those of the scope's answer.
 use borrow.Author.Needs.{needs}
-use Rattle.sheet.proofs.check.check.Statement.{statement}
-use Rattle.sheet.proofs.check.check.Tie as tie
+use Rattle.sheet.proofs.Reading.{checked-is}
+use Rattle.reading.proofs.check.Statement.{statement}
+use Rattle.reading.proofs.check.Tie as tie
 
 first-fault-requires : tie.Need-first-fault-requires
 first-fault-requires c κs = search needs
