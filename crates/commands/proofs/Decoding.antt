@@ -10,10 +10,11 @@ use borrow.Author.Tests.{ltb-true, eqb-true, eqb-false, lt-ltb, le-ltb, le-leb, 
 use lib.Dec.{ltb, eqb}
 use lib.ListN.{length, getD}
 use Rattle.model.specs.Refusal.{cutShort, noCommand}
-use Rattle.model.specs.Command.{GET, PUT, WORD, BLOCK, TASK, RELEASE, END, LOAD, ADD, READ, PAIR, SWAP, BEGIN, access, COMMIT, Row, table, rowOf, total, bigEndian, found, refused, commandAt}
-use Rattle.commands.specs.Stages.{indexOf, byteAt, widthAt, valuesFrom, operandsOf}
+use Rattle.model.specs.Command.{GET, PUT, WORD, BLOCK, TASK, RELEASE, END, LOAD, ADD, READ, PAIR, SWAP, BEGIN, access, COMMIT, Row, table, rowOf, total, bigEndian, refused, commandAt}
+use Rattle.commands.specs.Stages.{indexOf, byteAt, widthAt, valuesFrom, widthOf, commandOf, ByteSays}
 use Rattle.commands.specs.declared.Index.{Index}
 use Rattle.commands.specs.declared.Index.the-variants.{At, Unknown}
+use Rattle.commands.specs.declared.Opcode.the-variants.{Known}
 
 -- THE TABLE
 -- the byte has a row, and its operands take that many bytes
@@ -84,6 +85,14 @@ pub index-says : (b : ℕ) → b < 256 → IndexSays b (indexOf b)
 unfolding allAgree
 index-says b h = says b (indexOf b) (below 256 b refl h)
 
+pub width-row : {b w : ℕ} → RowOf b w → widthOf b ≡ w
+unfolding widthOf
+width-row r = rw (r .is) (r .wide)
+
+pub width-none : (b : ℕ) → rowOf b table ≡ none → widthOf b ≡ 0
+unfolding widthOf
+width-none b e = rw e
+
 -- THE COMMAND AT A PLACE
 module _ (s : List ℕ) (at : ℕ) where
   pub past-the-end : length s ≤ at → commandAt s at ≡ refused cutShort (length s)
@@ -100,13 +109,13 @@ module _ (s : List ℕ) (at : ℕ) where
       let past : length s < suc at + total (r .row .widths) = omega (arith, r .wide) in
       simp (lt-ltb at (length s) h, r .is) (simp (lt-leb (suc at + total (r .row .widths)) (length s) past))
 
-  pub whole : {w : ℕ} → at < length s → RowOf (getD s at 0) w → suc at + w ≤ length s → commandAt s at ≡ operandsOf s (suc at) (getD s at 0)
-  unfolding commandAt operandsOf
+  pub whole : {w : ℕ} → at < length s → RowOf (getD s at 0) w → suc at + w ≤ length s → ByteSays s at (Known (getD s at 0))
+  unfolding commandAt commandOf widthOf
   whole h r l =
       let within : suc at + total (r .row .widths) ≤ length s = omega (arith, r .wide) in
-      simp (lt-ltb at (length s) h, r .is) (simp (le-leb (suc at + total (r .row .widths)) (length s) within))
+      (rw (r .is) within, simp (lt-ltb at (length s) h, r .is) (simp (le-leb (suc at + total (r .row .widths)) (length s) within)))
 
--- THE OPERANDS OF EACH ROW
+-- THE COMMAND OF EACH ROW
 module _ (s : List ℕ) (p : ℕ) where
   pub one-byte : bigEndian s p 1 ≡ getD s p 0
   unfolding bigEndian
@@ -119,62 +128,62 @@ module _ (s : List ℕ) (p : ℕ) where
   unfolding valuesFrom
   block-values = simp add-assoc
 
-  pub word-operands : operandsOf s p 0x01 ≡ found (WORD (bigEndian s p 4)) (p + 4)
-  unfolding operandsOf
-  word-operands = refl
+  pub word-command : commandOf s p 0x01 ≡ WORD (bigEndian s p 4)
+  unfolding commandOf
+  word-command = refl
 
-  pub block-operands : operandsOf s p 0x02 ≡ found (BLOCK (record { version = bigEndian s p 4; values = valuesFrom s p })) (p + 36)
-  unfolding operandsOf valuesFrom
-  block-operands = refl
+  pub block-command : commandOf s p 0x02 ≡ BLOCK (record { version = bigEndian s p 4; values = valuesFrom s p })
+  unfolding commandOf valuesFrom
+  block-command = refl
 
-  pub task-operands : operandsOf s p 0x03 ≡ found TASK p
-  unfolding operandsOf
-  task-operands = simp add-zero
+  pub task-command : commandOf s p 0x03 ≡ TASK
+  unfolding commandOf
+  task-command = refl
 
-  pub release-operands : operandsOf s p 0x04 ≡ found (RELEASE (record { tick = bigEndian s p 2; task = getD s (p + 2) 0 })) (p + 3)
-  unfolding operandsOf
-  release-operands = simp (add-zero, zero-add)
+  pub release-command : commandOf s p 0x04 ≡ RELEASE (record { tick = bigEndian s p 2; task = getD s (p + 2) 0 })
+  unfolding commandOf
+  release-command = simp (add-zero, zero-add)
 
-  pub end-operands : operandsOf s p 0x05 ≡ found END p
-  unfolding operandsOf
-  end-operands = simp add-zero
+  pub end-command : commandOf s p 0x05 ≡ END
+  unfolding commandOf
+  end-command = refl
 
-  pub load-operands : operandsOf s p 0x10 ≡ found (LOAD (getD s p 0) (bigEndian s (p + 1) 4)) (p + 5)
-  unfolding operandsOf
-  load-operands = simp (add-zero, zero-add)
+  pub load-command : commandOf s p 0x10 ≡ LOAD (getD s p 0) (bigEndian s (p + 1) 4)
+  unfolding commandOf
+  load-command = simp (add-zero, zero-add)
 
-  pub sum-operands : operandsOf s p 0x11 ≡ found (ADD (getD s p 0) (getD s (p + 1) 0)) (p + 2)
-  unfolding operandsOf
-  sum-operands = simp (add-zero, zero-add)
+  pub sum-command : commandOf s p 0x11 ≡ ADD (getD s p 0) (getD s (p + 1) 0)
+  unfolding commandOf
+  sum-command = simp (add-zero, zero-add)
 
-  pub read-operands : operandsOf s p 0x12 ≡ found (READ (getD s p 0) (getD s (p + 1) 0)) (p + 2)
-  unfolding operandsOf
-  read-operands = simp (add-zero, zero-add)
+  pub read-command : commandOf s p 0x12 ≡ READ (getD s p 0) (getD s (p + 1) 0)
+  unfolding commandOf
+  read-command = simp (add-zero, zero-add)
 
-  pub pair-operands : operandsOf s p 0x13 ≡ found (PAIR (getD s p 0) (getD s (p + 1) 0) (getD s (p + 2) 0)) (p + 3)
-  unfolding operandsOf
-  pair-operands = simp (add-zero, zero-add, add-assoc)
+  pub pair-command : commandOf s p 0x13 ≡ PAIR (getD s p 0) (getD s (p + 1) 0) (getD s (p + 2) 0)
+  unfolding commandOf
+  pair-command = simp (add-zero, zero-add, add-assoc)
 
-  pub swap-operands : operandsOf s p 0x14 ≡ found (SWAP (getD s p 0)) (p + 1)
-  unfolding operandsOf
-  swap-operands = simp (add-zero, zero-add)
+  pub swap-command : commandOf s p 0x14 ≡ SWAP (getD s p 0)
+  unfolding commandOf
+  swap-command = simp (add-zero, zero-add)
 
-  pub begin-operands : operandsOf s p 0x20 ≡ found BEGIN p
-  unfolding operandsOf
-  begin-operands = simp add-zero
+  pub begin-command : commandOf s p 0x20 ≡ BEGIN
+  unfolding commandOf
+  begin-command = refl
 
-  pub get-operands : operandsOf s p 0x21 ≡ found (access (GET (getD s p 0) (getD s (p + 1) 0) (getD s (p + 2) 0))) (p + 3)
-  unfolding operandsOf
-  get-operands = simp (add-zero, zero-add, add-assoc)
+  pub get-command : commandOf s p 0x21 ≡ access (GET (getD s p 0) (getD s (p + 1) 0) (getD s (p + 2) 0))
+  unfolding commandOf
+  get-command = simp (add-zero, zero-add, add-assoc)
 
-  pub put-operands : operandsOf s p 0x22 ≡ found (access (PUT (getD s p 0) (getD s (p + 1) 0) (getD s (p + 2) 0))) (p + 3)
-  unfolding operandsOf
-  put-operands = simp (add-zero, zero-add, add-assoc)
+  pub put-command : commandOf s p 0x22 ≡ access (PUT (getD s p 0) (getD s (p + 1) 0) (getD s (p + 2) 0))
+  unfolding commandOf
+  put-command = simp (add-zero, zero-add, add-assoc)
 
-  pub commit-operands : operandsOf s p 0x23 ≡ found COMMIT p
-  unfolding operandsOf
-  commit-operands = simp add-zero
+  pub commit-command : commandOf s p 0x23 ≡ COMMIT
+  unfolding commandOf
+  commit-command = refl
 
-  pub no-operands : (b : ℕ) → rowOf b table ≡ none → operandsOf s p b ≡ refused noCommand p
-  unfolding operandsOf
-  no-operands b e = simp e
+  pub no-command : (b : ℕ) → rowOf b table ≡ none → commandOf s p b ≡ END
+  unfolding commandOf
+  no-command b e = simp e

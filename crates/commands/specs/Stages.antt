@@ -1,13 +1,12 @@
--- The stages of the decoding, each a part of the model's: the row of a byte, the byte at a place, the operands of a byte.
-use Prim.Native.Nat.{ℕ, suc, _+_, _-_, _<_}
+-- The stages of the decoding, each a part of the model's: the row of a byte, its command and width, the byte at a place.
+use Prim.Native.Nat.{ℕ, suc, _+_, _-_, _≤_}
 use mathlib.Core.Path.{_≡_}
 use mathlib.Core.Bool.{Bool, true, false}
 use mathlib.Core.List.{List, [], _∷_}
 use mathlib.Core.Option.{Option, none, some}
 use lib.Dec.{ltb, leb}
 use lib.ListN.{length, getD}
-use Rattle.model.specs.Refusal.{noCommand}
-use Rattle.model.specs.Command.{blockOf, Row, table, rowOf, total, operand, Found, found, refused, commandAt}
+use Rattle.model.specs.Command.{Command, END, blockOf, Row, table, rowOf, total, operand, found, refused, commandAt}
 use Rattle.commands.specs.View.{viewRefusal}
 use Rattle.commands.specs.declared.Entry.{Entry}
 use Rattle.commands.specs.declared.Index.{Index}
@@ -62,17 +61,27 @@ unfoldable pub valuesFrom : List ℕ → ℕ → List ℕ
 unfolding operand
 valuesFrom s p = blockOf (operand s p (4 ∷ 4 ∷ 4 ∷ 4 ∷ 4 ∷ 4 ∷ 4 ∷ 4 ∷ 4 ∷ [])) .values
 
--- the command of a row whose operands start at p
-unfoldable pub rowFrom : List ℕ → ℕ → Option Row → Found
-unfolding operand total
-rowFrom s p none = refused noCommand p
-rowFrom s p (some r) = found (r .command (λ n. operand s p (r .widths) n)) (p + total (r .widths))
+-- the command of a row whose operands start at p, and how many bytes they take; END and 0 for no row
+unfoldable pub commandFrom : List ℕ → ℕ → Option Row → Command
+unfolding operand
+commandFrom s p none = END
+commandFrom s p (some r) = r .command (λ n. operand s p (r .widths) n)
 
-unfoldable pub operandsOf : List ℕ → ℕ → ℕ → Found
-unfolding rowFrom rowOf table
-operandsOf s p b = rowFrom s p (rowOf b table)
+unfoldable pub widthFrom : Option Row → ℕ
+unfolding total
+widthFrom none = 0
+widthFrom (some r) = total (r .widths)
+
+-- the same by the command byte
+unfoldable pub commandOf : List ℕ → ℕ → ℕ → Command
+unfolding commandFrom rowOf table
+commandOf s p b = commandFrom s p (rowOf b table)
+
+unfoldable pub widthOf : ℕ → ℕ
+unfolding widthFrom rowOf table
+widthOf b = widthFrom (rowOf b table)
 
 -- what the byte at a place says of the command there
 abbrev pub ByteSays : List ℕ → ℕ → Opcode → Type 0
 ByteSays s at (opcode.Refused f) = commandAt s at ≡ refused (viewRefusal (f .refusal)) (f .place)
-ByteSays s at (opcode.Known b) = (at < length s) × (commandAt s at ≡ operandsOf s (suc at) b)
+ByteSays s at (opcode.Known b) = (suc at + widthOf b ≤ length s) × (commandAt s at ≡ found (commandOf s (suc at) b) (suc at + widthOf b))

@@ -4,8 +4,8 @@ ghost use Prim.Native.Nat.{suc, _+_, _≤_, _<_};
 ghost use lib.ListN.{length, getD};
 ghost use Rattle.model.specs.Command.{bigEndian, commandAt};
 ghost use Rattle.model.specs.Refusal.{number};
-ghost use Rattle.commands.specs.View.{viewRefusal, viewDecoded};
-ghost use Rattle.commands.specs.Stages.{indexOf, widthAt, ByteSays, operandsOf, valuesFrom};
+ghost use Rattle.commands.specs.View.{viewRefusal, viewCommand, viewDecoded};
+ghost use Rattle.commands.specs.Stages.{indexOf, widthAt, widthOf, commandOf, ByteSays, valuesFrom};
 
 pub struct Release {
     pub tick: u16,
@@ -193,6 +193,16 @@ pub fn width(i: usize) -> usize
     size(entry.width)
 }
 
+// The operand bytes that follow a command byte; 0 where the byte names no command.
+fn width_of(b: u8) -> usize
+    ensures { λ r. ⌜ r ≡ widthOf b ⌝ }
+{
+    let Index::At(i) = index_of(b) else {
+        return 0;
+    };
+    width(i)
+}
+
 // The byte at a place, 0 past the end.
 fn byte(s: &[u8], at: usize) -> u8
     ensures { λ r. ⌜ r ≡ getD (now (s .entry)) at 0 ⌝ }
@@ -259,79 +269,56 @@ pub fn command_byte(s: &[u8], at: usize) -> Opcode
     Opcode::Known(b)
 }
 
-// The command of a byte, its operands starting at p.
-pub fn operands(s: &[u8], p: usize, b: u8) -> Decoded
+// The command of a byte, its operands starting at p; END where the byte names none.
+fn command_of(s: &[u8], p: usize, b: u8) -> Command
     requires { ⌜ p ≤ length (now s) ⌝ }
-    ensures { λ r. ⌜ viewDecoded (valuesFrom (now (s .entry)) p) r ≡ operandsOf (now (s .entry)) p b ⌝ }
+    ensures { λ r. ⌜ viewCommand (valuesFrom (now (s .entry)) p) r ≡ commandOf (now (s .entry)) p b ⌝ }
 {
     match b {
-        0x01 => Decoded::Got(Command::Word(value4(s, p)), p + 4),
-        0x02 => Decoded::Got(Command::Block(value4(s, p)), p + 36),
-        0x03 => Decoded::Got(Command::Task, p),
-        0x04 => Decoded::Got(
-            Command::Release(Release {
-                tick: value2(s, p),
-                task: byte(s, p + 2),
-            }),
-            p + 3,
-        ),
-        0x05 => Decoded::Got(Command::End, p),
-        0x10 => Decoded::Got(
-            Command::Load {
-                register: byte(s, p),
-                value: value4(s, p + 1),
-            },
-            p + 5,
-        ),
-        0x11 => Decoded::Got(
-            Command::Add {
-                register: byte(s, p),
-                other: byte(s, p + 1),
-            },
-            p + 2,
-        ),
-        0x12 => Decoded::Got(
-            Command::Read {
-                register: byte(s, p),
-                word: byte(s, p + 1),
-            },
-            p + 2,
-        ),
-        0x13 => Decoded::Got(
-            Command::Pair {
-                word: byte(s, p),
-                old: byte(s, p + 1),
-                new: byte(s, p + 2),
-            },
-            p + 3,
-        ),
-        0x14 => Decoded::Got(Command::Swap(byte(s, p)), p + 1),
-        0x20 => Decoded::Got(Command::Begin, p),
-        0x21 => Decoded::Got(
-            Command::Access(Access::Get {
-                register: byte(s, p),
-                block: byte(s, p + 1),
-                offset: byte(s, p + 2),
-            }),
-            p + 3,
-        ),
-        0x22 => Decoded::Got(
-            Command::Access(Access::Put {
-                block: byte(s, p),
-                offset: byte(s, p + 1),
-                register: byte(s, p + 2),
-            }),
-            p + 3,
-        ),
-        0x23 => Decoded::Got(Command::Commit, p),
-        _ => Decoded::Refused(Fault {
-            refusal: Refusal::NoCommand,
-            place: p,
+        0x01 => Command::Word(value4(s, p)),
+        0x02 => Command::Block(value4(s, p)),
+        0x03 => Command::Task,
+        0x04 => Command::Release(Release {
+            tick: value2(s, p),
+            task: byte(s, p + 2),
         }),
+        0x05 => Command::End,
+        0x10 => Command::Load {
+            register: byte(s, p),
+            value: value4(s, p + 1),
+        },
+        0x11 => Command::Add {
+            register: byte(s, p),
+            other: byte(s, p + 1),
+        },
+        0x12 => Command::Read {
+            register: byte(s, p),
+            word: byte(s, p + 1),
+        },
+        0x13 => Command::Pair {
+            word: byte(s, p),
+            old: byte(s, p + 1),
+            new: byte(s, p + 2),
+        },
+        0x14 => Command::Swap(byte(s, p)),
+        0x20 => Command::Begin,
+        0x21 => Command::Access(Access::Get {
+            register: byte(s, p),
+            block: byte(s, p + 1),
+            offset: byte(s, p + 2),
+        }),
+        0x22 => Command::Access(Access::Put {
+            block: byte(s, p),
+            offset: byte(s, p + 1),
+            register: byte(s, p + 2),
+        }),
+        0x23 => Command::Commit,
+        _ => Command::End,
     }
 }
 
-// The command at a place of the sheet.
+// The command at a place of the sheet. It and the place after it are made apart: the one from the byte, the other from
+// the table's width.
 pub fn decode(s: &[u8], at: usize) -> Decoded
     ensures { λ r. ⌜ viewDecoded (valuesFrom (now (s .entry)) (suc at)) r ≡ commandAt (now (s .entry)) at ⌝ }
 {
@@ -345,5 +332,6 @@ pub fn decode(s: &[u8], at: usize) -> Decoded
             }),
         };
     };
-    operands(s, at + 1, b)
+    let next = at + 1 + width_of(b);
+    Decoded::Got(command_of(s, at + 1, b), next)
 }

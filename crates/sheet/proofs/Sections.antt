@@ -11,9 +11,9 @@ use lib.ListN.{length, getD}
 use Rattle.model.specs.Command.{Block, Release, Command, GET, PUT, WORD, BLOCK, TASK, RELEASE, END, LOAD, ADD, READ, PAIR, SWAP, BEGIN, access, COMMIT, Row, table, rowBy, rowOf, total, operand, bigEndian, found, foundWhole, foundRow, foundByte, commandAt}
 use Rattle.model.specs.Fault.{Section, wordSection, blockSection, bodySection, releaseSection, words?, blocks?, body?, releases?, Known, inPlace}
 use Rattle.model.specs.Sheet.{end?}
-use Rattle.commands.specs.Stages.{valuesFrom, rowFrom, operandsOf}
+use Rattle.commands.specs.Stages.{valuesFrom, commandFrom, widthFrom, commandOf, widthOf}
 use Rattle.sheet.specs.Places.{ofBody}
-use Rattle.commands.proofs.Decoding.{word-operands, block-operands}
+use Rattle.commands.proofs.Decoding.{word-command, block-command}
 
 -- THE BYTE OF A COMMAND
 abbrev pub byteOf : Command → ℕ
@@ -55,47 +55,48 @@ module _ (b : ℕ) (o : ℕ → ℕ) {r : Row} where
   row-byte [] h e = let z : _≡_ {A = ℕ} 0 1 = cc in absurd (omega arith)
   row-byte (x ∷ l) h e = picked x (rowOf b l) (h .0 o) (row-byte l (h .1)) (eqb b (x .byte)) refl e
 
--- a command found at a place has its byte there, and the operands behind it
+-- a command found at a place has its byte there, and is the one of that byte with the operands behind it
 pub record At (s : List ℕ) (p : ℕ) (c : Command) (next : ℕ) : Type 0 where
   pub byte : getD s p 0 ≡ byteOf c
-  pub operands : operandsOf s (suc p) (getD s p 0) ≡ found c next
+  pub command : commandOf s (suc p) (getD s p 0) ≡ c
+  pub after : suc p + widthOf (getD s p 0) ≡ next
 
 module _ (s : List ℕ) (p : ℕ) {c : Command} {next : ℕ} where
-  whole-row : (r : Row) → rowOf (getD s p 0) table ≡ some r → (b : Bool) → foundWhole b s p r ≡ found c next → (getD s p 0 ≡ byteOf c) × (rowFrom s (suc p) (some r) ≡ found c next)
-  unfolding foundWhole rowFrom
+  whole-row : (r : Row) → rowOf (getD s p 0) table ≡ some r → (b : Bool) → foundWhole b s p r ≡ found c next → (getD s p 0 ≡ byteOf c) × (commandFrom s (suc p) (some r) ≡ c) × (suc p + widthFrom (some r) ≡ next)
+  unfolding foundWhole commandFrom widthFrom
   whole-row r e true f =
       let is : r .command (λ n. operand s (suc p) (r .widths) n) ≡ c = cc in
-      (sym (ap byteOf (sym is) ∙ row-byte (getD s p 0) (λ n. operand s (suc p) (r .widths) n) table right e), f)
+      (sym (ap byteOf (sym is) ∙ row-byte (getD s p 0) (λ n. operand s (suc p) (r .widths) n) table right e), is, cc)
   whole-row r e false f = let z : _≡_ {A = ℕ} 0 1 = cc in absurd (omega arith)
 
-  whole-option : (o : Option Row) → rowOf (getD s p 0) table ≡ o → foundRow s p o ≡ found c next → (getD s p 0 ≡ byteOf c) × (rowFrom s (suc p) o ≡ found c next)
+  whole-option : (o : Option Row) → rowOf (getD s p 0) table ≡ o → foundRow s p o ≡ found c next → (getD s p 0 ≡ byteOf c) × (commandFrom s (suc p) o ≡ c) × (suc p + widthFrom o ≡ next)
   unfolding foundRow
   whole-option none e f = let z : _≡_ {A = ℕ} 0 1 = cc in absurd (omega arith)
   whole-option (some r) e f = whole-row r e (leb (suc p + total (r .widths)) (length s)) f
 
-  whole-byte : (b : Bool) → foundByte b s p ≡ found c next → (getD s p 0 ≡ byteOf c) × (rowFrom s (suc p) (rowOf (getD s p 0) table) ≡ found c next)
+  whole-byte : (b : Bool) → foundByte b s p ≡ found c next → (getD s p 0 ≡ byteOf c) × (commandFrom s (suc p) (rowOf (getD s p 0) table) ≡ c) × (suc p + widthFrom (rowOf (getD s p 0) table) ≡ next)
   unfolding foundByte
   whole-byte true f = whole-option (rowOf (getD s p 0) table) refl f
   whole-byte false f = let z : _≡_ {A = ℕ} 0 1 = cc in absurd (omega arith)
 
   pub found-at : commandAt s p ≡ found c next → At s p c next
-  unfolding commandAt operandsOf
-  found-at e = let w = whole-byte (ltb p (length s)) e in record { byte = w .0; operands = w .1 }
+  unfolding commandAt commandOf widthOf
+  found-at e = let w = whole-byte (ltb p (length s)) e in record { byte = w .0; command = w .1; after = w .2 }
 
 module _ (s : List ℕ) (p : ℕ) where
   pub word-at : {v next : ℕ} → commandAt s p ≡ found (WORD v) next → (v ≡ bigEndian s (suc p) 4) × (next ≡ suc p + 4)
+  unfolding widthOf
   word-at {v} {next} e =
       let a = found-at s p e in
-      let f : operandsOf s (suc p) 0x01 ≡ found (WORD v) next = rw (a .byte) at (a .operands) in
-      let g : found (WORD v) next ≡ found (WORD (bigEndian s (suc p) 4)) (suc p + 4) = sym f ∙ word-operands s (suc p) in
-      (cc, cc)
+      let f : WORD v ≡ WORD (bigEndian s (suc p) 4) = sym (rw (a .byte) at (a .command)) ∙ word-command s (suc p) in
+      (cc, sym (rw (a .byte) at (a .after)))
 
   pub block-at : {b : Block} {next : ℕ} → commandAt s p ≡ found (BLOCK b) next → (b ≡ record { version = bigEndian s (suc p) 4; values = valuesFrom s (suc p) }) × (next ≡ suc p + 36)
+  unfolding widthOf
   block-at {b} {next} e =
       let a = found-at s p e in
-      let f : operandsOf s (suc p) 0x02 ≡ found (BLOCK b) next = rw (a .byte) at (a .operands) in
-      let g : found (BLOCK b) next ≡ found (BLOCK (record { version = bigEndian s (suc p) 4; values = valuesFrom s (suc p) })) (suc p + 36) = sym f ∙ block-operands s (suc p) in
-      (cc, cc)
+      let f : BLOCK b ≡ BLOCK (record { version = bigEndian s (suc p) 4; values = valuesFrom s (suc p) }) = sym (rw (a .byte) at (a .command)) ∙ block-command s (suc p) in
+      (cc, sym (rw (a .byte) at (a .after)))
 
 -- THE ORDER OF SECTIONS
 abbrev pub rank : Section → ℕ

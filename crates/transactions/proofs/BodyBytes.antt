@@ -7,12 +7,12 @@ use native.Mathlib.Omega.{arith}
 use borrow.Author.Tests.{eqb-true, eqb-false}
 use lib.Dec.{ltb, leb, eqb}
 use Rattle.model.specs.Command.{commandAt}
-use Rattle.commands.specs.Stages.{pick, operandsOf, ByteSays}
+use Rattle.commands.specs.Stages.{pick, commandOf, ByteSays}
 use Rattle.commands.specs.declared.Fault.{Fault}
 use Rattle.commands.specs.declared.Opcode.{Opcode}
 use Rattle.commands.specs.declared.Opcode.the-variants.{Known, Refused}
 use Rattle.commands.proofs.Decoding.{cases}
-use Rattle.transactions.specs.Jobs.{inBody}
+use Rattle.transactions.specs.Jobs.{bodyCommand, inBody}
 
 unfoldable pub bodyByte : ℕ → Bool
 bodyByte b =
@@ -36,23 +36,23 @@ is-same false false e = refl
 module _ (s : List ℕ) (p : ℕ) where
   -- every byte below n
   allSame : ℕ → Bool
-  unfolding same operandsOf bodyByte
+  unfolding same commandOf bodyByte
   allSame zero = true
-  allSame (suc n) = same (inBody (operandsOf s p n)) (bodyByte n) && allSame n
+  allSame (suc n) = same (bodyCommand (commandOf s p n)) (bodyByte n) && allSame n
 
-  below : (n b : ℕ) → allSame n ≡ true → b < n → same (inBody (operandsOf s p b)) (bodyByte b) ≡ true
+  below : (n b : ℕ) → allSame n ≡ true → b < n → same (bodyCommand (commandOf s p b)) (bodyByte b) ≡ true
   unfolding allSame
   below zero b all h = absurd (omega arith)
   below (suc n) b all h =
-      let parts = and-eq-true-iff (same (inBody (operandsOf s p n)) (bodyByte n)) (allSame n) .0 all in
+      let parts = and-eq-true-iff (same (bodyCommand (commandOf s p n)) (bodyByte n)) (allSame n) .0 all in
       cases (eqb b n)
-      (λ e. subst (λ (m : ℕ). same (inBody (operandsOf s p m)) (bodyByte m) ≡ true) (sym (eqb-true b n e)) (parts .0))
+      (λ e. subst (λ (m : ℕ). same (bodyCommand (commandOf s p m)) (bodyByte m) ≡ true) (sym (eqb-true b n e)) (parts .0))
       (λ e. let ne : b ≡ n → ⊥ = eqb-false b n e in below n b (parts .1) (omega arith))
 
   -- all 256 bytes, by one computed test
-  pub body-byte : (b : ℕ) → b < 256 → inBody (operandsOf s p b) ≡ bodyByte b
+  pub body-byte : (b : ℕ) → b < 256 → bodyCommand (commandOf s p b) ≡ bodyByte b
   unfolding allSame
-  body-byte b h = is-same (inBody (operandsOf s p b)) (bodyByte b) (below 256 b refl h)
+  body-byte b h = is-same (bodyCommand (commandOf s p b)) (bodyByte b) (below 256 b refl h)
 
 pub body-at : (s : List ℕ) (place : ℕ) (o : Opcode) (b : ℕ) → ByteSays s place o → o ≡ Known b → b < 256 → inBody (commandAt s place) ≡ bodyByte b
 body-at s place o b says e h =

@@ -50,7 +50,7 @@ returns-4 : tie.Need-returns-4
 returns-4 c = let a = c .before .before .before .before .before .before .before .before .before .args in
     let e : indexOf (getD (a .s .now) (a .at) 0) ≡ At (c .before .before .before .i .given .0 .0) = cc in
     let says = rw e at (index-says (getD (a .s .now) (a .at) 0) (omega (arith, c .before .before .before .before .before .before .shared-slice-known2 .given (a .at)))) in
-    (c .before .before .before .before .before .before .before .if1 .left, whole _ _ (c .before .before .before .before .before .before .before .if1 .left) (says .1) (omega arith))
+    whole _ _ (c .before .before .before .before .before .before .before .if1 .left) (says .1) (omega arith)
 
 pub command-byte-spec : {M : Type 1} → statement M
 command-byte-spec =

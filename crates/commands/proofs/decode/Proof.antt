@@ -29,20 +29,33 @@ returns c = let e : c .before .before .before .before .before .before .command-b
 returns-2 : tie.Need-returns-2
 returns-2 c = search needs
 
-add-operands : tie.Need-add-operands
-add-operands c = let e : c .before .before .before .command-byte .result ≡ Known (c .before .o .given .0 .0) = cc in
+add-next : tie.Need-add-next
+add-next c = let e : c .before .before .before .command-byte .result ≡ Known (c .before .o .given .0 .0) = cc in
     let says = rw e at (c .before .before .before .command-byte .ensures) in
     omega (arith, says .0)
 
-operands-requires : tie.Need-operands-requires
-operands-requires c κs = let e : c .before .before .before .command-byte .result ≡ Known (c .before .o .given .0 .0) = cc in
-    let says = rw e at (c .before .before .before .command-byte .ensures) in
+width-of-requires : tie.Need-width-of-requires
+width-of-requires c κs = search needs
+
+add-next-2 : tie.Need-add-next-2
+add-next-2 c = let e : c .before .before .before .before .command-byte .result ≡ Known (c .before .before .o .given .0 .0) = cc in
+    let says = rw e at (c .before .before .before .before .command-byte .ensures) in
+    omega (arith, says .0, c .width-of .ensures)
+
+add-command-of : tie.Need-add-command-of
+add-command-of c = let e : c .before .before .before .before .command-byte .result ≡ Known (c .before .before .o .given .0 .0) = cc in
+    let says = rw e at (c .before .before .before .before .command-byte .ensures) in
+    omega (arith, says .0)
+
+command-of-requires : tie.Need-command-of-requires
+command-of-requires c κs = let e : c .before .before .before .before .command-byte .result ≡ Known (c .before .before .o .given .0 .0) = cc in
+    let says = rw e at (c .before .before .before .before .command-byte .ensures) in
     omega (arith, says .0)
 
 returns-3 : tie.Need-returns-3
-returns-3 c = let e : c .before .before .before .before .command-byte .result ≡ Known (c .before .before .o .given .0 .0) = cc in
-    let says = rw e at (c .before .before .before .before .command-byte .ensures) in
-    rw add-one at (c .operands .ensures) ∙ sym (says .1)
+returns-3 c = let e : c .before .before .before .before .before .command-byte .result ≡ Known (c .before .before .before .o .given .0 .0) = cc in
+    let says = rw e at (c .before .before .before .before .before .command-byte .ensures) in
+    rw (says .1, ← rw add-one at (c .command-of .ensures), ← c .before .width-of .ensures, add-one)
 
 pub decode-spec : {M : Type 1} → statement M
 decode-spec =
@@ -55,6 +68,9 @@ decode-spec =
     enum-told
     returns
     returns-2
-    add-operands
-    operands-requires
+    add-next
+    width-of-requires
+    add-next-2
+    add-command-of
+    command-of-requires
     returns-3)

@@ -1,23 +1,17 @@
--- `operands` meets its contract.
+-- `command_of` meets its contract.
 use Rattle.model.specs.Command.{rowOf, table}
-use Rattle.commands.proofs.Decoding.{begin-operands, block-operands, commit-operands, end-operands, get-operands, load-operands, no-operands, pair-operands, put-operands, read-operands, release-operands, sum-operands, swap-operands, task-operands, word-operands}
+use Rattle.commands.proofs.Decoding.{begin-command, block-command, commit-command, end-command, get-command, load-command, no-command, pair-command, put-command, read-command, release-command, sum-command, swap-command, task-command, word-command}
 use borrow.Author.Tests.{ne-eqb}
 use mathlib.Core.Path.{sym}
 use borrow.Author.Needs.{needs}
-use Rattle.commands.proofs.operands.Statement.{statement}
-use Rattle.commands.proofs.operands.Tie as tie
+use Rattle.commands.proofs.command_of.Statement.{statement}
+use Rattle.commands.proofs.command_of.Tie as tie
 
 value4-requires : tie.Need-value4-requires
 value4-requires c κs = search needs
 
-add-t7 : tie.Need-add-t7
-add-t7 c = search needs
-
 value4-requires-2 : tie.Need-value4-requires-2
 value4-requires-2 c κs = search needs
-
-add-t10 : tie.Need-add-t10
-add-t10 c = search needs
 
 value2-requires : tie.Need-value2-requires
 value2-requires c κs = search needs
@@ -28,9 +22,6 @@ add-byte c = search needs
 byte-requires : tie.Need-byte-requires
 byte-requires c κs = search needs
 
-add-t17 : tie.Need-add-t17
-add-t17 c = search needs
-
 byte-requires-2 : tie.Need-byte-requires-2
 byte-requires-2 c κs = search needs
 
@@ -39,9 +30,6 @@ add-value4 c = search needs
 
 value4-requires-3 : tie.Need-value4-requires-3
 value4-requires-3 c κs = search needs
-
-add-t23 : tie.Need-add-t23
-add-t23 c = search needs
 
 byte-requires-3 : tie.Need-byte-requires-3
 byte-requires-3 c κs = search needs
@@ -52,9 +40,6 @@ add-byte-2 c = search needs
 byte-requires-4 : tie.Need-byte-requires-4
 byte-requires-4 c κs = search needs
 
-add-t28 : tie.Need-add-t28
-add-t28 c = search needs
-
 byte-requires-5 : tie.Need-byte-requires-5
 byte-requires-5 c κs = search needs
 
@@ -63,9 +48,6 @@ add-byte-3 c = search needs
 
 byte-requires-6 : tie.Need-byte-requires-6
 byte-requires-6 c κs = search needs
-
-add-t33 : tie.Need-add-t33
-add-t33 c = search needs
 
 byte-requires-7 : tie.Need-byte-requires-7
 byte-requires-7 c κs = search needs
@@ -82,14 +64,8 @@ add-byte-5 c = search needs
 byte-requires-9 : tie.Need-byte-requires-9
 byte-requires-9 c κs = search needs
 
-add-t40 : tie.Need-add-t40
-add-t40 c = search needs
-
 byte-requires-10 : tie.Need-byte-requires-10
 byte-requires-10 c κs = search needs
-
-add-t43 : tie.Need-add-t43
-add-t43 c = search needs
 
 byte-requires-11 : tie.Need-byte-requires-11
 byte-requires-11 c κs = search needs
@@ -106,9 +82,6 @@ add-byte-7 c = search needs
 byte-requires-13 : tie.Need-byte-requires-13
 byte-requires-13 c κs = search needs
 
-add-t52 : tie.Need-add-t52
-add-t52 c = search needs
-
 byte-requires-14 : tie.Need-byte-requires-14
 byte-requires-14 c κs = search needs
 
@@ -124,100 +97,87 @@ add-byte-9 c = search needs
 byte-requires-16 : tie.Need-byte-requires-16
 byte-requires-16 c κs = search needs
 
-add-t60 : tie.Need-add-t60
-add-t60 c = search needs
-
 returns : tie.Need-returns
-returns c = rw (c .before .match .keys1, word-operands) (cc)
+returns c = rw (c .before .match .keys1, word-command) (cc)
 
 returns-2 : tie.Need-returns-2
-returns-2 c = rw (c .before .match .keys2, block-operands) (cc)
+returns-2 c = rw (c .before .match .keys2, block-command) (cc)
 
 returns-3 : tie.Need-returns-3
-returns-3 c = rw (c .match .keys3, task-operands)
+returns-3 c = rw (c .match .keys3, task-command)
 
 returns-4 : tie.Need-returns-4
-returns-4 c = rw (c .before .before .match .keys4, release-operands) (cc)
+returns-4 c = rw (c .before .before .match .keys4, release-command) (cc)
 
 returns-5 : tie.Need-returns-5
-returns-5 c = rw (c .match .keys5, end-operands)
+returns-5 c = rw (c .match .keys5, end-command)
 
 returns-6 : tie.Need-returns-6
-returns-6 c = rw (c .before .before .match .keys6, load-operands) (cc)
+returns-6 c = rw (c .before .before .match .keys6, load-command) (cc)
 
 returns-7 : tie.Need-returns-7
-returns-7 c = rw (c .before .before .match .keys7, sum-operands) (cc)
+returns-7 c = rw (c .before .before .match .keys7, sum-command) (cc)
 
 returns-8 : tie.Need-returns-8
-returns-8 c = rw (c .before .before .match .keys8, read-operands) (cc)
+returns-8 c = rw (c .before .before .match .keys8, read-command) (cc)
 
 returns-9 : tie.Need-returns-9
-returns-9 c = rw (c .before .before .before .match .keys9, pair-operands) (cc)
+returns-9 c = rw (c .before .before .before .match .keys9, pair-command) (cc)
 
 returns-10 : tie.Need-returns-10
-returns-10 c = rw (c .before .match .keys10, swap-operands) (cc)
+returns-10 c = rw (c .before .match .keys10, swap-command) (cc)
 
 returns-11 : tie.Need-returns-11
-returns-11 c = rw (c .match .keys11, begin-operands)
+returns-11 c = rw (c .match .keys11, begin-command)
 
 returns-12 : tie.Need-returns-12
-returns-12 c = rw (c .before .before .before .match .keys12, get-operands) (cc)
+returns-12 c = rw (c .before .before .before .match .keys12, get-command) (cc)
 
 returns-13 : tie.Need-returns-13
-returns-13 c = rw (c .before .before .before .match .keys13, put-operands) (cc)
+returns-13 c = rw (c .before .before .before .match .keys13, put-command) (cc)
 
 returns-14 : tie.Need-returns-14
-returns-14 c = rw (c .match .keys14, commit-operands)
+returns-14 c = rw (c .match .keys14, commit-command)
 
 returns-15 : tie.Need-returns-15
 unfolding rowOf table
 returns-15 c = let b = c .before .before .args .b in
-    sym (no-operands _ _ b (simp (ne-eqb b 1 (c .match .rest .0 .0 .0 .0 .0 .0 .0 .0 .0 .0 .0 .0 .0 .1), ne-eqb b 2 (c .match .rest .0 .0 .0 .0 .0 .0 .0 .0 .0 .0 .0 .0 .1), ne-eqb b 3 (c .match .rest .0 .0 .0 .0 .0 .0 .0 .0 .0 .0 .0 .1), ne-eqb b 4 (c .match .rest .0 .0 .0 .0 .0 .0 .0 .0 .0 .0 .1), ne-eqb b 5 (c .match .rest .0 .0 .0 .0 .0 .0 .0 .0 .0 .1), ne-eqb b 16 (c .match .rest .0 .0 .0 .0 .0 .0 .0 .0 .1), ne-eqb b 17 (c .match .rest .0 .0 .0 .0 .0 .0 .0 .1), ne-eqb b 18 (c .match .rest .0 .0 .0 .0 .0 .0 .1), ne-eqb b 19 (c .match .rest .0 .0 .0 .0 .0 .1), ne-eqb b 20 (c .match .rest .0 .0 .0 .0 .1), ne-eqb b 32 (c .match .rest .0 .0 .0 .1), ne-eqb b 33 (c .match .rest .0 .0 .1), ne-eqb b 34 (c .match .rest .0 .1), ne-eqb b 35 (c .match .rest .1))))
+    sym (no-command _ _ b (simp (ne-eqb b 1 (c .match .rest .0 .0 .0 .0 .0 .0 .0 .0 .0 .0 .0 .0 .0 .1), ne-eqb b 2 (c .match .rest .0 .0 .0 .0 .0 .0 .0 .0 .0 .0 .0 .0 .1), ne-eqb b 3 (c .match .rest .0 .0 .0 .0 .0 .0 .0 .0 .0 .0 .0 .1), ne-eqb b 4 (c .match .rest .0 .0 .0 .0 .0 .0 .0 .0 .0 .0 .1), ne-eqb b 5 (c .match .rest .0 .0 .0 .0 .0 .0 .0 .0 .0 .1), ne-eqb b 16 (c .match .rest .0 .0 .0 .0 .0 .0 .0 .0 .1), ne-eqb b 17 (c .match .rest .0 .0 .0 .0 .0 .0 .0 .1), ne-eqb b 18 (c .match .rest .0 .0 .0 .0 .0 .0 .1), ne-eqb b 19 (c .match .rest .0 .0 .0 .0 .0 .1), ne-eqb b 20 (c .match .rest .0 .0 .0 .0 .1), ne-eqb b 32 (c .match .rest .0 .0 .0 .1), ne-eqb b 33 (c .match .rest .0 .0 .1), ne-eqb b 34 (c .match .rest .0 .1), ne-eqb b 35 (c .match .rest .1))))
 
-pub operands-spec : {M : Type 1} → statement M
-operands-spec =
+pub command-of-spec : {M : Type 1} → statement M
+command-of-spec =
     tie.close
     (tie.spec
     value4-requires
-    add-t7
     value4-requires-2
-    add-t10
     value2-requires
     add-byte
     byte-requires
-    add-t17
     byte-requires-2
     add-value4
     value4-requires-3
-    add-t23
     byte-requires-3
     add-byte-2
     byte-requires-4
-    add-t28
     byte-requires-5
     add-byte-3
     byte-requires-6
-    add-t33
     byte-requires-7
     add-byte-4
     byte-requires-8
     add-byte-5
     byte-requires-9
-    add-t40
     byte-requires-10
-    add-t43
     byte-requires-11
     add-byte-6
     byte-requires-12
     add-byte-7
     byte-requires-13
-    add-t52
     byte-requires-14
     add-byte-8
     byte-requires-15
     add-byte-9
     byte-requires-16
-    add-t60
     returns
     returns-2
     returns-3
