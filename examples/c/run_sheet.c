@@ -43,6 +43,10 @@ int main(int count, char **words)
         return 2;
     }
     length = fread(sheet, 1, sizeof sheet, file);
+    if (ferror(file)) {
+        perror(words[1]);
+        return 2;
+    }
     fclose(file);
 
     number = hizgrael_run(sheet, length, 65535, report, sizeof report, &place);
@@ -50,6 +54,9 @@ int main(int count, char **words)
         fprintf(stderr, "%s: refused as %u at %" PRIu64 ": %s\n", words[1], number, place, meaning(number));
         return 1;
     }
-    fwrite(report, 1, (size_t)place, stdout);
+    if (fwrite(report, 1, (size_t)place, stdout) != place || fflush(stdout) != 0) {
+        perror("standard output");
+        return 2;
+    }
     return 0;
 }
