@@ -17,8 +17,8 @@ fn sheet(name: &str) -> Vec<u8> {
 }
 
 /// What the second simulator prints.
-fn printed(name: &str, limit: u64) -> String {
-    run_observed(&sheet(name), limit, &mut NoObserver)
+fn printed(name: &str) -> String {
+    run_observed(&sheet(name), TOP_LIMIT, &mut NoObserver)
         .unwrap_or_else(|refusal| format!("X {} {}\n", refusal.number, refusal.place))
 }
 
@@ -76,22 +76,6 @@ fn hexadecimal(bytes: &[u8]) -> String {
     bytes.join(" ")
 }
 
-/// The reports worked out by hand. The bench program is held to them by scripts/worked-figures.
-#[test]
-fn the_simulator_prints_the_worked_figures() {
-    for name in names().unwrap().iter().filter(|name| name.starts_with("worked/")) {
-        let stored = fs::read_to_string(folder().join(format!("{name}.report"))).unwrap();
-        assert_eq!(printed(name, TOP_LIMIT), stored, "{name}");
-    }
-}
-
-/// The one figure with another limit than the bench program's.
-#[test]
-fn p8_does_nothing() {
-    let report = "W 0 12\nT 0 0 0 0 0\nR 0 0 0 0 0 0 0 0 0\nE 0 0\n";
-    assert_eq!(printed("worked/sheet-a", 0), report);
-}
-
 /// A figure of a report: the start of its line, the place of the number after it, the number.
 type Figure = (&'static str, usize, u32);
 
@@ -104,7 +88,7 @@ const OWN: [(&str, &[Figure]); 2] = [
 ];
 
 fn assert_figures(name: &str, figures: &[Figure]) {
-    let report = printed(name, TOP_LIMIT);
+    let report = printed(name);
     for &(start, place, number) in figures {
         let start = format!("{start} ");
         let line = report.lines().find_map(|line| line.strip_prefix(&start)).unwrap();
@@ -128,8 +112,7 @@ fn the_page_has_every_example() {
     listed.sort_unstable();
     assert_eq!(listed, names().unwrap());
     for (name, _) in OWN {
-        let report =
-            format!("\n\n    {}\n", printed(name, TOP_LIMIT).trim_end().replace('\n', "\n    "));
+        let report = format!("\n\n    {}\n", printed(name).trim_end().replace('\n', "\n    "));
         assert!(page.contains(&report), "{name}");
     }
 }
