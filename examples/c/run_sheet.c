@@ -3,10 +3,6 @@
 #include <stdio.h>
 #include "hizgrael.h"
 
-/* No sheet has more bytes, and no command; so the first fault of a longer file lies in what is read of it. */
-#define LONGEST_SHEET 4857
-#define LONGEST_COMMAND 37
-
 static const char *meaning(uint8_t number)
 {
     switch (number) {
@@ -26,7 +22,7 @@ static const char *meaning(uint8_t number)
 
 int main(int count, char **words)
 {
-    static uint8_t sheet[LONGEST_SHEET + LONGEST_COMMAND];
+    static uint8_t sheet[HIZGRAEL_DECIDING_LENGTH];
     static uint8_t report[HIZGRAEL_LONGEST_REPORT];
     uint64_t place = 0;
     uint8_t number;

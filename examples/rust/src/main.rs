@@ -1,11 +1,13 @@
 //! Runs a sheet from a file through the proved library and prints its report, or says what is wrong and where.
 
+use std::env;
 use std::error::Error;
-use std::io::{stdout, Write};
+use std::fs::File;
+use std::io::{stdout, Read, Write};
+use std::path::Path;
 use std::process::ExitCode;
-use std::{env, fs};
 
-use hizgrael::{LONGEST_REPORT, TOP_LIMIT};
+use hizgrael::{DECIDING_LENGTH, LONGEST_REPORT, TOP_LIMIT};
 
 fn main() -> ExitCode {
     let Some(path) = env::args_os().nth(1) else {
@@ -21,8 +23,9 @@ fn main() -> ExitCode {
     }
 }
 
-fn print_report(path: &std::path::Path) -> Result<(), Box<dyn Error>> {
-    let sheet = fs::read(path)?;
+fn print_report(path: &Path) -> Result<(), Box<dyn Error>> {
+    let mut sheet = Vec::new();
+    File::open(path)?.take(DECIDING_LENGTH as u64).read_to_end(&mut sheet)?;
     let mut report = [0; LONGEST_REPORT];
     let length = hizgrael::run(&sheet, TOP_LIMIT, &mut report).accepted()?;
     stdout().write_all(&report[..length])?;

@@ -12,6 +12,9 @@ use std::fmt;
 /// No report is longer, so a buffer of this length is always enough.
 pub const LONGEST_REPORT: usize = 3848;
 
+/// The first bytes of a longer input decide its answer, so a reader may stop there.
+pub const DECIDING_LENGTH: usize = 4893;
+
 /// The highest limit that `run` takes.
 pub const TOP_LIMIT: u64 = 65_535;
 
