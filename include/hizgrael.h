@@ -1,8 +1,8 @@
 /* Hizgrael, the exchange engine: the two entries of the proved library (libengine.a, x86-64 Linux).
  *
- * A run sheet is a string of commands that declares words, blocks of eight words, tasks and their releases (README.md; the
- * text form of tools/ makes sheets). The engine runs it one statement a tick, always the highest task with work, and writes a
- * report.
+ * A run sheet is a string of commands that declares words, blocks of eight words, tasks and their releases (docs/SHEETS.md;
+ * sheet-text of tools/ makes sheets from text). The engine runs it one statement a tick, always the highest task with work, and
+ * writes a report.
  *
  * What is proved, for every sheet, limit and buffer: both entries return; number, place and every byte of the report buffer
  * are those of the definitions in crates/model/specs (Answer.antt); an accepted run is a sequence of whole operations
@@ -37,6 +37,10 @@ enum {
 
 /* No report is longer, so a buffer of this length is always enough. */
 #define HIZGRAEL_LONGEST_REPORT 3848
+
+/* The first bytes of a longer input decide its answer, so a reader may stop there: a good sheet has 4,857 bytes at most, so a faulty
+ * command starts at 4,856 at the latest, and none has more than 37 bytes. */
+#define HIZGRAEL_DECIDING_LENGTH 4893
 
 /* Is the sheet well formed? */
 uint8_t hizgrael_check(const uint8_t *sheet, size_t sheet_length, uint64_t *place);

@@ -3,10 +3,6 @@
 #include <stdio.h>
 #include "hizgrael.h"
 
-/* No sheet has more bytes, and no command; so the first fault of a longer file lies in what is read of it. */
-#define LONGEST_SHEET 4857
-#define LONGEST_COMMAND 37
-
 static const char *meaning(uint8_t number)
 {
     switch (number) {
@@ -26,7 +22,7 @@ static const char *meaning(uint8_t number)
 
 int main(int count, char **words)
 {
-    static uint8_t sheet[LONGEST_SHEET + LONGEST_COMMAND];
+    static uint8_t sheet[HIZGRAEL_DECIDING_LENGTH];
     static uint8_t report[HIZGRAEL_LONGEST_REPORT];
     uint64_t place = 0;
     uint8_t number;
@@ -43,6 +39,10 @@ int main(int count, char **words)
         return 2;
     }
     length = fread(sheet, 1, sizeof sheet, file);
+    if (ferror(file)) {
+        perror(words[1]);
+        return 2;
+    }
     fclose(file);
 
     number = hizgrael_run(sheet, length, 65535, report, sizeof report, &place);
@@ -50,6 +50,9 @@ int main(int count, char **words)
         fprintf(stderr, "%s: refused as %u at %" PRIu64 ": %s\n", words[1], number, place, meaning(number));
         return 1;
     }
-    fwrite(report, 1, (size_t)place, stdout);
+    if (fwrite(report, 1, (size_t)place, stdout) != place || fflush(stdout) != 0) {
+        perror("standard output");
+        return 2;
+    }
     return 0;
 }

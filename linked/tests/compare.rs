@@ -13,7 +13,7 @@ fn setting(name: &str, otherwise: u64) -> u64 {
 fn compare(seed: u64, index: u64) -> u8 {
     let case = case(seed, index);
     let expected = simulator::check(&case.sheet);
-    let found = linked::check(&case.sheet);
+    let found = hizgrael::check(&case.sheet);
     assert_eq!(
         (found.number, found.place),
         (expected.number, expected.place as u64),
@@ -23,7 +23,7 @@ fn compare(seed: u64, index: u64) -> u8 {
     let mut expected_buffer = case.buffer();
     let mut found_buffer = case.buffer();
     let expected = simulator::run(&case.sheet, case.limit, &mut expected_buffer);
-    let found = linked::run(&case.sheet, case.limit, &mut found_buffer);
+    let found = hizgrael::run(&case.sheet, case.limit, &mut found_buffer);
     assert_eq!(
         (found.number, found.place),
         (expected.number, expected.place as u64),
@@ -58,7 +58,7 @@ fn every_limit_agrees() {
         let mut expected = [0x2E; 4096];
         let mut found = [0x2E; 4096];
         let answer = simulator::run(&sheet, limit, &mut expected);
-        let other = linked::run(&sheet, limit, &mut found);
+        let other = hizgrael::run(&sheet, limit, &mut found);
         assert_eq!(
             (other.number, other.place),
             (answer.number, answer.place as u64),
@@ -80,7 +80,7 @@ fn noise_agrees() {
     for length in (0..2_000).chain([10_000_000]) {
         let noise: Vec<u8> = (0..length).map(|_| byte()).collect();
         let expected = simulator::check(&noise);
-        let found = linked::check(&noise);
+        let found = hizgrael::check(&noise);
         assert_eq!(
             (found.number, found.place),
             (expected.number, expected.place as u64),

@@ -162,7 +162,8 @@ impl Author<'_> {
     fn transaction(&mut self) -> Vec<Bytes> {
         let blocks = self.random.different(self.blocks.min(8), self.blocks);
         let may_put = &blocks[..blocks.len().min(MAX_PUT)];
-        let most = if self.style == Style::Tiny { 2 } else { 6 };
+        // With many blocks more commands, so that a transaction may touch as many as it can.
+        let most = if self.style == Style::Tiny { 2 } else { self.blocks.max(6) };
         let read_only = self.random.percent(25);
         let mut piece = vec![begin()];
         for _ in 0..self.random.within(0, most) {

@@ -74,73 +74,35 @@ fn the_unedited_copy_passes() {
     assert!(output.status.success(), "{}", String::from_utf8_lossy(&output.stdout));
 }
 
-#[test]
-fn mark_before_install_skipped() {
-    let find = "job.exchange.overlapped[position] && pair.changes()";
-    let edit = Edit { file: "exchange.rs", find, replace: "false" };
-    assert_caught("mark_before_install_skipped", edit);
+/// A test for each slip: its name, the file, what stands there and what the slip writes instead.
+macro_rules! slips {
+    ($($name:ident: $file:literal, $find:literal => $replace:literal;)*) => {
+        $(#[test]
+        fn $name() {
+            assert_caught(stringify!($name), Edit { file: $file, find: $find, replace: $replace });
+        })*
+    };
 }
 
-#[test]
-fn mark_in_clean_skipped() {
-    let find = "!still_installed && !as_new && overlapped";
-    let edit = Edit { file: "exchange.rs", find, replace: "false && overlapped" };
-    assert_caught("mark_in_clean_skipped", edit);
-}
-
-#[test]
-fn install_compares_only_the_value() {
-    let replace = "if word.value == init.value {";
-    let edit = Edit { file: "exchange.rs", find: "if *word == init {", replace };
-    assert_caught("install_compares_only_the_value", edit);
-}
-
-#[test]
-fn read_only_pair_cleaned_as_new() {
-    let find = "let as_new = exchange.answer && pair.changes();";
-    let edit = Edit { file: "exchange.rs", find, replace: "let as_new = exchange.answer;" };
-    assert_caught("read_only_pair_cleaned_as_new", edit);
-}
-
-#[test]
-fn old_stores_taken_back_by_block_number() {
-    let find = "self.copies[task][slot] = ";
-    let replace = "let _ = slot; self.copies[task][usize::from(block) % MAX_PUT] = ";
-    let edit = Edit { file: "transaction.rs", find, replace };
-    assert_caught("old_stores_taken_back_by_block_number", edit);
-}
-
-#[test]
-fn commit_ignores_the_status() {
-    let find = "let answer = self.status[task] == UNDECIDED;";
-    let edit = Edit { file: "exchange.rs", find, replace: "let answer = true;" };
-    assert_caught("commit_ignores_the_status", edit);
-}
-
-#[test]
-fn save_place_not_written() {
-    let find = "self.save[task][position] = job.exchange.found;";
-    let edit = Edit { file: "exchange.rs", find, replace: "" };
-    assert_caught("save_place_not_written", edit);
-}
-
-#[test]
-fn start_leaves_the_status() {
-    let find = "self.status[task] = UNDECIDED;";
-    let edit = Edit { file: "exchange.rs", find, replace: "" };
-    assert_caught("start_leaves_the_status", edit);
-}
-
-#[test]
-fn reading_ignores_the_status() {
-    let find = "word.valid || self.status[usize::from(word.task)] == COMMITTED";
-    let edit = Edit { file: "reading.rs", find, replace: "word.valid" };
-    assert_caught("reading_ignores_the_status", edit);
-}
-
-#[test]
-fn restart_keeps_the_registers_of_the_lost_pass() {
-    let find = "job.registers = job.transaction.kept;";
-    let edit = Edit { file: "transaction.rs", find, replace: "" };
-    assert_caught("restart_keeps_the_registers_of_the_lost_pass", edit);
+slips! {
+    mark_before_install_skipped: "exchange.rs",
+        "job.exchange.overlapped[position] && pair.changes()" => "false";
+    mark_in_clean_skipped: "exchange.rs",
+        "!still_installed && !as_new && overlapped" => "false && overlapped";
+    install_compares_only_the_value: "exchange.rs",
+        "if *word == init {" => "if word.value == init.value {";
+    read_only_pair_cleaned_as_new: "exchange.rs",
+        "let as_new = exchange.answer && pair.changes();" => "let as_new = exchange.answer;";
+    old_stores_taken_back_by_block_number: "transaction.rs",
+        "self.copies[task][slot] = " => "let _ = slot; self.copies[task][usize::from(block) % MAX_PUT] = ";
+    commit_ignores_the_status: "exchange.rs",
+        "let answer = self.status[task] == UNDECIDED;" => "let answer = true;";
+    save_place_not_written: "exchange.rs",
+        "self.save[task][position] = job.exchange.found;" => "";
+    start_leaves_the_status: "exchange.rs",
+        "self.status[task] = UNDECIDED;" => "";
+    reading_ignores_the_status: "reading.rs",
+        "word.valid || self.status[usize::from(word.task)] == COMMITTED" => "word.valid";
+    restart_keeps_the_registers_of_the_lost_pass: "transaction.rs",
+        "job.registers = job.transaction.kept;" => "";
 }

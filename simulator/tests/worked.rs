@@ -1,10 +1,14 @@
-//! All worked figures of document 01: the refusal table, sheet A, P1 to P10 and two tasks U.
+//! All worked figures of document 01: the refusal table, sheet A, P1 to P10 and two tasks U; most of them from examples/worked.
 
 mod common;
 
+use std::fs;
+use std::path::Path;
+
 use common::*;
 use simulator::builder::*;
-use simulator::{check, run};
+use simulator::observer::NoObserver;
+use simulator::{check, run, run_observed};
 
 fn bytes(hexadecimal: &str) -> Bytes {
     let byte = |text| u8::from_str_radix(text, 16).unwrap();
@@ -72,100 +76,26 @@ fn p1_sheet_a_alone() {
     assert_eq!(larger[length..], [0xAB; 5]);
 }
 
-/// Sheet A's task at tick 0, the other task at the tick given.
-fn against(words: &[Bytes], other: Bytes, tick: u16) -> String {
-    let words = sheet(words);
-    let releases = sheet(&[release(0, 0), release(tick, 1)]);
-    report(&sheet(&[words, task_of_sheet_a(), other, releases, end()]))
-}
-
+/// The sheets of examples/worked with their reports, worked out by hand.
 #[test]
-fn p3_a_rival_before_the_test() {
-    let report = against(&[word(12)], rival(), 9);
-    assert_eq!(registers(&report, 0)[0], 0);
-    assert_eq!(registers(&report, 1)[0], 1);
-    assert_eq!(word_value(&report, 0), 7);
-    assert_eq!(ending(&report), [26, 0]);
-}
-
-#[test]
-fn p4_a_rival_after_the_commit() {
-    let report = against(&[word(12)], rival(), 11);
-    assert_eq!(registers(&report, 0)[0], 1);
-    assert_eq!(registers(&report, 1)[0], 0);
-    assert_eq!(word_value(&report, 0), 5);
-    assert_eq!(ending(&report), [23, 0]);
-}
-
-/// The rival also PAIRs word 1. Its r3 is never loaded, so word 1 differs.
-fn rival_of_two_words() -> Bytes {
-    sheet(&[task(), load(1, 12), load(2, 7), pair(0, 1, 2), pair(1, 3, 2), swap(0)])
-}
-
-#[test]
-fn p5_a_rival_that_marks_and_fails() {
-    let report = against(&[word(12), word(22)], rival_of_two_words(), 9);
-    assert_eq!(registers(&report, 0)[0], 0);
-    assert_eq!(registers(&report, 1)[0], 0);
-    assert_eq!(word_value(&report, 0), 12);
-    assert_eq!(word_value(&report, 1), 22);
-    assert_eq!(ending(&report), [32, 0]);
-}
-
-#[test]
-fn p6_a_rival_that_fails_before_the_install() {
-    let report = against(&[word(12), word(22)], rival_of_two_words(), 8);
-    assert_eq!(registers(&report, 0)[0], 1);
-    assert_eq!(registers(&report, 1)[0], 0);
-    assert_eq!(word_value(&report, 0), 5);
-    assert_eq!(word_value(&report, 1), 22);
-    assert_eq!(ending(&report), [30, 0]);
-}
-
-#[test]
-fn p7_a_reader() {
-    let reader = sheet(&[task(), read(0, 0)]);
-
-    let before = against(&[word(12)], reader.clone(), 9);
-    assert_eq!(registers(&before, 1)[0], 12);
-    assert_eq!(counts(&before, 1), [1, 0, 0, 3]);
-
-    let after = against(&[word(12)], reader, 11);
-    assert_eq!(registers(&after, 1)[0], 5);
-    assert_eq!(counts(&after, 1), [1, 0, 0, 2]);
+fn every_stored_report() {
+    let folder = Path::new(env!("CARGO_MANIFEST_DIR")).join("../examples/worked");
+    let mut cases = 0;
+    for entry in fs::read_dir(folder).unwrap() {
+        let path = entry.unwrap().path();
+        if path.extension().is_some_and(|extension| extension == "sheet") {
+            let printed = run_observed(&fs::read(&path).unwrap(), LIMIT, &mut NoObserver)
+                .unwrap_or_else(|refusal| format!("X {} {}\n", refusal.number, refusal.place));
+            let stored = fs::read_to_string(path.with_extension("report")).unwrap();
+            assert_eq!(printed, stored, "{}", path.display());
+            cases += 1;
+        }
+    }
+    assert_eq!(cases, 30);
 }
 
 #[test]
 fn p8_limit_0() {
     let report = report_with_limit(&sheet_a(), 0);
     assert_eq!(report, "W 0 12\nT 0 0 0 0 0\nR 0 0 0 0 0 0 0 0 0\nE 0 0\n");
-}
-
-#[test]
-fn p9_task_u_alone() {
-    let sheet = sheet(&[block(3, [40; 8]), task_u(), release(0, 0), end()]);
-    let report = report(&sheet);
-    assert_eq!(numbers(&report, "B 0"), [4, 41, 40, 40, 40, 40, 40, 40, 40]);
-    assert_eq!(counts(&report, 0), [1, 0, 0, 29]);
-    assert_eq!(ending(&report), [29, 0]);
-}
-
-#[test]
-fn p10_task_u_at_the_top_version() {
-    let sheet = sheet(&[block(16_777_215, [40; 8]), task_u(), release(0, 0), end()]);
-    let report = report(&sheet);
-    assert_eq!(numbers(&report, "B 0"), [16_777_215, 40, 40, 40, 40, 40, 40, 40, 40]);
-    assert_eq!(counts(&report, 0), [0, 1, 0, 20]);
-    assert_eq!(ending(&report), [20, 0]);
-}
-
-#[test]
-fn two_tasks_u() {
-    let releases = sheet(&[release(0, 0), release(6, 1)]);
-    let sheet = sheet(&[block(3, [40; 8]), task_u(), task_u(), releases, end()]);
-    let report = report(&sheet);
-    assert_eq!(numbers(&report, "B 0")[..2], [5, 42]);
-    assert_eq!(counts(&report, 0)[2], 0);
-    assert_eq!(counts(&report, 1)[2], 0);
-    assert_eq!(ending(&report), [75, 0]);
 }

@@ -12,13 +12,13 @@ pub fn folder() -> PathBuf {
     Path::new(env!("CARGO_MANIFEST_DIR")).join("../examples")
 }
 
-/// The names of all examples.
+/// The names of all examples; document 01's worked figures begin with `worked/`.
 pub fn names() -> io::Result<Vec<String>> {
     let mut names = Vec::new();
-    for entry in fs::read_dir(folder())? {
-        let path = entry?.path();
-        if path.extension().is_some_and(|extension| extension == "txt") {
-            names.extend(path.file_stem().map(|stem| stem.to_string_lossy().into_owned()));
+    for part in ["", "worked/"] {
+        for entry in fs::read_dir(folder().join(part))? {
+            let name = entry?.file_name().to_string_lossy().into_owned();
+            names.extend(name.strip_suffix(".txt").map(|stem| format!("{part}{stem}")));
         }
     }
     names.sort();
@@ -44,7 +44,7 @@ pub fn made_files(name: &str) -> io::Result<Vec<(PathBuf, Vec<u8>)>> {
 /// The examples that have a chart, with its title and names.
 fn chart_options(name: &str) -> Option<Options> {
     let (title, names): (&str, &[&str]) = match name {
-        "p5" => ("P5: t1 Marks t0 and then fails itself, so both answer no", &[]),
+        "worked/p5" => ("P5: t1 Marks t0 and then fails itself, so both answer no", &[]),
         "cold-room" => (
             "The cold room: five tasks, the guard above them",
             &[

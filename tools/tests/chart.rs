@@ -93,7 +93,7 @@ fn the_highest_task_with_a_job_runs_and_lower_ones_wait() {
 
 #[test]
 fn p5_statement_by_statement() {
-    let recording = recording(&example("p5"));
+    let recording = recording(&example("worked/p5"));
     let shown = |done: &Done| {
         let label = tools::chart::statement::label(done.statement);
         let subject = done.subject.map(|subject| format!(" {subject}")).unwrap_or_default();

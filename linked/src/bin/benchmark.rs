@@ -22,7 +22,7 @@ fn main() {
         let (engine, simulator) = best_of_both(
             &mut buffer,
             |buffer| {
-                black_box(linked::run(black_box(bytes), TOP_LIMIT, buffer));
+                let _ = black_box(hizgrael::run(black_box(bytes), TOP_LIMIT, buffer));
             },
             |buffer| {
                 black_box(simulator::run(black_box(bytes), TOP_LIMIT, buffer));
@@ -43,7 +43,7 @@ fn main() {
     let (engine, simulator) = best_of_both(
         &mut buffer,
         |_| {
-            black_box(linked::check(black_box(longest)));
+            let _ = black_box(hizgrael::check(black_box(longest)));
         },
         |_| {
             black_box(simulator::check(black_box(longest)));

@@ -1,0 +1,35 @@
+//! The second simulator behind C entries of the library's form, for the fuzz harness.
+
+use std::slice;
+
+use simulator::{check, run};
+
+/// # Safety
+/// As of `hizgrael_check`.
+#[no_mangle]
+pub unsafe extern "C" fn second_check(
+    sheet: *const u8,
+    sheet_length: usize,
+    place: *mut u64,
+) -> u8 {
+    let answer = check(slice::from_raw_parts(sheet, sheet_length));
+    *place = answer.place as u64;
+    answer.number
+}
+
+/// # Safety
+/// As of `hizgrael_run`.
+#[no_mangle]
+pub unsafe extern "C" fn second_run(
+    sheet: *const u8,
+    sheet_length: usize,
+    limit: u64,
+    report: *mut u8,
+    report_length: usize,
+    place: *mut u64,
+) -> u8 {
+    let sheet = slice::from_raw_parts(sheet, sheet_length);
+    let answer = run(sheet, limit, slice::from_raw_parts_mut(report, report_length));
+    *place = answer.place as u64;
+    answer.number
+}
