@@ -1,6 +1,6 @@
 -- `decode` meets its contract.
 use Rattle.commands.specs.declared.Opcode.the-variants.{Known, Refused}
-use mathlib.Core.Path.{_∙_, _≡_, sym}
+use mathlib.Core.Path.{_≡_, sym}
 use native.Mathlib.Numerals.{add-one}
 use native.Mathlib.Omega.{arith}
 use borrow.Author.Needs.{needs}
