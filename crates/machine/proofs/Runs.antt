@@ -20,8 +20,8 @@ use Rattle.machine.specs.World.{unfinishedJob, pendingBy, pendingAt, due
 use Rattle.transactions.specs.Jobs.{jobAt}
 use Rattle.transactions.specs.declared.job.Phase.the-variants as P
 use Rattle.transactions.specs.declared.job.Job.{Job}
-use Rattle.machine.specs.declared.run.Coming.{Coming}
-use Rattle.machine.specs.declared.run.Coming.the-variants.{Nothing, Later, Due}
+use Rattle.machine.specs.declared.releases.Coming.{Coming}
+use Rattle.machine.specs.declared.releases.Coming.the-variants.{Nothing, Later, Due}
 
 pub pending-view : (vs : List ℕ) (c : Command) (next : ℕ) → pendingAt (M.found (viewCommand vs c) next) ≡ pendingBy c next
 pending-view vs (C.Word v) next = refl

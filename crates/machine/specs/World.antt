@@ -15,9 +15,9 @@ use Rattle.machine.specs.Statements.{Arrays, arrays, Turn, turn, stateme
 use Rattle.transactions.specs.declared.job.Phase.{Phase}
 use Rattle.transactions.specs.declared.job.Phase.the-variants as P
 use Rattle.transactions.specs.declared.job.Job.{Job}
-use Rattle.machine.specs.declared.run.Pending.{Pending}
-use Rattle.machine.specs.declared.run.Coming.{Coming}
-use Rattle.machine.specs.declared.run.Coming.the-variants.{Nothing, Later, Due}
+use Rattle.machine.specs.declared.releases.Pending.{Pending}
+use Rattle.machine.specs.declared.releases.Coming.{Coming}
+use Rattle.machine.specs.declared.releases.Coming.the-variants.{Nothing, Later, Due}
 use Rattle.machine.specs.declared.run.Ended.{Ended}
 
 abbrev pub unfinishedJob : Phase → Bool

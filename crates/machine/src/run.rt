@@ -1,31 +1,15 @@
 // The run: releases arrive, the highest task with an unfinished job does one statement, until the run stops.
 ghost use mathlib.Core.Path.{_≡_};
 ghost use Prim.Native.Nat.{_+_, _*_, _-_, _^_, _%_, _<_, _≤_};
-ghost use Rattle.model.specs.Command.{commandAt};
 ghost use Rattle.machine.specs.Statements.{arrays};
-ghost use Rattle.machine.specs.World.{unfinishedJob, noRelease, pendingBy, pendingAt, comingBy, stopsBy, topOf, droppedBy, begunBy, zeroed, zeroedBy, startedBy, leftBy, tickedBy, Finished};
+ghost use Rattle.machine.specs.World.{unfinishedJob, topOf, droppedBy, begunBy, zeroed, zeroedBy, startedBy, leftBy, tickedBy, Finished};
+use crate::releases;
+use crate::releases::Coming;
 use crate::step;
-use commands::Command;
-use commands::Decoded;
 use exchanges::places;
 use transactions::job;
 use transactions::job::Job;
 use transactions::job::Phase;
-
-// The next release, decoded once: whether there is one, its tick and task, and the place after it.
-pub struct Pending {
-    pub some: bool,
-    pub tick: u32,
-    pub task: u8,
-    pub after: usize,
-}
-
-// The next release at a tick: none, one of a later tick, or one due now, with its task and the place after it.
-pub enum Coming {
-    Nothing,
-    Later,
-    Due(u8, usize),
-}
 
 // The ticks done, and the releases dropped.
 pub struct Ended {
@@ -52,88 +36,6 @@ fn unfinished(phase: Phase) -> bool
         Phase::Read(_, _, _) => true,
         Phase::Exchange(_, _) => true,
         Phase::Transaction(_) => true,
-    }
-}
-
-fn no_release() -> Pending
-    ensures { λ r. ⌜ r ≡ noRelease ⌝ }
-{
-    Pending {
-        some: false,
-        tick: 0,
-        task: 0,
-        after: 0,
-    }
-}
-
-fn pending_by(command: Command, next: usize) -> Pending
-    ensures { λ r. ⌜ r ≡ pendingBy command next ⌝ }
-{
-    match command {
-        Command::Word(_) => no_release(),
-        Command::Block(_) => no_release(),
-        Command::Task => no_release(),
-        Command::Release(release) => Pending {
-            some: true,
-            tick: places::half(release.tick),
-            task: release.task,
-            after: next,
-        },
-        Command::End => no_release(),
-        Command::Load {
-            register: _,
-            value: _,
-        } => no_release(),
-        Command::Add {
-            register: _,
-            other: _,
-        } => no_release(),
-        Command::Read {
-            register: _,
-            word: _,
-        } => no_release(),
-        Command::Pair {
-            word: _,
-            old: _,
-            new: _,
-        } => no_release(),
-        Command::Swap(_) => no_release(),
-        Command::Begin => no_release(),
-        Command::Access(_) => no_release(),
-        Command::Commit => no_release(),
-    }
-}
-
-fn pending_at(sheet: &[u8], place: usize) -> Pending
-    ensures { λ r. ⌜ r ≡ pendingAt (commandAt (now (sheet .entry)) place) ⌝ }
-{
-    let decoded = commands::decode(sheet, place);
-    match decoded {
-        Decoded::Got(command, next) => pending_by(command, next),
-        Decoded::Refused(_) => no_release(),
-    }
-}
-
-fn coming_at(next: Pending, tick: u32) -> Coming
-    ensures { λ r. ⌜ r ≡ comingBy next tick ⌝ }
-{
-    if next.some {
-        if next.tick == tick {
-            return Coming::Due(next.task, next.after);
-        }
-        return Coming::Later;
-    }
-    Coming::Nothing
-}
-
-// No job is unfinished and no release is to come.
-fn stops(release: Coming, mask: u32) -> bool
-    ensures { λ r. ⌜ r ≡ stopsBy release mask ⌝ }
-{
-    match release {
-        Coming::Nothing => mask == 0,
-        Coming::Later => false,
-        Coming::Due(_, _) => false,
     }
 }
 
@@ -253,10 +155,10 @@ pub fn run(
     kinds: &mut [u8; 128],
     remembered: &mut [u32; 128],
     counts: &mut [u32; 32],
-    releases: usize,
+    first: usize,
     limit: u32,
 ) -> Ended
-    ensures { λ r. ⌜ Finished (now (sheet .entry)) (now (bodies .entry)) releases limit (arrays (now (cells .entry)) (now (status .entry)) (now (saves .entry)) (now (stores .entry)) (now (registers .entry)) (now (kept .entry)) (now (copies .entry)) (now (names .entry)) (now (olds .entry)) (now (news .entry)) (now (inits .entry)) (now (overlapped .entry)) (now (kinds .entry)) (now (remembered .entry)) (now (counts .entry))) (arrays (now (cells .exit)) (now (status .exit)) (now (saves .exit)) (now (stores .exit)) (now (registers .exit)) (now (kept .exit)) (now (copies .exit)) (now (names .exit)) (now (olds .exit)) (now (news .exit)) (now (inits .exit)) (now (overlapped .exit)) (now (kinds .exit)) (now (remembered .exit)) (now (counts .exit))) r ⌝ }
+    ensures { λ r. ⌜ Finished (now (sheet .entry)) (now (bodies .entry)) first limit (arrays (now (cells .entry)) (now (status .entry)) (now (saves .entry)) (now (stores .entry)) (now (registers .entry)) (now (kept .entry)) (now (copies .entry)) (now (names .entry)) (now (olds .entry)) (now (news .entry)) (now (inits .entry)) (now (overlapped .entry)) (now (kinds .entry)) (now (remembered .entry)) (now (counts .entry))) (arrays (now (cells .exit)) (now (status .exit)) (now (saves .exit)) (now (stores .exit)) (now (registers .exit)) (now (kept .exit)) (now (copies .exit)) (now (names .exit)) (now (olds .exit)) (now (news .exit)) (now (inits .exit)) (now (overlapped .exit)) (now (kinds .exit)) (now (remembered .exit)) (now (counts .exit))) r ⌝ }
 {
     let mut jobs = [Job {
         phase: Phase::Idle,
@@ -270,12 +172,12 @@ pub fn run(
     let mut p: u8 = 0;
     let mut job = job::job_at(Phase::Idle, 0, 0);
     let mut mask: u32 = 0;
-    let mut place = releases;
-    let mut next = pending_at(sheet, place);
+    let mut place = first;
+    let mut next = releases::pending_at(sheet, place);
     let mut tick: u32 = 0;
     let mut dropped: u32 = 0;
     while tick < limit {
-        let release = coming_at(next, tick);
+        let release = releases::coming_at(next, tick);
         if let Coming::Due(task, after) = release {
             jobs[places::wide(p)] = job;
             p = places::octal(task);
@@ -287,10 +189,10 @@ pub fn run(
             zero_by(&mut *registers, p, phase);
             job = started(found, memory::usize_at(bodies, i));
             place = after;
-            next = pending_at(sheet, place);
+            next = releases::pending_at(sheet, place);
             continue;
         }
-        if stops(release, mask) {
+        if releases::stops(release, mask) {
             return Ended {
                 ticks: tick,
                 dropped: dropped,

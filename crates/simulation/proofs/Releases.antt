@@ -11,8 +11,8 @@ use Rattle.model.specs.Refusal.{Refusal}
 use Rattle.model.specs.Command.{Release, Command, WORD, BLOCK, TASK, RELEASE, END, LOAD, ADD, READ, PAIR, SWAP, BEGIN, access, COMMIT, Found, found, refused, commandAt}
 use Rattle.model.specs.Sheet.{listed, commandsFrom}
 use Rattle.machine.specs.World.{pendingAt, dueBy, comingBy}
-use Rattle.machine.specs.declared.run.Coming.{Coming}
-use Rattle.machine.specs.declared.run.Coming.the-variants.{Nothing, Later, Due}
+use Rattle.machine.specs.declared.releases.Coming.{Coming}
+use Rattle.machine.specs.declared.releases.Coming.the-variants.{Nothing, Later, Due}
 use Rattle.simulation.proofs.Body.{enough}
 
 -- the releases with which commands begin

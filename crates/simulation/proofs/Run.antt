@@ -20,8 +20,8 @@ use Rattle.model.proofs.Fit.Tick.{tasks-of, changed-fit, started-fit, tick-fit}
 use Rattle.model.proofs.Fit.Ranges.{TaskRange, Ranges}
 use Rattle.model.proofs.Fit.RangesStatement.{zeros-range, tick-range}
 use Rattle.machine.specs.World.{stopsBy, topOf, World, comingIn, released, ticked, Ends, limited, stopped, releases, ticks}
-use Rattle.machine.specs.declared.run.Coming.{Coming}
-use Rattle.machine.specs.declared.run.Coming.the-variants.{Nothing, Later, Due}
+use Rattle.machine.specs.declared.releases.Coming.{Coming}
+use Rattle.machine.specs.declared.releases.Coming.the-variants.{Nothing, Later, Due}
 use Rattle.simulation.proofs.Releases.{releasesFrom, DueAt, ComingAt, coming-at}
 use Rattle.simulation.proofs.Unfinished.{busy, Top, none, some, top}
 use Rattle.simulation.proofs.World.{machineOf, Sound, nobody-runs, top-runs}

@@ -3,9 +3,9 @@ use borrow.Author.Needs.{needs}
 use Rattle.machine.proofs.Runs.{apart, apart-most, same-world, start-world, release-turn, switched, tick-turn, due-within, after-release, after-tick, after-stop}
 use Rattle.machine.specs.World.{topOf, pendingAt, comingBy, World, world, startWorld, Ends, limited}
 use Rattle.machine.specs.Statements.{arrays}
-use Rattle.machine.specs.declared.run.Coming.the-variants.{Nothing, Later, Due}
-use Rattle.machine.specs.declared.run.Coming.{Coming}
-use Rattle.machine.proofs.run.Coming.{the-type}
+use Rattle.machine.specs.declared.releases.Coming.the-variants.{Nothing, Later, Due}
+use Rattle.machine.specs.declared.releases.Coming.{Coming}
+use Rattle.machine.proofs.releases.Coming.{the-type}
 use Rattle.model.specs.Command.{commandAt}
 use denote.Enum.Declared.{tagOf}
 use types.Run.{OneOf, miss}
@@ -25,11 +25,11 @@ not-due Later k task next e = let z : _≡_ {A = ℕ} 0 1 = cc in omega arith
 not-due (Due t n) k task next e = miss (0 ∷ 1 ∷ []) 2 tt k
 
 abbrev Inv-loop : tie.InvT-loop
-Inv-loop sheet bodies cells₀ status₀ saves₀ stores₀ registers₀ kept₀ copies₀ names₀ olds₀ news₀ inits₀ overlapped₀ kinds₀ remembered₀ counts₀ releases limit jobs₀ p₀ job₀ mask₀ place₀ next₀ tick₀ dropped₀ cells status saves stores registers kept copies names olds news inits overlapped kinds remembered counts jobs p job mask place next tick dropped =
-    (tick ≤ limit) × (p < 8) × (length jobs ≡ 8) × (next ≡ pendingAt (commandAt sheet place)) × ((u : World) → Ends sheet bodies limit (world (arrays cells status saves stores registers kept copies names olds news inits overlapped kinds remembered counts) (set jobs p job) mask place tick dropped) u → Ends sheet bodies limit (startWorld (arrays cells₀ status₀ saves₀ stores₀ registers₀ kept₀ copies₀ names₀ olds₀ news₀ inits₀ overlapped₀ kinds₀ remembered₀ counts₀) releases) u)
+Inv-loop sheet bodies cells₀ status₀ saves₀ stores₀ registers₀ kept₀ copies₀ names₀ olds₀ news₀ inits₀ overlapped₀ kinds₀ remembered₀ counts₀ first limit jobs₀ p₀ job₀ mask₀ place₀ next₀ tick₀ dropped₀ cells status saves stores registers kept copies names olds news inits overlapped kinds remembered counts jobs p job mask place next tick dropped =
+    (tick ≤ limit) × (p < 8) × (length jobs ≡ 8) × (next ≡ pendingAt (commandAt sheet place)) × ((u : World) → Ends sheet bodies limit (world (arrays cells status saves stores registers kept copies names olds news inits overlapped kinds remembered counts) (set jobs p job) mask place tick dropped) u → Ends sheet bodies limit (startWorld (arrays cells₀ status₀ saves₀ stores₀ registers₀ kept₀ copies₀ names₀ olds₀ news₀ inits₀ overlapped₀ kinds₀ remembered₀ counts₀) first) u)
 
 abbrev μ-loop : tie.MeasureT-loop
-μ-loop sheet bodies cells₀ status₀ saves₀ stores₀ registers₀ kept₀ copies₀ names₀ olds₀ news₀ inits₀ overlapped₀ kinds₀ remembered₀ counts₀ releases limit jobs₀ p₀ job₀ mask₀ place₀ next₀ tick₀ dropped₀ cells status saves stores registers kept copies names olds news inits overlapped kinds remembered counts jobs p job mask place next tick dropped =
+μ-loop sheet bodies cells₀ status₀ saves₀ stores₀ registers₀ kept₀ copies₀ names₀ olds₀ news₀ inits₀ overlapped₀ kinds₀ remembered₀ counts₀ first limit jobs₀ p₀ job₀ mask₀ place₀ next₀ tick₀ dropped₀ cells status saves stores registers kept copies names olds news inits overlapped kinds remembered counts jobs p job mask place next tick dropped =
     2 * ((limit - tick) + (length sheet - place)) + apart (eqb (topOf 8 mask) p)
 
 job-at-requires : tie.Need-job-at-requires Inv-loop μ-loop

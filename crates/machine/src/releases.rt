@@ -1,0 +1,104 @@
+// The releases: the next one decoded once, whether it is due at a tick, and whether the run stops.
+ghost use mathlib.Core.Path.{_≡_};
+ghost use Rattle.model.specs.Command.{commandAt};
+ghost use Rattle.machine.specs.World.{noRelease, pendingBy, pendingAt, comingBy, stopsBy};
+use commands::Command;
+use commands::Decoded;
+use exchanges::places;
+
+// The next release, decoded once: whether there is one, its tick and task, and the place after it.
+pub struct Pending {
+    pub some: bool,
+    pub tick: u32,
+    pub task: u8,
+    pub after: usize,
+}
+
+// The next release at a tick: none, one of a later tick, or one due now, with its task and the place after it.
+pub enum Coming {
+    Nothing,
+    Later,
+    Due(u8, usize),
+}
+
+fn no_release() -> Pending
+    ensures { λ r. ⌜ r ≡ noRelease ⌝ }
+{
+    Pending {
+        some: false,
+        tick: 0,
+        task: 0,
+        after: 0,
+    }
+}
+
+fn pending_by(command: Command, next: usize) -> Pending
+    ensures { λ r. ⌜ r ≡ pendingBy command next ⌝ }
+{
+    match command {
+        Command::Word(_) => no_release(),
+        Command::Block(_) => no_release(),
+        Command::Task => no_release(),
+        Command::Release(release) => Pending {
+            some: true,
+            tick: places::half(release.tick),
+            task: release.task,
+            after: next,
+        },
+        Command::End => no_release(),
+        Command::Load {
+            register: _,
+            value: _,
+        } => no_release(),
+        Command::Add {
+            register: _,
+            other: _,
+        } => no_release(),
+        Command::Read {
+            register: _,
+            word: _,
+        } => no_release(),
+        Command::Pair {
+            word: _,
+            old: _,
+            new: _,
+        } => no_release(),
+        Command::Swap(_) => no_release(),
+        Command::Begin => no_release(),
+        Command::Access(_) => no_release(),
+        Command::Commit => no_release(),
+    }
+}
+
+pub fn pending_at(sheet: &[u8], place: usize) -> Pending
+    ensures { λ r. ⌜ r ≡ pendingAt (commandAt (now (sheet .entry)) place) ⌝ }
+{
+    let decoded = commands::decode(sheet, place);
+    match decoded {
+        Decoded::Got(command, next) => pending_by(command, next),
+        Decoded::Refused(_) => no_release(),
+    }
+}
+
+pub fn coming_at(next: Pending, tick: u32) -> Coming
+    ensures { λ r. ⌜ r ≡ comingBy next tick ⌝ }
+{
+    if next.some {
+        if next.tick == tick {
+            return Coming::Due(next.task, next.after);
+        }
+        return Coming::Later;
+    }
+    Coming::Nothing
+}
+
+// No job is unfinished and no release is to come.
+pub fn stops(release: Coming, mask: u32) -> bool
+    ensures { λ r. ⌜ r ≡ stopsBy release mask ⌝ }
+{
+    match release {
+        Coming::Nothing => mask == 0,
+        Coming::Later => false,
+        Coming::Due(_, _) => false,
+    }
+}

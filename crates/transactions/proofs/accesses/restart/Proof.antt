@@ -1,0 +1,20 @@
+use Rattle.transactions.specs.Accesses.{restarted}
+use borrow.Author.Needs.{needs}
+use Rattle.transactions.proofs.accesses.restart.Statement.{statement}
+use Rattle.transactions.proofs.accesses.restart.Tie as tie
+
+copy-requires : tie.Need-copy-requires
+copy-requires c κs = search needs
+
+clear-requires : tie.Need-clear-requires
+clear-requires c κs = search needs
+
+job-at-requires : tie.Need-job-at-requires
+job-at-requires c κs = search needs
+
+returns : tie.Need-returns
+unfolding restarted
+returns c = rw (c .before .before .before .copy .ensures, c .before .clear .ensures, c .job-at .ensures)
+
+pub restart-spec : {M : Type 1} → statement M
+restart-spec = tie.close (tie.spec copy-requires clear-requires job-at-requires returns)
