@@ -9,8 +9,9 @@ use Rattle.exchanges.specs.Places.{if, nextOf, Went, went}
 use Rattle.exchanges.specs.Reading.{owned, savedFor}
 use Rattle.exchanges.specs.declared.exchange.Step.{Step}
 use Rattle.exchanges.specs.declared.exchange.Step.the-variants.{Start, Test, Load, Look, Fetch, Save, Fail, Mark, Install, Commit, Clean, CleanMark}
+use Rattle.exchanges.specs.declared.exchange.Found.{Found}
 use Rattle.exchanges.specs.declared.exchange.Exchanged.{Exchanged}
-use Rattle.exchanges.specs.declared.exchange.Exchanged.the-variants.{Goes, Ends}
+use Rattle.exchanges.specs.declared.exchange.Exchanged.the-variants.{Goes, Finds, Ends}
 
 -- Load writes two
 pub record Noted : Type 0 where
@@ -31,14 +32,18 @@ unfoldable pub afterLoad : List ℕ → List ℕ → List ℕ → List ℕ → �
 afterLoad cells names inits overlapped p i =
     noted (Look i) (replace inits (8 * p + i) (at 0 cells (at 0 names (8 * p + i)))) (replace overlapped (8 * p + i) 0)
 
-unfoldable pub afterLook : List ℕ → List ℕ → List ℕ → ℕ → ℕ → Went Step
+-- the value found for entry i
+abbrev pub found : ℕ → ℕ → Exchanged
+found i x = Finds (record { i = i; value = x })
+
+unfoldable pub afterLook : List ℕ → List ℕ → List ℕ → ℕ → ℕ → Went Exchanged
 afterLook status inits overlapped p i =
     if (owned status (at 0 inits (8 * p + i)))
-    (went (Save i (valueOf (at 0 inits (8 * p + i)))) (replace overlapped (8 * p + i) 0))
-    (went (Fetch i) (replace overlapped (8 * p + i) 1))
+    (went (found i (valueOf (at 0 inits (8 * p + i)))) (replace overlapped (8 * p + i) 0))
+    (went (Goes (Fetch i)) (replace overlapped (8 * p + i) 1))
 
-unfoldable pub afterFetch : List ℕ → List ℕ → ℕ → ℕ → Step
-afterFetch saves inits p i = Save i (savedFor saves (at 0 inits (8 * p + i)))
+unfoldable pub afterFetch : List ℕ → List ℕ → ℕ → ℕ → Exchanged
+afterFetch saves inits p i = found i (savedFor saves (at 0 inits (8 * p + i)))
 
 -- by: the value found is old; the word was not overlapped; old is new
 abbrev pub savedStep : Bool → Bool → Bool → ℕ → Step
@@ -136,17 +141,17 @@ inNotes c s v w = exchanged (Goes (w .next)) c s v (w .inits) (w .overlapped)
 abbrev pub inOverlapped : List ℕ → List ℕ → List ℕ → List ℕ → Went Exchanged → Left
 inOverlapped c s v l w = exchanged (w .next) c s v l (w .array)
 
--- one statement of the exchange of k words by task p
-unfoldable pub afterExchange : List ℕ → List ℕ → List ℕ → List ℕ → List ℕ → List ℕ → List ℕ → List ℕ → ℕ → ℕ → Step → Left
-afterExchange c s v names olds news l o p k Start = inStatus c v l o (goes (afterStart s p))
-afterExchange c s v names olds news l o p k (Test i) = exchanged (Goes (afterTest s p k i)) c s v l o
-afterExchange c s v names olds news l o p k (Load i) = inNotes c s v (afterLoad c names l o p i)
-afterExchange c s v names olds news l o p k (Look i) = inOverlapped c s v l (goes (afterLook s l o p i))
-afterExchange c s v names olds news l o p k (Fetch i) = exchanged (Goes (afterFetch v l p i)) c s v l o
-afterExchange c s v names olds news l o p k (Save i x) = inSaves c s l o (goes (afterSave v olds news o p i x))
-afterExchange c s v names olds news l o p k (Fail i) = inStatus c v l o (goes (afterFail s p i))
-afterExchange c s v names olds news l o p k (Mark i) = inStatus c v l o (goes (afterMark s l p i))
-afterExchange c s v names olds news l o p k (Install i) = inCells s v l o (goes (afterInstall c names l news p i))
-afterExchange c s v names olds news l o p k (Commit i) = inStatus c v l o (afterCommit s p i)
-afterExchange c s v names olds news l o p k (Clean i j yes?) = inCells s v l o (afterClean c names l olds news o p i j yes?)
-afterExchange c s v names olds news l o p k (CleanMark i j yes?) = inStatus c v l o (afterCleanMark s l p i j yes?)
+-- one statement of the exchange of k words by task p, with x the value found last
+unfoldable pub afterExchange : List ℕ → List ℕ → List ℕ → List ℕ → List ℕ → List ℕ → List ℕ → List ℕ → ℕ → ℕ → ℕ → Step → Left
+afterExchange c s v names olds news l o p k x Start = inStatus c v l o (goes (afterStart s p))
+afterExchange c s v names olds news l o p k x (Test i) = exchanged (Goes (afterTest s p k i)) c s v l o
+afterExchange c s v names olds news l o p k x (Load i) = inNotes c s v (afterLoad c names l o p i)
+afterExchange c s v names olds news l o p k x (Look i) = inOverlapped c s v l (afterLook s l o p i)
+afterExchange c s v names olds news l o p k x (Fetch i) = exchanged (afterFetch v l p i) c s v l o
+afterExchange c s v names olds news l o p k x (Save i) = inSaves c s l o (goes (afterSave v olds news o p i x))
+afterExchange c s v names olds news l o p k x (Fail i) = inStatus c v l o (goes (afterFail s p i))
+afterExchange c s v names olds news l o p k x (Mark i) = inStatus c v l o (goes (afterMark s l p i))
+afterExchange c s v names olds news l o p k x (Install i) = inCells s v l o (goes (afterInstall c names l news p i))
+afterExchange c s v names olds news l o p k x (Commit i) = inStatus c v l o (afterCommit s p i)
+afterExchange c s v names olds news l o p k x (Clean i j yes?) = inCells s v l o (afterClean c names l olds news o p i j yes?)
+afterExchange c s v names olds news l o p k x (CleanMark i j yes?) = inStatus c v l o (afterCleanMark s l p i j yes?)

@@ -1,4 +1,5 @@
-// SWAP of k words by task p, one step a tick. A step carries i; Clean and its Mark carry j and the answer too.
+// SWAP of k words by task p, one step a tick. A step carries i; Clean and its Mark carry j and the answer too. The value that
+// Look or Fetch found is kept beside the step, so that a step has four bytes and is copied as one number.
 ghost use mathlib.Core.Path.{_≡_};
 ghost use Rattle.exchanges.specs.Places.{went};
 ghost use Rattle.exchanges.specs.Exchange.{noted, afterStart, afterTest, afterLoad, afterLook, afterFetch, afterSave, afterFail, afterMark, afterInstall, cleaning, afterCommit, onward, asNew, installedAt, afterClean, afterCleanMark, exchanged, afterExchange};
@@ -12,7 +13,7 @@ pub enum Step {
     Load(u8),
     Look(u8),
     Fetch(u8),
-    Save(u8, u32),
+    Save(u8),
     Fail(u8),
     Mark(u8),
     Install(u8),
@@ -21,8 +22,15 @@ pub enum Step {
     CleanMark(u8, u8, bool),
 }
 
+// The value found for entry i: Save is next.
+pub struct Found {
+    pub i: u8,
+    pub value: u32,
+}
+
 pub enum Exchanged {
     Goes(Step),
+    Finds(Found),
     Ends(bool),
 }
 
@@ -65,26 +73,28 @@ fn load(
     Step::Look(i)
 }
 
-fn look(status: &[u8; 8], inits: &[u64; 64], overlapped: &mut [u8; 64], p: u8, i: u8) -> Step
+fn look(status: &[u8; 8], inits: &[u64; 64], overlapped: &mut [u8; 64], p: u8, i: u8) -> Exchanged
     ensures { λ r. ⌜ went r (now (overlapped .exit)) ≡ afterLook (now (status .entry)) (now (inits .entry)) (now (overlapped .entry)) p i ⌝ }
 {
     let s = places::slot(p, i);
     let word = memory::u64_at(inits, s);
     if read::own(status, word) {
         memory::set_u8x64(&mut *overlapped, s, 0);
-        return Step::Save(i, memory::value_of(word));
+        let value = memory::value_of(word);
+        return Exchanged::Finds(Found { i, value });
     }
     memory::set_u8x64(&mut *overlapped, s, 1);
-    Step::Fetch(i)
+    Exchanged::Goes(Step::Fetch(i))
 }
 
-fn fetch(saves: &[u32; 64], inits: &[u64; 64], p: u8, i: u8) -> Step
+fn fetch(saves: &[u32; 64], inits: &[u64; 64], p: u8, i: u8) -> Exchanged
     ensures { λ r. ⌜ r ≡ afterFetch (now (saves .entry)) (now (inits .entry)) p i ⌝ }
 {
     let s = places::slot(p, i);
     let word = memory::u64_at(inits, s);
     let place = places::save_place(memory::task_of(word), memory::count_of(word));
-    Step::Save(i, memory::u32_at(saves, place))
+    let value = memory::u32_at(saves, place);
+    Exchanged::Finds(Found { i, value })
 }
 
 fn save(
@@ -256,7 +266,7 @@ fn clean_mark(status: &mut [u8; 8], inits: &[u64; 64], p: u8, i: u8, j: u8, yes:
     to_next(i, j, yes)
 }
 
-// One statement of the exchange of k words by task p.
+// One statement of the exchange of k words by task p; the value is what was found last.
 pub fn exchange_tick(
     cells: &mut [u64; 48],
     status: &mut [u8; 8],
@@ -268,9 +278,10 @@ pub fn exchange_tick(
     overlapped: &mut [u8; 64],
     p: u8,
     k: u8,
+    value: u32,
     step: Step,
 ) -> Exchanged
-    ensures { λ r. ⌜ exchanged r (now (cells .exit)) (now (status .exit)) (now (saves .exit)) (now (inits .exit)) (now (overlapped .exit)) ≡ afterExchange (now (cells .entry)) (now (status .entry)) (now (saves .entry)) (now (names .entry)) (now (olds .entry)) (now (news .entry)) (now (inits .entry)) (now (overlapped .entry)) p k step ⌝ }
+    ensures { λ r. ⌜ exchanged r (now (cells .exit)) (now (status .exit)) (now (saves .exit)) (now (inits .exit)) (now (overlapped .exit)) ≡ afterExchange (now (cells .entry)) (now (status .entry)) (now (saves .entry)) (now (names .entry)) (now (olds .entry)) (now (news .entry)) (now (inits .entry)) (now (overlapped .entry)) p k value step ⌝ }
 {
     match step {
         Step::Start => {
@@ -283,12 +294,12 @@ pub fn exchange_tick(
             return Exchanged::Goes(load(&*cells, names, &mut *inits, &mut *overlapped, p, i));
         }
         Step::Look(i) => {
-            return Exchanged::Goes(look(&*status, &*inits, &mut *overlapped, p, i));
+            return look(&*status, &*inits, &mut *overlapped, p, i);
         }
         Step::Fetch(i) => {
-            return Exchanged::Goes(fetch(&*saves, &*inits, p, i));
+            return fetch(&*saves, &*inits, p, i);
         }
-        Step::Save(i, value) => {
+        Step::Save(i) => {
             return Exchanged::Goes(save(&mut *saves, olds, news, &*overlapped, p, i, value));
         }
         Step::Fail(i) => {

@@ -57,7 +57,7 @@ module _ (sheet : List ℕ) (a : Arrays) (p : ℕ) (j x : Job) {rs cs : List ℕ
   step-read e1 e2 e3 e4 = rw (e1, ← (rw e2 at e3), ← e4)
 
   pub step-exchange : {f : Phase} {r : ℕ} {s : Step} {d : Exchanged} {c t v l o : List ℕ}
-      → f ≡ P.Exchange r s → exchanged d c t v l o ≡ exchangeTick a p (j .pairs) s
+      → f ≡ P.Exchange r s → exchanged d c t v l o ≡ exchangeTick a p (j .pairs) (j .value) s
       → answered x rs cs ≡ swapBy sheet (a .registers) (a .counts) p j r d
       → onExchange a (exchanged d c t v l o) (answered x rs cs) ≡ statement sheet a p j f
   unfolding statement
@@ -73,7 +73,7 @@ module _ (sheet : List ℕ) (a : Arrays) (p : ℕ) (j x : Job) {rs cs : List ℕ
 
   pub plain-swap : (vs : List ℕ) {dec : Decoded} {k : Command} {next r : ℕ} {m : Job} {d : Exchanged} {c t v l o : List ℕ}
       → viewDecoded vs dec ≡ commandAt sheet (j .at) → dec ≡ Got k next → k ≡ C.Swap r
-      → m ≡ movedTo j next → exchanged d c t v l o ≡ exchangeTick a p (j .pairs) Start
+      → m ≡ movedTo j next → exchanged d c t v l o ≡ exchangeTick a p (j .pairs) 0 Start
       → answered x rs cs ≡ swapBy sheet (a .registers) (a .counts) p m r d
       → onExchange a (exchanged d c t v l o) (answered x rs cs) ≡ plainTick sheet a p j
   unfolding plainTick plainBy

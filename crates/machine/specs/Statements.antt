@@ -94,8 +94,8 @@ entriesOf a = entries (a .names) (a .olds) (a .news) (a .inits) (a .overlapped)
 unfoldable pub paired : List ℕ → Entries → ℕ → ℕ → ℕ → ℕ → ℕ → Entries
 paired registers e p n word old new = entered e p n word (at 0 registers (8 * p + old)) (at 0 registers (8 * p + new))
 
-abbrev pub exchangeTick : Arrays → ℕ → ℕ → Step → Left
-exchangeTick a p k s = afterExchange (a .cells) (a .status) (a .saves) (a .names) (a .olds) (a .news) (a .inits) (a .overlapped) p k s
+abbrev pub exchangeTick : Arrays → ℕ → ℕ → ℕ → Step → Left
+exchangeTick a p k x s = afterExchange (a .cells) (a .status) (a .saves) (a .names) (a .olds) (a .news) (a .inits) (a .overlapped) p k x s
 
 -- SWAP's statement, and what it makes of the job
 abbrev pub swapTick : List ℕ → Arrays → ℕ → Job → ℕ → Left → Turn
@@ -116,7 +116,7 @@ plainBy sheet a p j (M.found (M.READ r w) next) =
     onAnswer a (readBy sheet (a .registers) (a .counts) p (movedTo j next) r w (afterReading (a .cells) (a .status) (a .saves) w Load))
 plainBy sheet a p j (M.found (M.PAIR w o n) next) =
     onEntries a (paired (a .registers) (entriesOf a) p (j .pairs) w o n) (afterDone sheet (a .counts) p next (nextOf (j .pairs)))
-plainBy sheet a p j (M.found (M.SWAP r) next) = swapTick sheet a p (movedTo j next) r (exchangeTick a p (j .pairs) Start)
+plainBy sheet a p j (M.found (M.SWAP r) next) = swapTick sheet a p (movedTo j next) r (exchangeTick a p (j .pairs) 0 Start)
 plainBy sheet a p j (M.found M.BEGIN next) =
     onBegin a (copied 8 (a .kept) (a .registers) p) (cleared 16 (a .kinds) p) (jobAt (P.Transaction Between) next 0)
 plainBy sheet a p j (M.found (M.access x) next) = turn j a
@@ -165,12 +165,12 @@ transactionTick sheet a p j (Copying x n) = onStores a (afterCopy (a .stores) (a
 transactionTick sheet a p j (Again x v s) =
     onChecked a
     (againRead (a .registers) (a .kept) (a .kinds) (a .remembered) p j x v (afterReading (a .cells) (a .status) (a .saves) (bankOf (namedBlock x)) s))
-transactionTick sheet a p j (Committing s) = commitTick sheet a p j (exchangeTick a p (j .pairs) s)
+transactionTick sheet a p j (Committing s) = commitTick sheet a p j (exchangeTick a p (j .pairs) (j .value) s)
 
 -- one statement of task p
 unfoldable pub statement : List ℕ → Arrays → ℕ → Job → Phase → Turn
 statement sheet a p j P.Idle = turn j a
 statement sheet a p j P.Plain = plainTick sheet a p j
 statement sheet a p j (P.Read r w s) = onAnswer a (readBy sheet (a .registers) (a .counts) p j r w (afterReading (a .cells) (a .status) (a .saves) w s))
-statement sheet a p j (P.Exchange r s) = swapTick sheet a p j r (exchangeTick a p (j .pairs) s)
+statement sheet a p j (P.Exchange r s) = swapTick sheet a p j r (exchangeTick a p (j .pairs) (j .value) s)
 statement sheet a p j (P.Transaction s) = transactionTick sheet a p j s

@@ -131,7 +131,7 @@ abbrev pub world : Arrays → List Job → ℕ → ℕ → ℕ → ℕ → World
 world a js m r t d = record { arrays = a; jobs = js; mask = m; place = r; ticks = t; dropped = d }
 
 abbrev pub noJob : Job
-noJob = job P.Idle 0 0 0 0 0
+noJob = job P.Idle 0 0 0 0 0 0
 
 abbrev pub jobOf : World → ℕ → Job
 jobOf w p = getD (w .jobs) p noJob

@@ -208,6 +208,7 @@ pub fn transact(
                 &mut *overlapped,
                 p,
                 job.pairs,
+                job.value,
                 step,
             );
             return commits::committed_by(

@@ -146,6 +146,7 @@ pub fn plain(
                     &mut *overlapped,
                     p,
                     job.pairs,
+                    0,
                     Step::Start,
                 );
                 return job::swap_by(

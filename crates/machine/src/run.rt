@@ -162,6 +162,7 @@ pub fn run(
 {
     let mut jobs = [Job {
         phase: Phase::Idle,
+        value: 0,
         at: 0,
         next: 0,
         begin: 0,

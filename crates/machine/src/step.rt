@@ -85,6 +85,7 @@ pub fn step(
                 &mut *overlapped,
                 p,
                 job.pairs,
+                job.value,
                 step,
             );
             return job::swap_by(

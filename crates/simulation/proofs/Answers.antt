@@ -18,7 +18,7 @@ use Rattle.machine.specs.Statements.{Arrays, onCounts, onAnswer, onExchange}
 use Rattle.exchanges.specs.declared.read.Read.{Read}
 use Rattle.exchanges.specs.declared.read.Read.the-variants.{Reads, Gives}
 use Rattle.exchanges.specs.declared.exchange.Exchanged.{Exchanged}
-use Rattle.exchanges.specs.declared.exchange.Exchanged.the-variants.{Goes, Ends}
+use Rattle.exchanges.specs.declared.exchange.Exchanged.the-variants.{Goes, Finds, Ends}
 use Rattle.transactions.specs.declared.job.Job.{Job}
 use Rattle.simulation.proofs.View.{memoryOf, entriesOf, pairsOf, bodyFrom, readOf, task, withRegisters, withLoaded}
 use Rattle.simulation.proofs.Entries.{no-pairs, no-entries}
@@ -58,9 +58,16 @@ module _ (sheet : List ℕ) (body : List Command) (a : Arrays) (p : ℕ) (j : Jo
 
   -- an exchange ends and gives its answer
   pub swap-by : (r : ℕ) → r < 8 → (x : Left) → ExchangeFrame (a .cells) (a .status) (a .saves) (a .inits) (a .overlapped) p x → (o : Exchanged)
-      → Simulated sheet body a p (onExchange a x (swapBy sheet (a .registers) (a .counts) p j r o)) (M.swapBy (outside sheet body a p j f) r (exchangedOf (memoryOf (x .cells) (x .status) (x .saves) (a .stores)) (entriesOf (j .pairs) (row 8 p (a .names)) (row 8 p (a .olds)) (row 8 p (a .news)) (row 8 p (x .inits)) (row 8 p (x .overlapped))) o))
+      → Simulated sheet body a p (onExchange a x (swapBy sheet (a .registers) (a .counts) p j r o)) (M.swapBy (outside sheet body a p j f) r (exchangedOf (memoryOf (x .cells) (x .status) (x .saves) (a .stores)) (entriesOf (j .pairs) (row 8 p (a .names)) (row 8 p (a .olds)) (row 8 p (a .news)) (row 8 p (x .inits)) (row 8 p (x .overlapped))) (j .value) o))
   unfolding M.swapBy swapBy afterGiving
   swap-by r h x g (Goes z) =
+      record {
+        same = refl;
+        others = λ q d. rw (g .inits q d, g .overlapped q d);
+        sizes = rw (g .cellsSize, g .statusSize, g .savesSize, g .initsSize, g .overlappedSize);
+        shape = work;
+      }
+  swap-by r h x g (Finds z) =
       record {
         same = refl;
         others = λ q d. rw (g .inits q d, g .overlapped q d);

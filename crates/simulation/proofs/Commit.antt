@@ -23,7 +23,7 @@ use Rattle.transactions.specs.Accesses.{restarted}
 use Rattle.transactions.specs.Commits.{Gathered, countedIn, exchangeOf, commitBy, committedBy}
 use Rattle.machine.specs.Statements.{Arrays, entriesOf, onGathered, onCommitted}
 use Rattle.exchanges.specs.declared.exchange.Exchanged.{Exchanged}
-use Rattle.exchanges.specs.declared.exchange.Exchanged.the-variants.{Goes, Ends}
+use Rattle.exchanges.specs.declared.exchange.Exchanged.the-variants.{Goes, Finds, Ends}
 use Rattle.transactions.specs.declared.job.Phase.the-variants.{Idle}
 use Rattle.transactions.specs.declared.job.Job.{Job}
 use Rattle.simulation.proofs.Tabulate.{tabulate, tabulate-same}
@@ -134,9 +134,16 @@ module _ (sheet : List ℕ) (body : List C.Command) (a : Arrays) (p : ℕ) (j : 
 
   -- THE EXCHANGE OF COMMIT
   pub committed-by : (w : Left) → ExchangeFrame (a .cells) (a .status) (a .saves) (a .inits) (a .overlapped) p w → (o : Exchanged)
-      → Simulated sheet body a p (onCommitted a w (committedBy sheet (a .registers) (a .kept) (a .copies) (a .kinds) (a .remembered) (a .counts) p j o)) (T.committed t x (exchangedOf (memoryOf (w .cells) (w .status) (w .saves) (a .stores)) (viewEntries (j .pairs) (row 8 p (a .names)) (row 8 p (a .olds)) (row 8 p (a .news)) (row 8 p (w .inits)) (row 8 p (w .overlapped))) o))
+      → Simulated sheet body a p (onCommitted a w (committedBy sheet (a .registers) (a .kept) (a .copies) (a .kinds) (a .remembered) (a .counts) p j o)) (T.committed t x (exchangedOf (memoryOf (w .cells) (w .status) (w .saves) (a .stores)) (viewEntries (j .pairs) (row 8 p (a .names)) (row 8 p (a .olds)) (row 8 p (a .news)) (row 8 p (w .inits)) (row 8 p (w .overlapped))) (j .value) o))
   unfolding T.committed committedBy restarted
   committed-by w g (Goes z) =
+      record {
+        same = refl;
+        others = λ q d. rw (g .inits q d, g .overlapped q d);
+        sizes = rw (g .cellsSize, g .statusSize, g .savesSize, g .initsSize, g .overlappedSize);
+        shape = work;
+      }
+  committed-by w g (Finds z) =
       record {
         same = refl;
         others = λ q d. rw (g .inits q d, g .overlapped q d);

@@ -15,10 +15,11 @@ use Rattle.memory.specs.Rows.{row}
 use Rattle.memory.proofs.Rows.{row-other}
 use Rattle.exchanges.specs.Places.{if, nextOf, Went, went}
 use Rattle.exchanges.specs.Reading.{owned}
-use Rattle.exchanges.specs.Exchange.{Left, afterStart, afterTest, afterLoad, afterLook, afterFetch, afterSave, afterFail, afterMark, installedAt, afterInstall, cleaning, afterCommit, asNew, cleaned, afterClean, afterCleanMark, afterExchange}
+use Rattle.exchanges.specs.Exchange.{Left, found, afterStart, afterTest, afterLoad, afterLook, afterFetch, afterSave, afterFail, afterMark, installedAt, afterInstall, cleaning, afterCommit, asNew, cleaned, afterClean, afterCleanMark, afterExchange}
 use Rattle.exchanges.specs.declared.exchange.Step.{Step}
 use Rattle.exchanges.specs.declared.exchange.Step.the-variants.{Start, Test, Load, Look, Fetch, Save, Fail, Mark, Install, Commit, Clean, CleanMark}
 use Rattle.exchanges.specs.declared.exchange.Exchanged.{Exchanged}
+use Rattle.exchanges.specs.declared.exchange.Exchanged.the-variants.{Goes}
 use Rattle.simulation.proofs.View.{numberOf, stepOf}
 
 pub record ExchangeFrame (c s v l o : List ℕ) (p : ℕ) (x : Left) : Type 0 where
@@ -30,9 +31,9 @@ pub record ExchangeFrame (c s v l o : List ℕ) (p : ℕ) (x : Left) : Type 0 wh
   pub initsSize : length (x .inits) ≡ length l
   pub overlappedSize : length (x .overlapped) ≡ length o
 
-module _ (c s v names olds news l o : List ℕ) (p k : ℕ) (most : k ≤ 8) where
+module _ (c s v names olds news l o : List ℕ) (p k x : ℕ) (most : k ≤ 8) where
   abbrev Frame : Left → Type 0
-  Frame x = ExchangeFrame c s v l o p x
+  Frame w = ExchangeFrame c s v l o p w
 
   install-size : (i n w : ℕ) (t : Bool) → length (if t (went (Test i) (replace c n w)) (went (Fail i) c) .array) ≡ length c
   install-size i n w true = length-replace c n w
@@ -49,8 +50,8 @@ module _ (c s v names olds news l o : List ℕ) (p k : ℕ) (most : k ≤ 8) whe
   clean-size false false true n w y e f = refl
   clean-size false false false n w y e f = refl
 
-  abbrev looked : ℕ → ℕ → Bool → Went Step
-  looked i w t = if t (went (Save i (valueOf w)) (replace o (8 * p + i) 0)) (went (Fetch i) (replace o (8 * p + i) 1))
+  abbrev looked : ℕ → ℕ → Bool → Went Exchanged
+  looked i w t = if t (went (found i (valueOf w)) (replace o (8 * p + i) 0)) (went (Goes (Fetch i)) (replace o (8 * p + i) 1))
 
   look-size : (i w : ℕ) (t : Bool) → length (looked i w t .array) ≡ length o
   look-size i w true = length-replace o _ 0
@@ -60,7 +61,7 @@ module _ (c s v names olds news l o : List ℕ) (p k : ℕ) (most : k ≤ 8) whe
   look-others i w h true q d = row-other 8 p q i o 0 (omega arith) d
   look-others i w h false q d = row-other 8 p q i o 1 (omega arith) d
 
-  pub exchange-frame : (z : Step) → StepFit k (numberOf z) (stepOf z) → Frame (afterExchange c s v names olds news l o p k z)
+  pub exchange-frame : (z : Step) → StepFit k (numberOf z) (stepOf x z) → Frame (afterExchange c s v names olds news l o p k x z)
   unfolding afterExchange afterStart afterTest afterLoad afterLook afterFetch afterSave afterFail afterMark afterInstall afterCommit afterClean afterCleanMark
   exchange-frame Start h = record { inits = λ q d. refl; overlapped = λ q d. refl; cellsSize = refl; statusSize = length-replace s p 0; savesSize = refl; initsSize = refl; overlappedSize = refl }
   exchange-frame (Test i) h = record { inits = λ q d. refl; overlapped = λ q d. refl; cellsSize = refl; statusSize = refl; savesSize = refl; initsSize = refl; overlappedSize = refl }
@@ -70,7 +71,7 @@ module _ (c s v names olds news l o : List ℕ) (p k : ℕ) (most : k ≤ 8) whe
       let t : Bool = owned s (at 0 l (8 * p + i)) in
       record { inits = λ q d. refl; overlapped = look-others i (at 0 l (8 * p + i)) h t; cellsSize = refl; statusSize = refl; savesSize = refl; initsSize = refl; overlappedSize = look-size i (at 0 l (8 * p + i)) t }
   exchange-frame (Fetch i) h = record { inits = λ q d. refl; overlapped = λ q d. refl; cellsSize = refl; statusSize = refl; savesSize = refl; initsSize = refl; overlappedSize = refl }
-  exchange-frame (Save i x) h = record { inits = λ q d. refl; overlapped = λ q d. refl; cellsSize = refl; statusSize = refl; savesSize = length-replace v _ x; initsSize = refl; overlappedSize = refl }
+  exchange-frame (Save i) h = record { inits = λ q d. refl; overlapped = λ q d. refl; cellsSize = refl; statusSize = refl; savesSize = length-replace v _ x; initsSize = refl; overlappedSize = refl }
   exchange-frame (Fail i) h = record { inits = λ q d. refl; overlapped = λ q d. refl; cellsSize = refl; statusSize = length-replace s p 1; savesSize = refl; initsSize = refl; overlappedSize = refl }
   exchange-frame (Mark i) h = record { inits = λ q d. refl; overlapped = λ q d. refl; cellsSize = refl; statusSize = length-replace s _ 1; savesSize = refl; initsSize = refl; overlappedSize = refl }
   exchange-frame (Install i) h = record { inits = λ q d. refl; overlapped = λ q d. refl; cellsSize = install-size (nextOf i) _ _ (eqb (at 0 c (at 0 names (8 * p + i))) (at 0 l (8 * p + i))); statusSize = refl; savesSize = refl; initsSize = refl; overlappedSize = refl }

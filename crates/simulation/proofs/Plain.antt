@@ -90,9 +90,9 @@ module _ (sheet : List ℕ) (body : List C.Command) (a : Arrays) (p : ℕ) (j : 
     swap-command : (r : ℕ) → r < 8 → j .pairs ≤ 8 → Goal (C.SWAP r)
     unfolding M.plainTick plainBy X.exchangeTick afterExchange afterStart
     swap-command r h k =
-        let x = afterExchange (a .cells) (a .status) (a .saves) (a .names) (a .olds) (a .news) (a .inits) (a .overlapped) p (j .pairs) Start in
+        let x = afterExchange (a .cells) (a .status) (a .saves) (a .names) (a .olds) (a .news) (a .inits) (a .overlapped) p (j .pairs) 0 Start in
         subst (λ (es : List X.Entry). Simulated sheet body a p (plainBy sheet a p (inPhase j Plain) (C.found (C.SWAP r) next)) (M.swapBy t r (X.exchangeTick p (sharedOf a) (X.exchangeOf es) X.start))) u
-        (swap-by sheet body a p going J.plain s below few work r h x (exchange-frame (a .cells) (a .status) (a .saves) (a .names) (a .olds) (a .news) (a .inits) (a .overlapped) p (j .pairs) k Start refl) (x .next))
+        (swap-by sheet body a p going J.plain s below few work r h x (exchange-frame (a .cells) (a .status) (a .saves) (a .names) (a .olds) (a .news) (a .inits) (a .overlapped) p (j .pairs) 0 k Start refl) (x .next))
 
     begin-command : Goal C.BEGIN
     unfolding M.plainTick plainBy

@@ -104,7 +104,7 @@ module _ (sheet : List ℕ) (body : List C.Command) (a : Arrays) (p : ℕ) (j : 
       (C.commandAt sheet (j .at)) refl (found-fits sheet (j .at) words blocks (o .known) (o .opened) (o .faultless) (C.commandAt sheet (j .at)) refl))
 
   -- AN EXCHANGE
-  module _ (low high : ℕ) (ps : List X.Entry) (z : Step) (f : ExchangeFit low high ps (exchangeOf es z)) (r : ExchangeRange (exchangeOf es z)) (top : high ≤ 48) where
+  module _ (low high : ℕ) (ps : List X.Entry) (z : Step) (f : ExchangeFit low high ps (exchangeOf es (j .value) z)) (r : ExchangeRange (exchangeOf es (j .value) z)) (top : high ≤ 48) where
     k-size : length es ≡ j .pairs
     k-size = length-entries (j .pairs) _ _ _ _ _
 
@@ -124,29 +124,29 @@ module _ (sheet : List ℕ) (body : List C.Command) (a : Arrays) (p : ℕ) (j : 
               omega (arith, q, r .entry e .new));
         }
 
-    exchange-step : StepFit (j .pairs) (numberOf z) (stepOf z)
-    exchange-step = subst (λ (n : ℕ). StepFit n (numberOf z) (stepOf z)) k-size (f .step)
+    exchange-step : StepFit (j .pairs) (numberOf z) (stepOf (j .value) z)
+    exchange-step = subst (λ (n : ℕ). StepFit n (numberOf z) (stepOf (j .value) z)) k-size (f .step)
 
     abbrev left : Left
-    left = afterExchange (a .cells) (a .status) (a .saves) (a .names) (a .olds) (a .news) (a .inits) (a .overlapped) p (j .pairs) z
+    left = afterExchange (a .cells) (a .status) (a .saves) (a .names) (a .olds) (a .news) (a .inits) (a .overlapped) p (j .pairs) (j .value) z
 
     swap-statement : (r : ℕ) → r < 8 → AtWork sheet j
-        → Simulated sheet body a p (statement sheet a p (inPhase j (Phase.Exchange r z)) (Phase.Exchange r z)) (M.swapBy (outside sheet body a p j (J.exchanging r (exchangeOf es z))) r (X.exchangeTick p (sharedOf a) (exchangeOf es z) (stepOf z)))
+        → Simulated sheet body a p (statement sheet a p (inPhase j (Phase.Exchange r z)) (Phase.Exchange r z)) (M.swapBy (outside sheet body a p j (J.exchanging r (exchangeOf es (j .value) z))) r (X.exchangeTick p (sharedOf a) (exchangeOf es (j .value) z) (stepOf (j .value) z)))
     unfolding statement
     swap-statement r h work =
-        subst (λ (o : X.Exchanged). Simulated sheet body a p (statement sheet a p (inPhase j (Phase.Exchange r z)) (Phase.Exchange r z)) (M.swapBy (outside sheet body a p j (J.exchanging r (exchangeOf es z))) r o))
-        (sym (exchange-tick (a .cells) (a .status) (a .saves) (a .stores) (a .names) (a .olds) (a .news) (a .inits) (a .overlapped) p (j .pairs) exchange-shape z exchange-step))
-        (swap-by sheet body a p (inPhase j (Phase.Exchange r z)) (J.exchanging r (exchangeOf es z)) s below (few 0 (omega arith)) work r h left
-        (exchange-frame (a .cells) (a .status) (a .saves) (a .names) (a .olds) (a .news) (a .inits) (a .overlapped) p (j .pairs) (exchange-shape .pairs) z exchange-step) (left .next))
+        subst (λ (o : X.Exchanged). Simulated sheet body a p (statement sheet a p (inPhase j (Phase.Exchange r z)) (Phase.Exchange r z)) (M.swapBy (outside sheet body a p j (J.exchanging r (exchangeOf es (j .value) z))) r o))
+        (sym (exchange-tick (a .cells) (a .status) (a .saves) (a .stores) (a .names) (a .olds) (a .news) (a .inits) (a .overlapped) p (j .pairs) (j .value) exchange-shape z exchange-step))
+        (swap-by sheet body a p (inPhase j (Phase.Exchange r z)) (J.exchanging r (exchangeOf es (j .value) z)) s below (few 0 (omega arith)) work r h left
+        (exchange-frame (a .cells) (a .status) (a .saves) (a .names) (a .olds) (a .news) (a .inits) (a .overlapped) p (j .pairs) (j .value) (exchange-shape .pairs) z exchange-step) (left .next))
 
     commit-statement : PassFits a p → AtWork sheet j
-        → Simulated sheet body a p (transactionTick sheet a p (inPhase j (Phase.Transaction (Committing z))) (Committing z)) (T.committed (inside sheet body a p j (J.committing (exchangeOf es z))) (transactionOf sheet j (partsOf a p)) (X.exchangeTick p (sharedOf a) (exchangeOf es z) (stepOf z)))
+        → Simulated sheet body a p (transactionTick sheet a p (inPhase j (Phase.Transaction (Committing z))) (Committing z)) (T.committed (inside sheet body a p j (J.committing (exchangeOf es (j .value) z))) (transactionOf sheet j (partsOf a p)) (X.exchangeTick p (sharedOf a) (exchangeOf es (j .value) z) (stepOf (j .value) z)))
     unfolding transactionTick
     commit-statement g work =
-        subst (λ (o : X.Exchanged). Simulated sheet body a p (transactionTick sheet a p (inPhase j (Phase.Transaction (Committing z))) (Committing z)) (T.committed (inside sheet body a p j (J.committing (exchangeOf es z))) (transactionOf sheet j (partsOf a p)) o))
-        (sym (exchange-tick (a .cells) (a .status) (a .saves) (a .stores) (a .names) (a .olds) (a .news) (a .inits) (a .overlapped) p (j .pairs) exchange-shape z exchange-step))
-        (committed-by sheet body a p (inPhase j (Phase.Transaction (Committing z))) (J.committing (exchangeOf es z)) s below work few g left
-        (exchange-frame (a .cells) (a .status) (a .saves) (a .names) (a .olds) (a .news) (a .inits) (a .overlapped) p (j .pairs) (exchange-shape .pairs) z exchange-step) (left .next))
+        subst (λ (o : X.Exchanged). Simulated sheet body a p (transactionTick sheet a p (inPhase j (Phase.Transaction (Committing z))) (Committing z)) (T.committed (inside sheet body a p j (J.committing (exchangeOf es (j .value) z))) (transactionOf sheet j (partsOf a p)) o))
+        (sym (exchange-tick (a .cells) (a .status) (a .saves) (a .stores) (a .names) (a .olds) (a .news) (a .inits) (a .overlapped) p (j .pairs) (j .value) exchange-shape z exchange-step))
+        (committed-by sheet body a p (inPhase j (Phase.Transaction (Committing z))) (J.committing (exchangeOf es (j .value) z)) s below work few g left
+        (exchange-frame (a .cells) (a .status) (a .saves) (a .names) (a .olds) (a .news) (a .inits) (a .overlapped) p (j .pairs) (j .value) (exchange-shape .pairs) z exchange-step) (left .next))
 
   -- A TRANSACTION
   named-block : (c : Access) → T.blockOf (viewAccess c) ≡ namedBlock c

@@ -93,7 +93,7 @@ numberOf (Step.Test i) = i
 numberOf (Step.Load i) = i
 numberOf (Step.Look i) = i
 numberOf (Step.Fetch i) = i
-numberOf (Step.Save i v) = i
+numberOf (Step.Save i) = i
 numberOf (Step.Fail i) = i
 numberOf (Step.Mark i) = i
 numberOf (Step.Install i) = i
@@ -101,22 +101,23 @@ numberOf (Step.Commit i) = i
 numberOf (Step.Clean i j yes?) = i
 numberOf (Step.CleanMark i j yes?) = i
 
-abbrev pub stepOf : Step → X.Step
-stepOf Step.Start = X.start
-stepOf (Step.Test i) = X.test
-stepOf (Step.Load i) = X.load
-stepOf (Step.Look i) = X.look
-stepOf (Step.Fetch i) = X.fetch
-stepOf (Step.Save i v) = X.save v
-stepOf (Step.Fail i) = X.fail
-stepOf (Step.Mark i) = X.mark
-stepOf (Step.Install i) = X.install
-stepOf (Step.Commit i) = X.commit
-stepOf (Step.Clean i j yes?) = X.clean j yes?
-stepOf (Step.CleanMark i j yes?) = X.cleanMark j yes?
+-- by: the value found last
+abbrev pub stepOf : ℕ → Step → X.Step
+stepOf v Step.Start = X.start
+stepOf v (Step.Test i) = X.test
+stepOf v (Step.Load i) = X.load
+stepOf v (Step.Look i) = X.look
+stepOf v (Step.Fetch i) = X.fetch
+stepOf v (Step.Save i) = X.save v
+stepOf v (Step.Fail i) = X.fail
+stepOf v (Step.Mark i) = X.mark
+stepOf v (Step.Install i) = X.install
+stepOf v (Step.Commit i) = X.commit
+stepOf v (Step.Clean i j yes?) = X.clean j yes?
+stepOf v (Step.CleanMark i j yes?) = X.cleanMark j yes?
 
-abbrev pub exchangeOf : List X.Entry → Step → X.Exchange
-exchangeOf es s = record { entries = es; i = numberOf s; step = stepOf s }
+abbrev pub exchangeOf : List X.Entry → ℕ → Step → X.Exchange
+exchangeOf es v s = record { entries = es; i = numberOf s; step = stepOf v s }
 
 -- a block by its kind and the remembered value
 abbrev pub touchedOf : ℕ → ℕ → J.Touched
@@ -142,13 +143,13 @@ innerOf j a Inner.Between = J.between
 innerOf j a (Inner.First c s) = J.first (viewAccess c) (readingOf s)
 innerOf j a (Inner.Copying c n) = J.copying (viewAccess c) n
 innerOf j a (Inner.Again c v s) = J.again (viewAccess c) v (readingOf s)
-innerOf j a (Inner.Committing s) = J.committing (exchangeOf (partEntries j a) s)
+innerOf j a (Inner.Committing s) = J.committing (exchangeOf (partEntries j a) (j .value) s)
 
 abbrev pub phaseOf : List ℕ → Job → Parts → Phase → J.Phase
 phaseOf sheet j a Phase.Idle = J.idle
 phaseOf sheet j a Phase.Plain = J.plain
 phaseOf sheet j a (Phase.Read r w s) = J.reading r w (readingOf s)
-phaseOf sheet j a (Phase.Exchange r s) = J.exchanging r (exchangeOf (partEntries j a) s)
+phaseOf sheet j a (Phase.Exchange r s) = J.exchanging r (exchangeOf (partEntries j a) (j .value) s)
 phaseOf sheet j a (Phase.Transaction s) = J.transacting (transactionOf sheet j a) (innerOf j a s)
 
 -- an idle job has no commands left

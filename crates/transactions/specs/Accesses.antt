@@ -23,7 +23,7 @@ inner j s = inPhase j (Transaction s)
 
 -- the next command of the transaction
 abbrev pub goesOn : Job → Job
-goesOn j = job (Transaction Between) (j .next) (j .next) (j .begin) 0 (j .used)
+goesOn j = job (Transaction Between) (j .value) (j .next) (j .next) (j .begin) 0 (j .used)
 
 pub record Touching : Type 0 where
   pub job : Job
@@ -107,7 +107,7 @@ restarted registers kept kinds p j = checked (jobAt (Transaction Between) (j .be
 unfoldable pub checkedBy : List ℕ → List ℕ → ℕ → Job → Access → ℕ → Checked
 checkedBy registers kinds p j (Get r b o) v = checked (goesOn j) (replace registers (8 * p + r) v) kinds
 checkedBy registers kinds p j (Put b o r) v =
-    checked (job (Transaction Between) (j .at) (j .next) (j .begin) (j .pairs) (nextOf (j .used))) registers (replace kinds (16 * p + b) ((j .used + 2) % 256))
+    checked (job (Transaction Between) (j .value) (j .at) (j .next) (j .begin) (j .pairs) (nextOf (j .used))) registers (replace kinds (16 * p + b) ((j .used + 2) % 256))
 
 unfoldable pub againRead : List ℕ → List ℕ → List ℕ → List ℕ → ℕ → Job → Access → ℕ → Read → Checked
 againRead registers kept kinds remembered p j a v (Reads s) = checked (inner j (Again a v s)) registers kinds

@@ -3,12 +3,12 @@ use Prim.Native.Nat.{ℕ, _*_}
 use mathlib.Core.Bool.{Bool, true, false}
 use mathlib.Core.List.{List}
 use Rattle.exchanges.specs.Places.{if, Went, went}
-use Rattle.transactions.specs.Jobs.{job, jobAt, counted, afterDone, Entries, entries}
+use Rattle.transactions.specs.Jobs.{job, jobAt, withValue, counted, afterDone, Entries, entries}
 use Rattle.transactions.specs.Blocks.{untouchedFrom, spentFrom, Gathering, gathering, gatheredTo, takenTo}
 use Rattle.transactions.specs.Accesses.{inner, Checked, restarted}
-use Rattle.exchanges.specs.declared.exchange.Step.the-variants.{Start}
+use Rattle.exchanges.specs.declared.exchange.Step.the-variants.{Start, Save}
 use Rattle.exchanges.specs.declared.exchange.Exchanged.{Exchanged}
-use Rattle.exchanges.specs.declared.exchange.Exchanged.the-variants.{Goes, Ends}
+use Rattle.exchanges.specs.declared.exchange.Exchanged.the-variants.{Goes, Finds, Ends}
 use Rattle.transactions.specs.declared.job.Inner.the-variants.{Committing}
 use Rattle.transactions.specs.declared.job.Phase.the-variants.{Idle, Transaction}
 use Rattle.transactions.specs.declared.job.Job.{Job}
@@ -26,7 +26,7 @@ countedIn e w = record { job = w .next; entries = e; counts = w .array }
 
 abbrev pub exchangeOf : Job → List ℕ → Gathering → Gathered
 exchangeOf j counts g =
-    record { job = job (Transaction (Committing Start)) (j .at) (j .next) (j .begin) (g .count) (j .used); entries = g .entries; counts = counts }
+    record { job = job (Transaction (Committing Start)) (j .value) (j .at) (j .next) (j .begin) (g .count) (j .used); entries = g .entries; counts = counts }
 
 unfoldable pub commitBy : List ℕ → List ℕ → List ℕ → List ℕ → List ℕ → List ℕ → List ℕ → List ℕ → List ℕ → List ℕ → ℕ → Job → Gathered
 commitBy sheet copies names olds news inits overlapped kinds remembered counts p j =
@@ -54,6 +54,8 @@ noBy copies counts w = committed (w .job) (w .registers) copies (w .kinds) count
 
 unfoldable pub committedBy : List ℕ → List ℕ → List ℕ → List ℕ → List ℕ → List ℕ → List ℕ → ℕ → Job → Exchanged → Committed
 committedBy sheet registers kept copies kinds remembered counts p j (Goes s) = committed (inner j (Committing s)) registers copies kinds counts
+committedBy sheet registers kept copies kinds remembered counts p j (Finds f) =
+    committed (withValue j (Transaction (Committing (Save (f .i)))) (f .value)) registers copies kinds counts
 committedBy sheet registers kept copies kinds remembered counts p j (Ends true) =
     yesBy registers (takenTo 16 copies kinds remembered p) kinds (afterDone sheet counts p (j .next) 0)
 committedBy sheet registers kept copies kinds remembered counts p j (Ends false) =

@@ -10,22 +10,26 @@ use Rattle.exchanges.specs.Places.{if, Went, went}
 use Rattle.exchanges.specs.declared.read.Read.{Read}
 use Rattle.exchanges.specs.declared.read.Read.the-variants.{Reads, Gives}
 use Rattle.exchanges.specs.declared.exchange.Exchanged.{Exchanged}
-use Rattle.exchanges.specs.declared.exchange.Exchanged.the-variants.{Goes, Ends}
+use Rattle.exchanges.specs.declared.exchange.Exchanged.the-variants.{Goes, Finds, Ends}
+use Rattle.exchanges.specs.declared.exchange.Step.the-variants.{Save}
 use Rattle.transactions.specs.declared.job.Phase.{Phase}
 use Rattle.transactions.specs.declared.job.Phase.the-variants as P
 use Rattle.transactions.specs.declared.job.Job.{Job}
 
-abbrev pub job : Phase → ℕ → ℕ → ℕ → ℕ → ℕ → Job
-job f a n b k u = record { phase = f; at = a; next = n; begin = b; pairs = k; used = u }
+abbrev pub job : Phase → ℕ → ℕ → ℕ → ℕ → ℕ → ℕ → Job
+job f v a n b k u = record { phase = f; value = v; at = a; next = n; begin = b; pairs = k; used = u }
 
 abbrev pub jobAt : Phase → ℕ → ℕ → Job
-jobAt f place pairs = job f place place place pairs 0
+jobAt f place pairs = job f 0 place place place pairs 0
 
 abbrev pub movedTo : Job → ℕ → Job
-movedTo j next = job (j .phase) (j .at) next (j .begin) (j .pairs) (j .used)
+movedTo j next = job (j .phase) (j .value) (j .at) next (j .begin) (j .pairs) (j .used)
 
 abbrev pub inPhase : Job → Phase → Job
-inPhase j f = job f (j .at) (j .next) (j .begin) (j .pairs) (j .used)
+inPhase j f = job f (j .value) (j .at) (j .next) (j .begin) (j .pairs) (j .used)
+
+abbrev pub withValue : Job → Phase → ℕ → Job
+withValue j f v = job f v (j .at) (j .next) (j .begin) (j .pairs) (j .used)
 
 abbrev pub bodyCommand : M.Command → Bool
 bodyCommand (M.WORD v) = false
@@ -106,4 +110,5 @@ readBy sheet registers counts p j r w (Gives v) = afterGiving sheet registers co
 
 unfoldable pub swapBy : List ℕ → List ℕ → List ℕ → ℕ → Job → ℕ → Exchanged → Answered
 swapBy sheet registers counts p j r (Goes s) = answered (inPhase j (P.Exchange r s)) registers counts
+swapBy sheet registers counts p j r (Finds f) = answered (withValue j (P.Exchange r (Save (f .i))) (f .value)) registers counts
 swapBy sheet registers counts p j r (Ends yes?) = afterGiving sheet registers counts p (j .next) 0 r (answer yes?)

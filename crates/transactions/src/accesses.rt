@@ -52,6 +52,7 @@ pub fn goes_on(job: Job) -> Job
 {
     Job {
         phase: Phase::Transaction(Inner::Between),
+        value: job.value,
         at: job.next,
         next: job.next,
         begin: job.begin,
@@ -282,6 +283,7 @@ fn check(
             memory::set_u8x128(&mut *kinds, s, std::num::wrapping_add_u8(job.used, 2));
             return Job {
                 phase: Phase::Transaction(Inner::Between),
+                value: job.value,
                 at: job.at,
                 next: job.next,
                 begin: job.begin,

@@ -171,6 +171,7 @@ pub fn commit(
     );
     Job {
         phase: Phase::Transaction(Inner::Committing(Step::Start)),
+        value: job.value,
         at: job.at,
         next: job.next,
         begin: job.begin,
@@ -229,6 +230,13 @@ pub fn committed_by(
             }
             job::count(&mut *counts, p, 2);
             return accesses::restart(&mut *registers, kept, &mut *kinds, p, job);
+        }
+        Exchanged::Finds(found) => {
+            return job::with_value(
+                job,
+                Phase::Transaction(Inner::Committing(Step::Save(found.i))),
+                found.value,
+            );
         }
     }
 }

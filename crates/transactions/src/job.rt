@@ -4,7 +4,7 @@ ghost use Prim.Native.Nat.{_+_, _*_};
 ghost use Rattle.model.specs.Lists.{replace};
 ghost use Rattle.model.specs.Command.{commandAt};
 ghost use Rattle.exchanges.specs.Places.{went};
-ghost use Rattle.transactions.specs.Jobs.{inBody, jobAt, movedTo, inPhase, counted, added, copied, afterDone, answered, afterGiving, readBy, swapBy, entries, entered};
+ghost use Rattle.transactions.specs.Jobs.{inBody, jobAt, movedTo, inPhase, withValue, counted, added, copied, afterDone, answered, afterGiving, readBy, swapBy, entries, entered};
 use commands::Access;
 use commands::Opcode;
 use exchanges::exchange::Exchanged;
@@ -33,12 +33,14 @@ pub enum Phase {
     Transaction(Inner),
 }
 
-// The places of the command at work, of the one after it and of the one after BEGIN; the waiting PAIRs; the used copy slots.
+// The places of the command at work, of the one after it and of the one after BEGIN; the value that an exchange found last; the waiting PAIRs;
+// the used copy slots.
 pub struct Job {
     pub phase: Phase,
     pub at: usize,
     pub next: usize,
     pub begin: usize,
+    pub value: u32,
     pub pairs: u8,
     pub used: u8,
 }
@@ -48,6 +50,7 @@ pub fn job_at(phase: Phase, place: usize, pairs: u8) -> Job
 {
     Job {
         phase: phase,
+        value: 0,
         at: place,
         next: place,
         begin: place,
@@ -63,6 +66,7 @@ pub fn moved_to(job: Job, next: usize) -> Job
     let phase = job.phase;
     Job {
         phase: phase,
+        value: job.value,
         at: job.at,
         next: next,
         begin: job.begin,
@@ -76,6 +80,21 @@ pub fn in_phase(job: Job, phase: Phase) -> Job
 {
     Job {
         phase: phase,
+        value: job.value,
+        at: job.at,
+        next: job.next,
+        begin: job.begin,
+        pairs: job.pairs,
+        used: job.used,
+    }
+}
+
+pub fn with_value(job: Job, phase: Phase, value: u32) -> Job
+    ensures { λ r. ⌜ r ≡ withValue job phase value ⌝ }
+{
+    Job {
+        phase: phase,
+        value: value,
         at: job.at,
         next: job.next,
         begin: job.begin,
@@ -248,6 +267,13 @@ pub fn swap_by(
                 0,
                 register,
                 yes as u32,
+            );
+        }
+        Exchanged::Finds(found) => {
+            return with_value(
+                job,
+                Phase::Exchange(register, Step::Save(found.i)),
+                found.value,
             );
         }
     }

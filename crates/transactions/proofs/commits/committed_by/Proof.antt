@@ -36,6 +36,16 @@ returns-3 : tie.Need-returns-3
 unfolding committedBy
 returns-3 c = rw (c .before .before .before .before .before .before .before .exchanged2 .given .1, c .before .before .before .before .before .if1 .left, ← c .before .before .before .count .ensures, ← c .restart .ensures)
 
+enum-known-exchanged-3 : tie.Need-enum-known-exchanged-3
+enum-known-exchanged-3 c = search needs
+
+with-value-requires : tie.Need-with-value-requires
+with-value-requires c κs = search needs
+
+returns-4 : tie.Need-returns-4
+unfolding committedBy
+returns-4 c = rw (c .before .before .exchanged3 .given .1, c .with-value .ensures)
+
 pub committed-by-spec : {M : Type 1} → statement M
 committed-by-spec =
     tie.close
@@ -49,4 +59,7 @@ committed-by-spec =
     returns-2
     count-requires
     restart-requires
-    returns-3)
+    returns-3
+    enum-known-exchanged-3
+    with-value-requires
+    returns-4)

@@ -26,6 +26,16 @@ returns-2 : tie.Need-returns-2
 unfolding swapBy
 returns-2 c = rw (c .before .before .before .before .exchanged2 .given .1, ← c .give .ensures)
 
+enum-known-exchanged-3 : tie.Need-enum-known-exchanged-3
+enum-known-exchanged-3 c = search needs
+
+with-value-requires : tie.Need-with-value-requires
+with-value-requires c κs = search needs
+
+returns-3 : tie.Need-returns-3
+unfolding swapBy
+returns-3 c = rw (c .before .before .exchanged3 .given .1, c .with-value .ensures)
+
 pub swap-by-spec : {M : Type 1} → statement M
 swap-by-spec =
     tie.close
@@ -36,4 +46,7 @@ swap-by-spec =
     enum-known-exchanged-2
     cast-give
     give-requires
-    returns-2)
+    returns-2
+    enum-known-exchanged-3
+    with-value-requires
+    returns-3)
