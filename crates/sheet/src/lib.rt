@@ -1,4 +1,4 @@
-// The run sheet: the check that gives the first fault in byte order, and the index of an accepted sheet.
+// The run sheet: its rules, the judgement of one command at its place, and the index of an accepted sheet.
 pub mod check;
 pub mod index;
 pub mod known;
