@@ -4,10 +4,12 @@ use mathlib.Core.Path.{_≡_}
 use mathlib.Core.Bool.{Bool, true, false}
 use mathlib.Core.List.{List, [], _∷_}
 use mathlib.Core.Option.{Option, none, some}
-use lib.Dec.{ltb, leb}
+use lib.Dec.{ltb, leb, eqb}
 use lib.ListN.{length, getD}
 use Rattle.model.specs.Command.{Command, END, blockOf, Row, table, rowOf, total, operand, found, refused, commandAt}
 use Rattle.commands.specs.View.{viewRefusal}
+use Rattle.commands.specs.declared.Access.{Access}
+use Rattle.commands.specs.declared.Access.the-variants.{Get, Put}
 use Rattle.commands.specs.declared.Entry.{Entry}
 use Rattle.commands.specs.declared.Index.{Index}
 use Rattle.commands.specs.declared.Index.the-variants.{At, Unknown}
@@ -80,6 +82,11 @@ commandOf s p b = commandFrom s p (rowOf b table)
 unfoldable pub widthOf : ℕ → ℕ
 unfolding widthFrom rowOf table
 widthOf b = widthFrom (rowOf b table)
+
+-- GET or PUT by its byte, its operands starting at p
+unfoldable pub accessFrom : List ℕ → ℕ → ℕ → Access
+accessFrom s p b =
+    pick (eqb b 0x21) (Get (getD s p 0) (getD s (p + 1) 0) (getD s (p + 2) 0)) (Put (getD s p 0) (getD s (p + 1) 0) (getD s (p + 2) 0))
 
 -- what the byte at a place says of the command there
 abbrev pub ByteSays : List ℕ → ℕ → Opcode → Type 0

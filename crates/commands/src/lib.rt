@@ -5,7 +5,7 @@ ghost use lib.ListN.{length, getD};
 ghost use Rattle.model.specs.Command.{bigEndian, commandAt};
 ghost use Rattle.model.specs.Refusal.{number};
 ghost use Rattle.commands.specs.View.{viewRefusal, viewCommand, viewDecoded};
-ghost use Rattle.commands.specs.Stages.{indexOf, widthAt, widthOf, commandOf, ByteSays, valuesFrom};
+ghost use Rattle.commands.specs.Stages.{indexOf, widthAt, widthOf, commandOf, accessFrom, ByteSays, valuesFrom};
 
 pub struct Release {
     pub tick: u16,
@@ -204,7 +204,7 @@ fn width_of(b: u8) -> usize
 }
 
 // The byte at a place, 0 past the end.
-fn byte(s: &[u8], at: usize) -> u8
+pub fn byte(s: &[u8], at: usize) -> u8
     ensures { λ r. ⌜ r ≡ getD (now (s .entry)) at 0 ⌝ }
 {
     if at < s.len() { s[at] } else { 0 }
@@ -269,6 +269,25 @@ pub fn command_byte(s: &[u8], at: usize) -> Opcode
     Opcode::Known(b)
 }
 
+// GET or PUT by its byte, its operands starting at p.
+pub fn access_of(s: &[u8], p: usize, b: u8) -> Access
+    requires { ⌜ p ≤ length (now s) ⌝ }
+    ensures { λ r. ⌜ r ≡ accessFrom (now (s .entry)) p b ⌝ }
+{
+    if b == 0x21 {
+        return Access::Get {
+            register: byte(s, p),
+            block: byte(s, p + 1),
+            offset: byte(s, p + 2),
+        };
+    }
+    Access::Put {
+        block: byte(s, p),
+        offset: byte(s, p + 1),
+        register: byte(s, p + 2),
+    }
+}
+
 // The command of a byte, its operands starting at p; END where the byte names none.
 fn command_of(s: &[u8], p: usize, b: u8) -> Command
     requires { ⌜ p ≤ length (now s) ⌝ }
@@ -302,16 +321,8 @@ fn command_of(s: &[u8], p: usize, b: u8) -> Command
         },
         0x14 => Command::Swap(byte(s, p)),
         0x20 => Command::Begin,
-        0x21 => Command::Access(Access::Get {
-            register: byte(s, p),
-            block: byte(s, p + 1),
-            offset: byte(s, p + 2),
-        }),
-        0x22 => Command::Access(Access::Put {
-            block: byte(s, p),
-            offset: byte(s, p + 1),
-            register: byte(s, p + 2),
-        }),
+        0x21 => Command::Access(access_of(s, p, b)),
+        0x22 => Command::Access(access_of(s, p, b)),
         0x23 => Command::Commit,
         _ => Command::End,
     }

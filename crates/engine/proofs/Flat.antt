@@ -5,7 +5,7 @@ use mathlib.Core.List.{List}
 use Rattle.sheet.specs.Indexed.{Indexed}
 use Rattle.sheet.specs.declared.index.Sheet.{Sheet}
 use Rattle.start.specs.Contract.{Cells, Stores, Copies}
-use Rattle.machine.specs.Statements.{Arrays}
+use Rattle.statements.specs.Statements.{Arrays}
 use Rattle.machine.specs.World.{Finished}
 use Rattle.machine.specs.declared.run.Ended.{Ended}
 use Rattle.report.specs.Text.{reportText, Reported}

@@ -6,7 +6,7 @@ use lib.ListN.{replicate}
 use Rattle.sheet.specs.Indexed.{Indexed}
 use Rattle.sheet.specs.declared.index.Sheet.{Sheet}
 use Rattle.start.specs.Contract.{Cells, Stores, Copies}
-use Rattle.machine.specs.Statements.{Arrays, arrays}
+use Rattle.statements.specs.Statements.{Arrays, arrays}
 use Rattle.machine.specs.World.{Finished}
 use Rattle.machine.specs.declared.run.Ended.{Ended}
 use Rattle.report.specs.Text.{reportText, Reported}

@@ -34,7 +34,8 @@ pub enum Exchanged {
     Ends(bool),
 }
 
-fn start(status: &mut [u8; 8], p: u8) -> Step
+// SWAP begins.
+pub fn start(status: &mut [u8; 8], p: u8) -> Step
     ensures { λ r. ⌜ went r (now (status .exit)) ≡ afterStart (now (status .entry)) p ⌝ }
 {
     let task = places::wide(p);

@@ -15,7 +15,7 @@ use Rattle.model.proofs.Lists.{test?}
 use Rattle.commands.specs.View.{viewCommand}
 use Rattle.commands.specs.declared.Command.{Command}
 use Rattle.commands.specs.declared.Command.the-variants as C
-use Rattle.machine.specs.Statements.{Arrays, turn, statement}
+use Rattle.statements.specs.Statements.{Arrays, turn, statement}
 use Rattle.machine.specs.World.{unfinishedJob, pendingBy, pendingAt, dueBy, comingBy, stopsBy, topOf, startWorld, droppedBy, begunBy, zeroedBy, startedBy, leftBy, tickedBy, World, world, noJob, withRegisters, withCounts, released, ticked, comingIn, Ends, stopped, releases, ticks}
 use Rattle.transactions.specs.Jobs.{jobAt}
 use Rattle.transactions.specs.declared.job.Phase.the-variants as P

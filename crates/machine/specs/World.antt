@@ -11,7 +11,7 @@ use Rattle.commands.specs.declared.Command.{Command}
 use Rattle.commands.specs.declared.Command.the-variants as C
 use Rattle.exchanges.specs.Places.{if}
 use Rattle.transactions.specs.Jobs.{job, jobAt, counted}
-use Rattle.machine.specs.Statements.{Arrays, arrays, Turn, turn, statement}
+use Rattle.statements.specs.Statements.{Arrays, arrays, Turn, turn, statement}
 use Rattle.transactions.specs.declared.job.Phase.{Phase}
 use Rattle.transactions.specs.declared.job.Phase.the-variants as P
 use Rattle.transactions.specs.declared.job.Job.{Job}

@@ -1,6 +1,3 @@
-// The machine: one statement of a task, and the run.
-pub mod inside;
-pub mod outside;
+// The machine: the releases, and the run.
 pub mod releases;
 pub mod run;
-pub mod step;

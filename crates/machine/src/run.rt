@@ -1,12 +1,12 @@
 // The run: releases arrive, the highest task with an unfinished job does one statement, until the run stops.
 ghost use mathlib.Core.Path.{_≡_};
 ghost use Prim.Native.Nat.{_+_, _*_, _-_, _^_, _%_, _<_, _≤_};
-ghost use Rattle.machine.specs.Statements.{arrays};
+ghost use Rattle.statements.specs.Statements.{arrays};
 ghost use Rattle.machine.specs.World.{unfinishedJob, topOf, droppedBy, begunBy, zeroed, zeroedBy, startedBy, leftBy, tickedBy, Finished};
 use crate::releases;
 use crate::releases::Coming;
-use crate::step;
 use exchanges::places;
+use statements::step;
 use transactions::job;
 use transactions::job::Job;
 use transactions::job::Phase;

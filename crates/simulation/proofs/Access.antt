@@ -23,7 +23,7 @@ use Rattle.exchanges.specs.Places.{if, nextOf, went}
 use Rattle.exchanges.specs.Reading.{afterReading}
 use Rattle.transactions.specs.Blocks.{bankOf, namedBlock}
 use Rattle.transactions.specs.Accesses.{accessed, inStores, firstRead, storeFor, gotBy, copyBy, afterCopy, afterPut, accessTick, restarted, checkedBy, againRead}
-use Rattle.machine.specs.Statements.{Arrays, Turn, onTouching, onStores, onAccess, onChecked}
+use Rattle.statements.specs.Statements.{Arrays, Turn, onTouching, onStores, onAccess, onChecked}
 use Rattle.exchanges.specs.declared.read.Reading.the-variants.{Load}
 use Rattle.exchanges.specs.declared.read.Read.{Read}
 use Rattle.exchanges.specs.declared.read.Read.the-variants.{Reads, Gives}

@@ -14,7 +14,7 @@ use Rattle.memory.specs.Rows.{row}
 use Rattle.memory.proofs.Rows.{row-same, row-other}
 use Rattle.transactions.specs.Jobs.{afterDone, afterGiving, readBy, swapBy}
 use Rattle.exchanges.specs.Exchange.{Left}
-use Rattle.machine.specs.Statements.{Arrays, onCounts, onAnswer, onExchange}
+use Rattle.statements.specs.Statements.{Arrays, onCounts, onAnswer, onExchange}
 use Rattle.exchanges.specs.declared.read.Read.{Read}
 use Rattle.exchanges.specs.declared.read.Read.the-variants.{Reads, Gives}
 use Rattle.exchanges.specs.declared.exchange.Exchanged.{Exchanged}

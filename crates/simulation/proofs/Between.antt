@@ -18,7 +18,7 @@ use Rattle.commands.specs.View.{viewAccess}
 use Rattle.commands.specs.declared.Access.{Access}
 use Rattle.commands.specs.declared.Access.the-variants.{Get, Put}
 use Rattle.transactions.specs.Jobs.{bodyCommand, movedTo, inPhase}
-use Rattle.machine.specs.Statements.{Arrays, turn, betweenBy}
+use Rattle.statements.specs.Statements.{Arrays, turn, betweenBy}
 use Rattle.transactions.specs.declared.job.Inner.the-variants.{Between}
 use Rattle.transactions.specs.declared.job.Phase.the-variants.{Transaction}
 use Rattle.transactions.specs.declared.job.Job.{Job}

@@ -21,7 +21,7 @@ use Rattle.exchanges.specs.Exchange.{Left}
 use Rattle.transactions.specs.Blocks.{untouchedFrom, isSpent, spentFrom, gatheredTo, takenTo}
 use Rattle.transactions.specs.Accesses.{restarted}
 use Rattle.transactions.specs.Commits.{Gathered, countedIn, exchangeOf, commitBy, committedBy}
-use Rattle.machine.specs.Statements.{Arrays, entriesOf, onGathered, onCommitted}
+use Rattle.statements.specs.Statements.{Arrays, entriesOf, onGathered, onCommitted}
 use Rattle.exchanges.specs.declared.exchange.Exchanged.{Exchanged}
 use Rattle.exchanges.specs.declared.exchange.Exchanged.the-variants.{Goes, Finds, Ends}
 use Rattle.transactions.specs.declared.job.Phase.the-variants.{Idle}

@@ -16,7 +16,7 @@ use Rattle.model.proofs.Fit.Ranges.{Ranges}
 use Rattle.model.proofs.Fit.RangesStart.{start-range, sheet-range}
 use Rattle.memory.specs.Rows.{row}
 use Rattle.memory.proofs.Rows.{length-row}
-use Rattle.machine.specs.Statements.{Arrays}
+use Rattle.statements.specs.Statements.{Arrays}
 use Rattle.machine.specs.World.{world, startWorld, Finished}
 use Rattle.machine.specs.declared.run.Ended.{Ended}
 use Rattle.simulation.proofs.Parts.{sizes, sharedOf}

@@ -13,7 +13,7 @@ use Rattle.model.proofs.Lists.{replace-same, replace-other, length-replace}
 use Rattle.memory.specs.Rows.{row}
 use Rattle.memory.proofs.Rows.{at-row, row-same, row-other, length-row}
 use Rattle.transactions.specs.Jobs.{counted}
-use Rattle.machine.specs.Statements.{Arrays, Turn}
+use Rattle.statements.specs.Statements.{Arrays, Turn}
 use Rattle.transactions.specs.declared.job.Inner.{Inner}
 use Rattle.transactions.specs.declared.job.Inner.the-variants as Inner
 use Rattle.transactions.specs.declared.job.Phase.{Phase}

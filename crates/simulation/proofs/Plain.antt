@@ -22,7 +22,7 @@ use Rattle.exchanges.specs.Places.{nextOf}
 use Rattle.exchanges.specs.Reading.{afterReading}
 use Rattle.exchanges.specs.Exchange.{afterStart, afterExchange}
 use Rattle.transactions.specs.Jobs.{bodyCommand, movedTo, inPhase, added, Entries, entered}
-use Rattle.machine.specs.Statements.{Arrays, turn, entriesOf, paired, plainBy}
+use Rattle.statements.specs.Statements.{Arrays, turn, entriesOf, paired, plainBy}
 use Rattle.exchanges.specs.declared.read.Reading.the-variants.{Load}
 use Rattle.exchanges.specs.declared.exchange.Step.the-variants.{Start}
 use Rattle.transactions.specs.declared.job.Phase.the-variants.{Plain}

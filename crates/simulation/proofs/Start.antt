@@ -17,7 +17,7 @@ use Rattle.model.proofs.Fit.Start.{startTask, start-task, start-fit}
 use Rattle.memory.specs.Packed.{unpack}
 use Rattle.memory.specs.Rows.{row, rows}
 use Rattle.memory.proofs.Rows.{at-row, length-row}
-use Rattle.machine.specs.Statements.{Arrays, arrays}
+use Rattle.statements.specs.Statements.{Arrays, arrays}
 use Rattle.machine.specs.World.{noJob, startWorld}
 use Rattle.transactions.specs.declared.job.Job.{Job}
 use Rattle.simulation.proofs.View.{bodyFrom, memoryOf, taskOf}

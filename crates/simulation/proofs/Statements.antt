@@ -28,7 +28,7 @@ use Rattle.exchanges.specs.Reading.{afterReading}
 use Rattle.transactions.specs.Blocks.{bankOf, namedBlock}
 use Rattle.exchanges.specs.Exchange.{Left, afterExchange}
 use Rattle.transactions.specs.Jobs.{bodyCommand, inPhase}
-use Rattle.machine.specs.Statements.{Arrays, plainTick, betweenTick, transactionTick, statement}
+use Rattle.statements.specs.Statements.{Arrays, plainTick, betweenTick, insideTick, otherTick, transactionTick, statement}
 use Rattle.exchanges.specs.declared.read.Reading.{Reading}
 use Rattle.exchanges.specs.declared.exchange.Step.{Step}
 use Rattle.transactions.specs.declared.job.Inner.{Inner}
@@ -209,7 +209,7 @@ module _ (sheet : List ℕ) (body : List C.Command) (a : Arrays) (p : ℕ) (j : 
 
   transaction-statement : (i : Inner) → TransactionFit words blocks (row 4 p (a .copies)) (bodyFrom sheet (j .at)) [] x (innerOf j (partsOf a p) i) → TransactionRange x (innerOf j (partsOf a p) i)
       → ((k : ℕ) → at 0 (row 4 p (a .copies)) k < 256) → InnerShape sheet j i → Goal i
-  unfolding T.transactionTick transactionTick betweenTick
+  unfolding T.transactionTick transactionTick insideTick betweenTick
   transaction-statement Between f r copy w =
       subst (λ (l : List C.Command). Simulated sheet body a p (betweenTick sheet a p (inPhase j (Phase.Transaction Between))) (T.commandTick (sharedOf a) (inside sheet body a p j J.between) x l)) (sym (body-at sheet (j .at)))
       (between-tick sheet body a p j s below few (pass-fits J.between f r copy) words blocks mostBlocks (C.commandAt sheet (j .at)) refl (pass-found J.between f (C.commandAt sheet (j .at)) refl))
@@ -236,7 +236,7 @@ module _ (sheet : List ℕ) (body : List C.Command) (a : Arrays) (p : ℕ) (j : 
   pub statement-tick : (f : Phase) → PhaseFit words blocks (row 4 p (a .copies)) (commandsOf sheet j f) (waitingOf j (partsOf a p) f) (phaseOf sheet j (partsOf a p) f) → PhaseRange (phaseOf sheet j (partsOf a p) f)
       → ((k : ℕ) → at 0 (row 4 p (a .copies)) k < 256) → JobShape sheet j (partsOf a p) f
       → Simulated sheet body a p (statement sheet a p (inPhase j f) f) (M.statement p (sharedOf a) (taskOf sheet body (inPhase j f) (partsOf a p)) (phaseOf sheet j (partsOf a p) f))
-  unfolding M.statement statement
+  unfolding M.statement statement otherTick
   statement-tick Phase.Idle f r copy w = record { same = refl; others = λ q d. refl; sizes = refl; shape = tt }
   statement-tick Phase.Plain f r copy w = plain-statement (f .outside) w
   statement-tick (Phase.Read n c z) f r copy w =

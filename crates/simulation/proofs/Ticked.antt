@@ -20,7 +20,7 @@ use Rattle.model.proofs.Fit.Statement.{statement-fit}
 use Rattle.model.proofs.Fit.Ranges.{TaskRange, Ranges}
 use Rattle.memory.specs.Rows.{row}
 use Rattle.transactions.specs.Jobs.{counted}
-use Rattle.machine.specs.Statements.{Arrays, Turn, statement}
+use Rattle.statements.specs.Statements.{Arrays, Turn, otherTick, statement}
 use Rattle.machine.specs.World.{unfinishedJob, topOf, leftBy, World, world, noJob, jobOf, withCounts, tickedFor, ticked}
 use Rattle.transactions.specs.declared.job.Phase.{Phase}
 use Rattle.transactions.specs.declared.job.Phase.the-variants as Phase
@@ -85,7 +85,7 @@ left-mask false m k p h = omega arith
 
 -- AN IDLE TICK
 idle-tick : (sheet : List ℕ) (w : World) (p : ℕ) → busy (w .jobs) p ≡ false → tickedFor sheet w p (jobOf w p) ≡ world (w .arrays) (w .jobs) (w .mask) (w .place) (w .ticks + 1) (w .dropped)
-unfolding statement
+unfolding statement otherTick
 idle-tick sheet w p e =
     let f : jobOf w p .phase ≡ Phase.Idle = idle-phase (jobOf w p .phase) e in
     let js : set (w .jobs) p (jobOf w p) ≡ w .jobs = set-getD (w .jobs) p noJob in

@@ -16,7 +16,7 @@ use Rattle.model.proofs.Lists.{at-past}
 use Rattle.model.proofs.Fit.Elements.{below?}
 use Rattle.model.proofs.Fit.Running.{highest-running, none-nobody}
 use Rattle.model.proofs.Fit.Running.{busy as working}
-use Rattle.machine.specs.Statements.{Arrays}
+use Rattle.statements.specs.Statements.{Arrays}
 use Rattle.machine.specs.World.{unfinishedJob, World, jobOf, noJob}
 use Rattle.transactions.specs.declared.job.Phase.{Phase}
 use Rattle.transactions.specs.declared.job.Phase.the-variants as Phase

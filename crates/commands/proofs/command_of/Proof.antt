@@ -1,5 +1,6 @@
 -- `command_of` meets its contract.
 use Rattle.model.specs.Command.{rowOf, table}
+use Rattle.commands.specs.Stages.{accessFrom}
 use Rattle.commands.proofs.Decoding.{begin-command, block-command, commit-command, end-command, get-command, load-command, no-command, pair-command, put-command, read-command, release-command, sum-command, swap-command, task-command, word-command}
 use borrow.Author.Tests.{ne-eqb}
 use mathlib.Core.Path.{sym}
@@ -67,35 +68,11 @@ byte-requires-9 c κs = search needs
 byte-requires-10 : tie.Need-byte-requires-10
 byte-requires-10 c κs = search needs
 
-byte-requires-11 : tie.Need-byte-requires-11
-byte-requires-11 c κs = search needs
+access-of-requires : tie.Need-access-of-requires
+access-of-requires c κs = search needs
 
-add-byte-6 : tie.Need-add-byte-6
-add-byte-6 c = search needs
-
-byte-requires-12 : tie.Need-byte-requires-12
-byte-requires-12 c κs = search needs
-
-add-byte-7 : tie.Need-add-byte-7
-add-byte-7 c = search needs
-
-byte-requires-13 : tie.Need-byte-requires-13
-byte-requires-13 c κs = search needs
-
-byte-requires-14 : tie.Need-byte-requires-14
-byte-requires-14 c κs = search needs
-
-add-byte-8 : tie.Need-add-byte-8
-add-byte-8 c = search needs
-
-byte-requires-15 : tie.Need-byte-requires-15
-byte-requires-15 c κs = search needs
-
-add-byte-9 : tie.Need-add-byte-9
-add-byte-9 c = search needs
-
-byte-requires-16 : tie.Need-byte-requires-16
-byte-requires-16 c κs = search needs
+access-of-requires-2 : tie.Need-access-of-requires-2
+access-of-requires-2 c κs = search needs
 
 returns : tie.Need-returns
 returns c = rw (c .before .match .keys1, word-command) (cc)
@@ -131,10 +108,12 @@ returns-11 : tie.Need-returns-11
 returns-11 c = rw (c .match .keys11, begin-command)
 
 returns-12 : tie.Need-returns-12
-returns-12 c = rw (c .before .before .before .match .keys12, get-command) (cc)
+unfolding accessFrom
+returns-12 c = rw (c .access-of .ensures, c .before .match .keys12, get-command)
 
 returns-13 : tie.Need-returns-13
-returns-13 c = rw (c .before .before .before .match .keys13, put-command) (cc)
+unfolding accessFrom
+returns-13 c = rw (c .access-of2 .ensures, c .before .match .keys13, put-command)
 
 returns-14 : tie.Need-returns-14
 returns-14 c = rw (c .match .keys14, commit-command)
@@ -168,16 +147,8 @@ command-of-spec =
     add-byte-5
     byte-requires-9
     byte-requires-10
-    byte-requires-11
-    add-byte-6
-    byte-requires-12
-    add-byte-7
-    byte-requires-13
-    byte-requires-14
-    add-byte-8
-    byte-requires-15
-    add-byte-9
-    byte-requires-16
+    access-of-requires
+    access-of-requires-2
     returns
     returns-2
     returns-3

@@ -2,7 +2,7 @@ use borrow.Author.Tests.{eq-eqb, ne-eqb}
 use borrow.Author.Needs.{needs}
 use Rattle.machine.proofs.Runs.{apart, apart-most, same-world, start-world, release-turn, switched, tick-turn, due-within, after-release, after-tick, after-stop}
 use Rattle.machine.specs.World.{topOf, pendingAt, comingBy, World, world, startWorld, Ends, limited}
-use Rattle.machine.specs.Statements.{arrays}
+use Rattle.statements.specs.Statements.{arrays}
 use Rattle.machine.specs.declared.releases.Coming.the-variants.{Nothing, Later, Due}
 use Rattle.machine.specs.declared.releases.Coming.{Coming}
 use Rattle.machine.proofs.releases.Coming.{the-type}

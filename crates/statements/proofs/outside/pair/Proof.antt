@@ -1,7 +1,7 @@
-use Rattle.machine.specs.Statements.{paired}
+use Rattle.statements.specs.Statements.{paired}
 use borrow.Author.Needs.{needs}
-use Rattle.machine.proofs.outside.pair.Statement.{statement}
-use Rattle.machine.proofs.outside.pair.Tie as tie
+use Rattle.statements.proofs.outside.pair.Statement.{statement}
+use Rattle.statements.proofs.outside.pair.Tie as tie
 
 slot-requires : tie.Need-slot-requires
 slot-requires c κs = search needs

@@ -16,6 +16,8 @@ use Rattle.transactions.specs.Commits.{Gathered, commitBy, Committed, committed
 use Rattle.exchanges.specs.declared.read.Reading.the-variants.{Load}
 use Rattle.exchanges.specs.declared.exchange.Step.{Step}
 use Rattle.exchanges.specs.declared.exchange.Step.the-variants.{Start}
+use Rattle.statements.specs.declared.step.Exchanging.{Exchanging}
+use Rattle.statements.specs.declared.step.Exchanging.the-variants.{At, No}
 use Rattle.transactions.specs.declared.job.Inner.{Inner}
 use Rattle.transactions.specs.declared.job.Inner.the-variants.{Between, First, Copying, Again, Committing}
 use Rattle.transactions.specs.declared.job.Phase.{Phase}
@@ -157,20 +159,51 @@ abbrev pub commitTick : List ℕ → Arrays → ℕ → Job → Left → Turn
 commitTick sheet a p j x =
     onCommitted a x (committedBy sheet (a .registers) (a .kept) (a .copies) (a .kinds) (a .remembered) (a .counts) p j (x .next))
 
-unfoldable pub transactionTick : List ℕ → Arrays → ℕ → Job → Inner → Turn
-transactionTick sheet a p j Between = betweenTick sheet a p j
-transactionTick sheet a p j (First x s) =
+-- the step of an exchange that a job is at
+abbrev pub innerStep : Inner → Exchanging
+innerStep Between = No
+innerStep (First x s) = No
+innerStep (Copying x n) = No
+innerStep (Again x v s) = No
+innerStep (Committing s) = At s
+
+unfoldable pub exchangeStep : Phase → Exchanging
+exchangeStep P.Idle = No
+exchangeStep P.Plain = No
+exchangeStep (P.Read r w s) = No
+exchangeStep (P.Exchange r s) = At s
+exchangeStep (P.Transaction i) = innerStep i
+
+-- a statement inside a transaction that is not its exchange's
+unfoldable pub insideTick : List ℕ → Arrays → ℕ → Job → Inner → Turn
+insideTick sheet a p j Between = betweenTick sheet a p j
+insideTick sheet a p j (First x s) =
     onTouching a (firstRead (a .kinds) (a .remembered) p j x (afterReading (a .cells) (a .status) (a .saves) (bankOf (namedBlock x)) s))
-transactionTick sheet a p j (Copying x n) = onStores a (afterCopy (a .stores) (a .copies) (a .remembered) p j x n)
-transactionTick sheet a p j (Again x v s) =
+insideTick sheet a p j (Copying x n) = onStores a (afterCopy (a .stores) (a .copies) (a .remembered) p j x n)
+insideTick sheet a p j (Again x v s) =
     onChecked a
     (againRead (a .registers) (a .kept) (a .kinds) (a .remembered) p j x v (afterReading (a .cells) (a .status) (a .saves) (bankOf (namedBlock x)) s))
+insideTick sheet a p j (Committing s) = turn j a
+
+-- a statement that is no exchange's
+unfoldable pub otherTick : List ℕ → Arrays → ℕ → Job → Phase → Turn
+otherTick sheet a p j P.Idle = turn j a
+otherTick sheet a p j P.Plain = plainTick sheet a p j
+otherTick sheet a p j (P.Read r w s) = onAnswer a (readBy sheet (a .registers) (a .counts) p j r w (afterReading (a .cells) (a .status) (a .saves) w s))
+otherTick sheet a p j (P.Exchange r s) = turn j a
+otherTick sheet a p j (P.Transaction i) = insideTick sheet a p j i
+
+unfoldable pub transactionTick : List ℕ → Arrays → ℕ → Job → Inner → Turn
+transactionTick sheet a p j Between = insideTick sheet a p j Between
+transactionTick sheet a p j (First x s) = insideTick sheet a p j (First x s)
+transactionTick sheet a p j (Copying x n) = insideTick sheet a p j (Copying x n)
+transactionTick sheet a p j (Again x v s) = insideTick sheet a p j (Again x v s)
 transactionTick sheet a p j (Committing s) = commitTick sheet a p j (exchangeTick a p (j .pairs) (j .value) s)
 
 -- one statement of task p
 unfoldable pub statement : List ℕ → Arrays → ℕ → Job → Phase → Turn
-statement sheet a p j P.Idle = turn j a
-statement sheet a p j P.Plain = plainTick sheet a p j
-statement sheet a p j (P.Read r w s) = onAnswer a (readBy sheet (a .registers) (a .counts) p j r w (afterReading (a .cells) (a .status) (a .saves) w s))
+statement sheet a p j P.Idle = otherTick sheet a p j P.Idle
+statement sheet a p j P.Plain = otherTick sheet a p j P.Plain
+statement sheet a p j (P.Read r w s) = otherTick sheet a p j (P.Read r w s)
 statement sheet a p j (P.Exchange r s) = swapTick sheet a p j r (exchangeTick a p (j .pairs) (j .value) s)
 statement sheet a p j (P.Transaction s) = transactionTick sheet a p j s
