@@ -12,11 +12,11 @@ ghost use Rattle.reader.specs.Handed.{HandsOut, after};
 ghost use Rattle.reading.specs.Read.{Reached, goes?, RightAt, Further, verdictOf};
 use commands::Decoded;
 use reader::Reader;
-use rules::known;
 use rules::known::Known;
 use sheet::check::Judged;
 use sheet::check::Verdict;
 use sheet::check::judge;
+use sheet::known;
 
 // What is known before the next command, and whether a verdict has ended the reading.
 pub struct Reading {

@@ -1,11 +1,11 @@
 -- `named` meets its contract.
 use Rattle.model.specs.Fault.{room}
 use Rattle.rules.proofs.Membership.{room-wider}
 use Rattle.rules.specs.View.{viewNumbers}
 use mathlib.Core.Bool.{and-eq-true-iff}
 use borrow.Author.Needs.{needs}
-use Rattle.rules.proofs.known.named.Statement.{statement}
-use Rattle.rules.proofs.known.named.Tie as tie
+use Rattle.sheet.proofs.known.named.Statement.{statement}
+use Rattle.sheet.proofs.known.named.Tie as tie
 
 enum-known-a : tie.Need-enum-known-a
 enum-known-a c = search needs

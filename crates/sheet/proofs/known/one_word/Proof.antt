@@ -1,8 +1,8 @@
 -- `one_word` meets its contract.
 use native.Mathlib.Numerals.{add-one}
 use borrow.Author.Needs.{needs}
-use Rattle.rules.proofs.known.one_word.Statement.{statement}
-use Rattle.rules.proofs.known.one_word.Tie as tie
+use Rattle.sheet.proofs.known.one_word.Statement.{statement}
+use Rattle.sheet.proofs.known.one_word.Tie as tie
 
 add-t2 : tie.Need-add-t2
 add-t2 c = search needs

@@ -1,7 +1,7 @@
 -- `in_body` meets its contract.
 use borrow.Author.Needs.{needs}
-use Rattle.rules.proofs.known.in_body.Statement.{statement}
-use Rattle.rules.proofs.known.in_body.Tie as tie
+use Rattle.sheet.proofs.known.in_body.Statement.{statement}
+use Rattle.sheet.proofs.known.in_body.Tie as tie
 
 one-command-requires : tie.Need-one-command-requires
 one-command-requires c κs = search needs

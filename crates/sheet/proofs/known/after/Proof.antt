@@ -5,8 +5,8 @@ use borrow.Author.Tests.{ltb-true}
 use lib.Dec.{ltb}
 use mathlib.Core.Bool.{and-eq-true-iff}
 use borrow.Author.Needs.{needs}
-use Rattle.rules.proofs.known.after.Statement.{statement}
-use Rattle.rules.proofs.known.after.Tie as tie
+use Rattle.sheet.proofs.known.after.Statement.{statement}
+use Rattle.sheet.proofs.known.after.Tie as tie
 
 enum-told : tie.Need-enum-told
 enum-told c = search needs
