@@ -1,4 +1,4 @@
--- The rule that a command breaks, those of lower numbers being kept: one for each refusal that a command's own bytes can have.
+-- The rule that a command breaks, those of lower numbers being kept: refusals 4 to 8.
 use mathlib.Core.Path.{_≡_}
 use mathlib.Core.Bool.{true, false}
 use Rattle.model.specs.Refusal.{Refusal, misplaced, ceilingPassed, outOfRange, wordRepeated, releasesNotRising}
