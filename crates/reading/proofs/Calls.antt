@@ -32,7 +32,7 @@ use denote.Triple.Spec.{tripleOf}
 use denote.Triple.Walked.{says}
 use Rattle.model.specs.Fault.{nothingKnown}
 use Rattle.commands.specs.View.{viewDecoded}
-use Rattle.sheet.specs.View.{viewKnown}
+use Rattle.rules.specs.View.{viewKnown}
 use Rattle.commands.specs.declared.Decoded.{Decoded}
 use Rattle.sheet.specs.declared.check.Judged.the-variants.{Goes}
 use Rattle.sheet.specs.declared.check.Verdict.{Verdict}

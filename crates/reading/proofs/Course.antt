@@ -13,7 +13,8 @@ use Rattle.model.specs.Command.{commandAt}
 use Rattle.model.specs.Fault.{Known, nothingKnown}
 use Rattle.model.specs.Sheet.{verdict}
 use Rattle.commands.specs.View.{viewDecoded}
-use Rattle.sheet.specs.View.{viewKnown, viewVerdict}
+use Rattle.rules.specs.View.{viewKnown}
+use Rattle.sheet.specs.View.{viewVerdict}
 use Rattle.commands.specs.declared.Decoded.{Decoded}
 use Rattle.sheet.specs.declared.check.Judged.{Judged}
 use Rattle.sheet.specs.declared.check.Judged.the-variants.{Stops, Goes}

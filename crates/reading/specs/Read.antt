@@ -6,7 +6,8 @@ use mathlib.Core.List.{List}
 use lib.ListN.{length}
 use Rattle.model.specs.Fault.{Known}
 use Rattle.model.specs.Sheet.{verdictFrom, verdict}
-use Rattle.sheet.specs.View.{viewKnown, viewVerdict}
+use Rattle.rules.specs.View.{viewKnown}
+use Rattle.sheet.specs.View.{viewVerdict}
 use Rattle.sheet.specs.declared.check.Judged.{Judged}
 use Rattle.sheet.specs.declared.check.Judged.the-variants.{Stops, Goes}
 use Rattle.sheet.specs.declared.check.Verdict.{Verdict}

@@ -5,17 +5,18 @@ ghost use Rattle.model.specs.Fault.{nothingKnown};
 ghost use Rattle.model.specs.Sheet as whole;
 ghost use Rattle.model.specs.Answer.{checkAnswer};
 ghost use Rattle.commands.specs.View.{viewDecoded};
-ghost use Rattle.sheet.specs.View.{viewKnown, viewVerdict, checkedOf};
+ghost use Rattle.rules.specs.View.{viewKnown};
+ghost use Rattle.sheet.specs.View.{viewVerdict, checkedOf};
 ghost use Rattle.sheet.specs.declared.check.Judged.the-variants as judged;
 ghost use Rattle.reader.specs.Handed.{HandsOut, after};
 ghost use Rattle.reading.specs.Read.{Reached, goes?, RightAt, Further, verdictOf};
 use commands::Decoded;
 use reader::Reader;
+use rules::known::Known;
 use sheet::check::Judged;
 use sheet::check::Verdict;
 use sheet::check::judge;
 use sheet::known;
-use sheet::known::Known;
 
 // What is known before the next command, and whether a verdict has ended the reading.
 pub struct Reading {

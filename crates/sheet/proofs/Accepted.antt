@@ -15,7 +15,7 @@ use Rattle.model.specs.Command.{Command, WORD, BLOCK, TASK, RELEASE, END, LOAD,
 use Rattle.model.specs.Fault.{Known, nothingKnown, faultOf}
 use Rattle.model.specs.Sheet.{Verdict, accepted, turnedDown, end?, atEnd, verdictFrom, verdict, after}
 use Rattle.sheet.specs.WellFormed.{Stand, nothing, first, Faultless, unread, good, Read, WellFormed, Wrong, missing, faulty, followed, TurnedDown}
-use Rattle.sheet.proofs.Faults.{is-fault, is-broken}
+use Rattle.rules.proofs.Faults.{is-fault, is-broken}
 use Rattle.sheet.proofs.Gaps.{is-missing, is-refused-there}
 use Rattle.sheet.proofs.Reading.{stops-at-fault, stops-at-end, goes-on, judged-refused, judged-found, next-after}
 

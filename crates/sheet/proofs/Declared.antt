@@ -12,7 +12,7 @@ use Rattle.commands.specs.Stages.{valuesFrom}
 use Rattle.sheet.specs.Places.{ofBody, commandsAt}
 use Rattle.sheet.specs.WellFormed.{Stand, nothing, first, Faultless, unread, good, WellFormed}
 use Rattle.commands.proofs.Decoding.{past-the-end}
-use Rattle.sheet.proofs.Faults.{keeps}
+use Rattle.rules.proofs.Faults.{keeps}
 use Rattle.sheet.proofs.Reading.{next-after}
 use Rattle.sheet.proofs.Places.{declared-cons, declare-body, commands-found, commands-refused, commands-stand, declared-is, sheet-is}
 use Rattle.sheet.proofs.Sections.{rank, Kind, isWord, isBlock, isTask, isRelease, isBody, kind, word-at, block-at}

@@ -19,7 +19,7 @@ use Rattle.sheet.specs.Indexed.{OnlyReleases, ReleasesStand, Indexed, em
 use Rattle.sheet.specs.declared.index.Sheet.{Sheet}
 use Rattle.commands.proofs.Decoding.{past-the-end, cases}
 use Rattle.sheet.proofs.Accepted.{accepted-when-well-formed}
-use Rattle.sheet.proofs.Faults.{keeps}
+use Rattle.rules.proofs.Faults.{keeps}
 use Rattle.sheet.proofs.Reading.{next-after}
 use Rattle.sheet.proofs.Passing.{Passed, passed-all, passed-here, passed-one, none-passed}
 use Rattle.sheet.proofs.Places.{declared-is, commands-found, commands-refused, commands-stand}

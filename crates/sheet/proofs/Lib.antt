@@ -1,6 +1,4 @@
 pub mod Gaps
-pub mod Membership
-pub mod Faults
 pub mod Reading
 pub mod Values
 pub mod Accepted

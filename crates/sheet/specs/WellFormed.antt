@@ -2,14 +2,15 @@
 -- with a sheet that is not: for each refusal the rule that is broken at its place.
 use Prim.Native.Nat.{ℕ, suc, _+_, _<_, _≤_}
 use mathlib.Core.Path.{_≡_}
-use mathlib.Core.Bool.{true, false}
+use mathlib.Core.Bool.{false}
 use mathlib.Core.List.{List, [], _∷_}
 use mathlib.Core.Option.{none, some}
 use lib.ListN.{length, getD}
-use Rattle.model.specs.Refusal.{Refusal, noCommand, cutShort, byteAfterEnd, misplaced, ceilingPassed, outOfRange, wordRepeated, releasesNotRising}
+use Rattle.model.specs.Refusal.{Refusal, noCommand, cutShort, byteAfterEnd}
 use Rattle.model.specs.Command.{Command, END, Row, table, rowOf, total, found, commandAt}
-use Rattle.model.specs.Fault.{Known, nothingKnown, inPlace, underCeiling, inRange, newWord, rising, faultOf}
+use Rattle.model.specs.Fault.{Known, nothingKnown, faultOf}
 use Rattle.model.specs.Sheet.{end?, after}
+use Rattle.rules.specs.Broken.{Broken}
 
 -- these commands stand one after another from a place to another
 pub data Stand (s : List ℕ) : ℕ → List Command → ℕ → Type 0 where
@@ -42,21 +43,6 @@ pub data Missing (s : List ℕ) (p : ℕ) : Refusal → ℕ → Type 0 where
   -- 2: the input ends before END, or inside the command
   noByte : length s ≤ p → Missing s p cutShort (length s)
   cut : {r : Row} → p < length s → rowOf (getD s p 0) table ≡ some r → length s < suc p + total (r .widths) → Missing s p cutShort p
-
--- THE RULE THAT IS BROKEN, those of lower numbers being kept
-pub data Broken (k : Known) (c : Command) : Refusal → Type 0 where
-  -- 4
-  place : inPlace k c ≡ false → Broken k c misplaced
-  -- 5
-  ceiling : inPlace k c ≡ true → underCeiling k c ≡ false → Broken k c ceilingPassed
-  -- 6
-  range : inPlace k c ≡ true → underCeiling k c ≡ true → inRange (k .counts) c ≡ false → Broken k c outOfRange
-  -- 7
-  repeated : inPlace k c ≡ true → underCeiling k c ≡ true → inRange (k .counts) c ≡ true → newWord (k .body) c ≡ false → Broken k c wordRepeated
-  -- 8
-  falling :
-      inPlace k c ≡ true → underCeiling k c ≡ true → inRange (k .counts) c ≡ true → newWord (k .body) c ≡ true → rising k c ≡ false
-      → Broken k c releasesNotRising
 
 -- WHAT IS WRONG at the place where the reading ends: the refusal and its place
 pub data Wrong (s : List ℕ) (p : ℕ) (k : Known) : Refusal → ℕ → Type 0 where

@@ -4,14 +4,14 @@ ghost use mathlib.Core.List.{[]};
 ghost use lib.Dec.{ltb};
 ghost use Rattle.model.specs.Sheet.{end?, atEnd};
 ghost use Rattle.commands.specs.View.{viewCommand};
-ghost use Rattle.sheet.specs.View.{viewKnown, viewVerdict};
+ghost use Rattle.rules.specs.View.{viewKnown};
+ghost use Rattle.sheet.specs.View.{viewVerdict};
 ghost use Rattle.sheet.specs.Judgement.{JudgedSays};
-use crate::known::Known;
-use crate::rules;
-use crate::rules::Flaw;
 use commands::Command;
 use commands::Fault;
 use commands::Refusal;
+use rules::Flaw;
+use rules::known::Known;
 
 pub enum Verdict {
     Accepted,

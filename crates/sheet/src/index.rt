@@ -20,18 +20,6 @@ pub struct Sheet {
 }
 
 impl Sheet {
-    pub const WORDS: u8 = 32;
-
-    pub const BLOCKS: u8 = 16;
-
-    pub const TASKS: u8 = 8;
-
-    pub const COMMANDS: u16 = 512;
-
-    pub const RELEASES: u16 = 256;
-
-    pub const LAST_VERSION: u32 = 16777215;
-
     pub fn empty() -> Sheet
         ensures { λ r. ⌜ r ≡ emptyIndex ⌝ }
     {

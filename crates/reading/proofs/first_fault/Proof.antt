@@ -44,7 +44,8 @@ use denote.Triple.Table.{entered, cited}
 use denote.Triple.Walked.{says, Stays, stay-none-slice, walkOf, goes-none-slice, Walks, ends-at, walked, walk-meets}
 use denote.Exit.{yes}
 use Rattle.model.specs.Sheet.{verdict}
-use Rattle.sheet.specs.View.{viewKnown, viewVerdict}
+use Rattle.rules.specs.View.{viewKnown}
+use Rattle.sheet.specs.View.{viewVerdict}
 use Rattle.commands.specs.declared.Decoded.{Decoded}
 use Rattle.sheet.specs.declared.check.Verdict.{Verdict}
 use Rattle.commands.proofs.Decoded as S

@@ -1,7 +1,7 @@
 -- `read_on` meets its contract: each outcome of the judgement says of the sheet's verdict what the reading then holds (Judging).
 use mathlib.Core.Path.{_≡_}
 use Rattle.commands.specs.declared.Decoded.the-variants.{Refused}
-use Rattle.sheet.proofs.Faults.{keeps}
+use Rattle.rules.proofs.Faults.{keeps}
 use Rattle.reading.proofs.Judging.{at-fault, at-stop, no-fault, at-next}
 use borrow.Author.Needs.{needs}
 use Rattle.reading.proofs.read_on.Statement.{statement}

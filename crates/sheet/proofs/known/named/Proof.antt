@@ -1,7 +1,7 @@
 -- `named` meets its contract.
 use Rattle.model.specs.Fault.{room}
-use Rattle.sheet.proofs.Membership.{room-wider}
-use Rattle.sheet.specs.View.{viewNumbers}
+use Rattle.rules.proofs.Membership.{room-wider}
+use Rattle.rules.specs.View.{viewNumbers}
 use mathlib.Core.Bool.{and-eq-true-iff}
 use borrow.Author.Needs.{needs}
 use Rattle.sheet.proofs.known.named.Statement.{statement}

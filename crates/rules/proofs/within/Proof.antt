@@ -1,0 +1,16 @@
+-- `within` meets its contract.
+use borrow.Author.Needs.{needs}
+use Rattle.rules.proofs.within.Statement.{statement}
+use Rattle.rules.proofs.within.Tie as tie
+
+bodies-requires : tie.Need-bodies-requires
+bodies-requires c κs = search needs
+
+both-requires : tie.Need-both-requires
+both-requires c κs = search needs
+
+returns : tie.Need-returns
+returns c = cc
+
+pub within-spec : {M : Type 1} → statement M
+within-spec = tie.close (tie.spec bodies-requires both-requires returns)
