@@ -5,7 +5,7 @@ use mathlib.Core.Bool.{Bool, true, false}
 use mathlib.Core.List.{List}
 use mathlib.Core.Option.{Option, none, some}
 use native.Mathlib.Omega.{arith}
-use borrow.Author.Tests.{leb-true}
+use borrow.Author.Tests.{leb-true, eq-eqb, ne-eqb}
 use lib.Dec.{eqb, ltb, leb}
 use lib.ListN.{length, getD, set, replicate}
 use lib.Seq.{set-getD, set-set, getD-set-same}
@@ -73,13 +73,17 @@ module _ (a : Arrays) (jobs : List Job) (k : Job) (m r t d p q x y : ℕ) where
 
 module _ (sheet : List ℕ) (a b : Arrays) (jobs : List Job) (k s : Job) (m r t d p : ℕ) where
   pub tick-turn : {h i m' : ℕ} {cs : List ℕ}
-      → h ≡ topOf 8 m → h ≡ p → i ≡ p → p < length jobs
+      → (m ≡ 0 → ⊥) → h ≡ topOf 8 m → h ≡ p → i ≡ p → p < length jobs
       → turn s b ≡ statement sheet a p k (k .phase)
       → m' ≡ leftBy (unfinishedJob (k .phase)) (unfinishedJob (s .phase)) m i
       → cs ≡ tickedBy (unfinishedJob (k .phase)) (b .counts) p
       → world (withCounts b cs) (set jobs p s) m' r (t + 1) d ≡ ticked sheet (world a (set jobs p k) m r t d)
   unfolding ticked
-  tick-turn e1 e2 e3 lt e4 e5 e6 = rw (e5, e6, e3, sym e1 ∙ e2, getD-set-same jobs p k noJob lt, ← e4, set-set jobs p k s)
+  tick-turn work e1 e2 e3 lt e4 e5 e6 = rw (ne-eqb m 0 work, e5, e6, e3, sym e1 ∙ e2, getD-set-same jobs p k noJob lt, ← e4, set-set jobs p k s)
+
+pub pass-turn : (sheet : List ℕ) (a : Arrays) (jobs : List Job) (m r t d : ℕ) → m ≡ 0 → world a jobs m r (t + 1) d ≡ ticked sheet (world a jobs m r t d)
+unfolding ticked
+pass-turn sheet a jobs m r t d e = rw (eq-eqb m 0 e)
 
 -- a command found lies within the sheet
 module _ (sheet : List ℕ) (place : ℕ) (c : M.Command) (next : ℕ) where

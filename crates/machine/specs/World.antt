@@ -170,9 +170,13 @@ tickedWith w p f t =
 abbrev pub tickedFor : List ℕ → World → ℕ → Job → World
 tickedFor sheet w p j = tickedWith w p (j .phase) (statement sheet (w .arrays) p j (j .phase))
 
--- a tick: the highest task with an unfinished job does one statement; with none, nothing
+-- a tick in which nobody has work
+abbrev pub passed : World → World
+passed w = world (w .arrays) (w .jobs) (w .mask) (w .place) (w .ticks + 1) (w .dropped)
+
+-- a tick: the highest task with an unfinished job does one statement; with none it passes
 unfoldable pub ticked : List ℕ → World → World
-ticked sheet w = tickedFor sheet w (topOf 8 (w .mask)) (jobOf w (topOf 8 (w .mask)))
+ticked sheet w = if (eqb (w .mask) 0) (passed w) (tickedFor sheet w (topOf 8 (w .mask)) (jobOf w (topOf 8 (w .mask))))
 
 abbrev pub comingIn : List ℕ → World → Coming
 comingIn sheet w = comingBy (pendingAt (M.commandAt sheet (w .place))) (w .ticks)

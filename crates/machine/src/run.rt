@@ -199,6 +199,10 @@ pub fn run(
                 dropped: dropped,
             };
         }
+        if mask == 0 {
+            tick += 1;
+            continue;
+        }
         let highest = top(mask);
         if highest != p {
             jobs[places::wide(p)] = job;

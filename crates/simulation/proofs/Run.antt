@@ -19,7 +19,8 @@ use Rattle.model.proofs.Fit.Machine.{Fit}
 use Rattle.model.proofs.Fit.Tick.{tasks-of, changed-fit, started-fit, tick-fit}
 use Rattle.model.proofs.Fit.Ranges.{TaskRange, Ranges}
 use Rattle.model.proofs.Fit.RangesStatement.{zeros-range, tick-range}
-use Rattle.machine.specs.World.{stopsBy, topOf, World, comingIn, released, ticked, Ends, limited, stopped, releases, ticks}
+use Rattle.exchanges.specs.Places.{if}
+use Rattle.machine.specs.World.{stopsBy, topOf, World, jobOf, tickedFor, passed, comingIn, released, ticked, Ends, limited, stopped, releases, ticks}
 use Rattle.machine.specs.declared.releases.Coming.{Coming}
 use Rattle.machine.specs.declared.releases.Coming.the-variants.{Nothing, Later, Due}
 use Rattle.simulation.proofs.Releases.{releasesFrom, DueAt, ComingAt, coming-at}
@@ -207,6 +208,14 @@ module _ (sheet bodies : List ℕ) (s : Sheet) (c : SheetFit s) where
           same = ap (M.run k) same ∙ sym (run-on k (viewed w) (on-by w g (comingIn sheet w) coming stops));
         }
 
+  one-more : (w : World) → ticked sheet w .ticks ≡ w .ticks + 1
+  unfolding ticked
+  one-more w = by (eqb (w .mask) 0)
+    where
+      by : (b : Bool) → if b (passed w) (tickedFor sheet w (topOf 8 (w .mask)) (jobOf w (topOf 8 (w .mask)))) .ticks ≡ w .ticks + 1
+      by true = refl
+      by false = refl
+
   -- THE WHOLE RUN
   pub record RunFits (limit : ℕ) (w u : World) : Type 0 where
     pub same : machineOf sheet bodies (length (s .bodies)) u ≡ M.run (limit - w .ticks) (machineOf sheet bodies (length (s .bodies)) w)
@@ -214,7 +223,7 @@ module _ (sheet bodies : List ℕ) (s : Sheet) (c : SheetFit s) where
 
   pub run-fits : (limit : ℕ) → limit < 4294967296 → (w u : World) → Ends sheet bodies limit w u → Sound sheet bodies (length (s .bodies)) w → Fit s (machineOf sheet bodies (length (s .bodies)) w)
       → Ranges (machineOf sheet bodies (length (s .bodies)) w) → RunFits limit w u
-  unfolding released ticked
+  unfolding released
   run-fits limit small w u (limited l) g fit range = let z : limit - w .ticks ≡ 0 = omega arith in record { same = rw z (sym (run-none (viewed w))); sound = g }
   run-fits limit small w u (stopped e) g fit range =
       record { same = sym (run-over (limit - w .ticks) (viewed w) (over-by w g (comingIn sheet w) (coming-at sheet (w .place) (w .ticks)) e)); sound = g }
@@ -228,4 +237,4 @@ module _ (sheet bodies : List ℕ) (s : Sheet) (c : SheetFit s) where
       let o = tick-step w g fit range (limit - (w .ticks + 1)) (omega arith) due stops in
       let z : limit - w .ticks ≡ suc (limit - (w .ticks + 1)) = omega arith in
       let r = run-fits limit small (ticked sheet w) u rest (o .sound) (o .fit) (o .range) in
-      record { same = r .same ∙ rw z (o .same); sound = r .sound }
+      record { same = subst (λ (n : ℕ). viewed u ≡ M.run (limit - n) (viewed (ticked sheet w))) (one-more w) (r .same) ∙ rw z (o .same); sound = r .sound }

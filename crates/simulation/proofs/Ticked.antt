@@ -5,8 +5,9 @@ use mathlib.Core.Logic.{_≢_}
 use mathlib.Core.Bool.{Bool, true, false, true≢false}
 use mathlib.Core.List.{List}
 use native.Mathlib.Omega.{arith}
+use borrow.Author.Tests.{eq-eqb, ne-eqb}
 use lib.ListN.{length, getD, set, length-set}
-use lib.Seq.{set-getD, getD-set-same, getD-set-other}
+use lib.Seq.{getD-set-same, getD-set-other}
 use Rattle.model.specs.Lists.{at, replace}
 use Rattle.model.specs.Command.{Command}
 use Rattle.model.specs.Sheet.{Sheet}
@@ -20,27 +21,19 @@ use Rattle.model.proofs.Fit.Statement.{statement-fit}
 use Rattle.model.proofs.Fit.Ranges.{TaskRange, Ranges}
 use Rattle.memory.specs.Rows.{row}
 use Rattle.transactions.specs.Jobs.{counted}
-use Rattle.statements.specs.Statements.{Arrays, Turn, otherTick, statement}
-use Rattle.machine.specs.World.{unfinishedJob, topOf, leftBy, World, world, noJob, jobOf, withCounts, tickedFor, ticked}
+use Rattle.statements.specs.Statements.{Arrays, Turn, statement}
+use Rattle.machine.specs.World.{unfinishedJob, topOf, leftBy, World, world, noJob, jobOf, withCounts, tickedFor, passed, ticked}
 use Rattle.transactions.specs.declared.job.Phase.{Phase}
 use Rattle.transactions.specs.declared.job.Phase.the-variants as Phase
 use Rattle.transactions.specs.declared.job.Inner.{Inner}
 use Rattle.transactions.specs.declared.job.Inner.the-variants as Inner
 use Rattle.transactions.specs.declared.job.Job.{Job}
-use Rattle.machine.proofs.Mask.{top-none}
 use Rattle.simulation.proofs.View.{Parts, bodyFrom, transactionOf, innerOf, phaseOf, waitingOf, taskOf, withCounts as partsWith}
 use Rattle.simulation.proofs.Parts.{sizes, partsOf, sharedOf, turnOf, JobShape, Simulated, counted-same, counted-other, counted-size, counted-others}
 use Rattle.simulation.proofs.Releases.{releasesFrom}
 use Rattle.simulation.proofs.Statements.{statement-tick}
 use Rattle.simulation.proofs.Unfinished.{busy, bitOf, mask-set, TopTask, Top, none, some, top}
 use Rattle.simulation.proofs.World.{taskIn, tasksOf, machineOf, Sound, task-at, tasks-changed, nobody-runs, top-runs}
-
-idle-phase : (f : Phase) → unfinishedJob f ≡ false → f ≡ Phase.Idle
-idle-phase Phase.Idle e = refl
-idle-phase Phase.Plain e = absurd (true≢false e)
-idle-phase (Phase.Read r w s) e = absurd (true≢false e)
-idle-phase (Phase.Exchange r s) e = absurd (true≢false e)
-idle-phase (Phase.Transaction s) e = absurd (true≢false e)
 
 -- the counts do not show in a job's shape
 shape-counts : (sheet : List ℕ) (j : Job) (x : Parts) (c : List ℕ) (f : Phase) → JobShape sheet j x f → JobShape sheet j (partsWith x c) f
@@ -83,14 +76,6 @@ left-mask : (b : Bool) (m k p : ℕ) → k + 2 ^ p ≡ m + bitOf b (2 ^ p) → l
 left-mask true m k p h = omega arith
 left-mask false m k p h = omega arith
 
--- AN IDLE TICK
-idle-tick : (sheet : List ℕ) (w : World) (p : ℕ) → busy (w .jobs) p ≡ false → tickedFor sheet w p (jobOf w p) ≡ world (w .arrays) (w .jobs) (w .mask) (w .place) (w .ticks + 1) (w .dropped)
-unfolding statement otherTick
-idle-tick sheet w p e =
-    let f : jobOf w p .phase ≡ Phase.Idle = idle-phase (jobOf w p .phase) e in
-    let js : set (w .jobs) p (jobOf w p) ≡ w .jobs = set-getD (w .jobs) p noJob in
-    rw (f, js, f)
-
 module _ (sheet bodies : List ℕ) (s : Sheet) (c : SheetFit s) (w : World) (g : Sound sheet bodies (length (s .bodies)) w) where
   abbrev n : ℕ
   n = length (s .bodies)
@@ -102,16 +87,16 @@ module _ (sheet bodies : List ℕ) (s : Sheet) (c : SheetFit s) (w : World) (g :
     pub same : machineOf sheet bodies (length (s .bodies)) v ≡ M.moveAny (machineOf sheet bodies (length (s .bodies)) w)
     pub sound : Sound sheet bodies (length (s .bodies)) v
 
-  nobody-ticks : ((q : ℕ) → q < 8 → busy (w .jobs) q ≡ false) → (p : ℕ) → p < 8 → TickedFits (tickedFor sheet w p (jobOf w p))
+  -- A TICK THAT PASSES
+  nobody-ticks : ((q : ℕ) → q < 8 → busy (w .jobs) q ≡ false) → TickedFits (passed w)
   unfolding M.moveAny M.move
-  nobody-ticks f p h =
+  nobody-ticks f =
       let more : w .ticks + 1 ≡ suc (w .ticks) = omega arith in
       let running : M.runningOf (m .tasks) ≡ M.nobody = nobody-runs sheet bodies n (c .bodies) (w .arrays) (w .jobs) (g .idle) f in
-      rw (idle-tick sheet w p (f p h))
-      (record {
+      record {
         same = rw (running, more);
         sound = record { sized = g .sized; jobs = g .jobs; shape = g .shape; idle = g .idle; mask = g .mask };
-      })
+      }
 
   -- A STATEMENT, of the highest task with an unfinished job
   module _ (fit : Fit s m) (range : Ranges m) (few : w .ticks < 4294967295) (p : ℕ) (h : TopTask 8 (w .jobs) p) where
@@ -214,6 +199,6 @@ module _ (sheet bodies : List ℕ) (s : Sheet) (c : SheetFit s) (w : World) (g :
   unfolding ticked
   ticked-fits fit range few = go (subst (Top 8 (w .jobs)) (sym (g .mask)) (top (w .jobs) 8))
     where
-      go : Top 8 (w .jobs) (w .mask) → TickedFits (tickedFor sheet w (topOf 8 (w .mask)) (jobOf w (topOf 8 (w .mask))))
-      go (none z f) = nobody-ticks f (topOf 8 (w .mask)) (rw (z, top-none) (omega arith))
-      go (some l h) = statement-ticks fit range few (topOf 8 (w .mask)) h
+      go : Top 8 (w .jobs) (w .mask) → TickedFits (ticked sheet w)
+      go (none z f) = rw (eq-eqb (w .mask) 0 z) (nobody-ticks f)
+      go (some l h) = rw (ne-eqb (w .mask) 0 (λ z. omega arith)) (statement-ticks fit range few (topOf 8 (w .mask)) h)

@@ -1,6 +1,6 @@
 use borrow.Author.Tests.{eq-eqb, ne-eqb}
 use borrow.Author.Needs.{needs}
-use Rattle.machine.proofs.Runs.{apart, apart-most, same-world, start-world, release-turn, switched, tick-turn, due-within, after-release, after-tick, after-stop}
+use Rattle.machine.proofs.Runs.{apart, apart-most, same-world, start-world, release-turn, switched, tick-turn, pass-turn, due-within, after-release, after-tick, after-stop}
 use Rattle.machine.specs.World.{topOf, pendingAt, comingBy, World, world, startWorld, Ends, limited}
 use Rattle.statements.specs.Statements.{arrays}
 use Rattle.machine.specs.declared.releases.Coming.the-variants.{Nothing, Later, Due}
@@ -98,6 +98,15 @@ stops-requires c κs = search needs
 returns : tie.Need-returns Inv-loop μ-loop
 returns c = let l = c .before .before .before .before .before .loop in record { jobs = set (l .jobs) (l .p) (l .job); mask = l .mask; next = l .place; ends = l .inv .4 _ (after-stop _ _ _ _ (c .before .before .before .coming-at .ensures ∙ ap (λ q. comingBy q (l .tick)) (l .inv .3)) (sym (c .before .stops .ensures) ∙ c .if1 .taken)) }
 
+add-tick : tie.Need-add-tick Inv-loop μ-loop
+add-tick c = omega (arith, c .before .before .before .before .before .loop-test .taken, c .before .before .before .before .before .before .before .before .before .before .fits)
+
+loop-less-2 : tie.Need-loop-less-2 Inv-loop μ-loop
+loop-less-2 c = omega (arith, c .before .before .before .before .before .loop-test)
+
+loop-again-2 : tie.Need-loop-again-2 Inv-loop μ-loop
+loop-again-2 c = let l = c .before .before .before .before .before .before .loop in (omega (arith, c .before .before .before .before .before .loop-test), l .inv .1, l .inv .2, l .inv .3, λ u e. l .inv .4 u (after-tick _ _ _ _ _ (c .before .before .before .before .before .loop-test .taken) (c .before .before .before .before .coming-at .ensures ∙ ap (λ q. comingBy q (l .tick)) (l .inv .3)) (not-due _ (c .before .before .before .match .keys2)) (sym (c .before .before .stops .ensures) ∙ c .before .if1 .left) (pass-turn _ _ (set (l .jobs) (l .p) (l .job)) _ _ _ _ (c .if2 .taken)) u e))
+
 top-requires : tie.Need-top-requires Inv-loop μ-loop
 top-requires c κs = search needs
 
@@ -105,10 +114,10 @@ wide-requires-3 : tie.Need-wide-requires-3 Inv-loop μ-loop
 wide-requires-3 c κs = search needs
 
 mul-jobs-2 : tie.Need-mul-jobs-2 Inv-loop μ-loop
-mul-jobs-2 c = omega (arith, c .wide3 .ensures, c .before .before .before .before .before .before .before .before .loop .inv .1)
+mul-jobs-2 c = omega (arith, c .wide3 .ensures, c .before .before .before .before .before .before .before .before .before .loop .inv .1)
 
 array-set-from-jobs-2 : tie.Need-array-set-from-jobs-2 Inv-loop μ-loop
-array-set-from-jobs-2 c = omega (arith, c .wide3 .ensures, c .before .before .before .before .before .before .before .before .loop .inv .1)
+array-set-from-jobs-2 c = omega (arith, c .wide3 .ensures, c .before .before .before .before .before .before .before .before .before .loop .inv .1)
 
 wide-requires-4 : tie.Need-wide-requires-4 Inv-loop μ-loop
 wide-requires-4 c κs = search needs
@@ -119,11 +128,11 @@ mul-job c = omega (arith, c .wide4 .ensures, c .before .before .before .top .ens
 array-copy-out-job : tie.Need-array-copy-out-job Inv-loop μ-loop
 array-copy-out-job c = omega (arith, c .wide4 .ensures, c .before .before .before .top .ensures .1)
 
-loop-less-2 : tie.Need-loop-less-2 Inv-loop μ-loop
-loop-less-2 c = let away = ne-eqb _ _ (λ q. c .before .before .before .if2 .taken (c .before .before .before .before .top .ensures .0 ∙ q)) in let here = eq-eqb _ _ (sym (c .before .before .before .before .top .ensures .0)) in rw (away, here) (omega arith)
+loop-less-3 : tie.Need-loop-less-3 Inv-loop μ-loop
+loop-less-3 c = let away = ne-eqb _ _ (λ q. c .before .before .before .if3 .taken (c .before .before .before .before .top .ensures .0 ∙ q)) in let here = eq-eqb _ _ (sym (c .before .before .before .before .top .ensures .0)) in rw (away, here) (omega arith)
 
-loop-again-2 : tie.Need-loop-again-2 Inv-loop μ-loop
-loop-again-2 c = let l = c .before .before .before .before .before .before .before .before .before .before .loop in (l .inv .0, c .before .before .before .before .top .ensures .1, length-set (l .jobs) (c .before .before .wide3 .result) (l .job) ∙ l .inv .2, l .inv .3, λ u e. l .inv .4 u (same-world _ _ _ _ _ (switched _ (l .jobs) (l .job) _ _ _ _ _ _ _ _ (c .before .before .wide3 .ensures) (c .before .wide4 .ensures)) u e))
+loop-again-3 : tie.Need-loop-again-3 Inv-loop μ-loop
+loop-again-3 c = let l = c .before .before .before .before .before .before .before .before .before .before .before .loop in (l .inv .0, c .before .before .before .before .top .ensures .1, length-set (l .jobs) (c .before .before .wide3 .result) (l .job) ∙ l .inv .2, l .inv .3, λ u e. l .inv .4 u (same-world _ _ _ _ _ (switched _ (l .jobs) (l .job) _ _ _ _ _ _ _ _ (c .before .before .wide3 .ensures) (c .before .wide4 .ensures)) u e))
 
 step-requires : tie.Need-step-requires Inv-loop μ-loop
 step-requires c κs = search needs
@@ -137,14 +146,14 @@ left-requires c κs = search needs
 used-requires : tie.Need-used-requires Inv-loop μ-loop
 used-requires c κs = search needs
 
-add-tick : tie.Need-add-tick Inv-loop μ-loop
-add-tick c = omega (arith, c .before .before .before .before .before .before .before .before .before .before .before .before .before .before .before .before .before .before .before .before .before .before .before .before .before .before .loop-test .taken, c .before .before .before .before .before .before .before .before .before .before .before .before .before .before .before .before .before .before .before .before .before .before .before .before .before .before .before .before .before .before .before .fits)
+add-tick-2 : tie.Need-add-tick-2 Inv-loop μ-loop
+add-tick-2 c = omega (arith, c .before .before .before .before .before .before .before .before .before .before .before .before .before .before .before .before .before .before .before .before .before .before .before .before .before .before .before .loop-test .taken, c .before .before .before .before .before .before .before .before .before .before .before .before .before .before .before .before .before .before .before .before .before .before .before .before .before .before .before .before .before .before .before .before .fits)
 
-loop-less-3 : tie.Need-loop-less-3 Inv-loop μ-loop
-loop-less-3 c = omega (arith, c .before .before .before .before .before .before .before .before .before .before .before .before .before .before .before .before .before .before .before .before .before .before .before .before .before .before .loop-test, apart-most (eqb (topOf 8 (c .before .before .left .result)) (c .before .before .before .before .before .before .before .before .before .before .before .before .before .before .before .before .before .before .before .before .before .before .before .before .before .before .before .loop .p)))
+loop-less-4 : tie.Need-loop-less-4 Inv-loop μ-loop
+loop-less-4 c = omega (arith, c .before .before .before .before .before .before .before .before .before .before .before .before .before .before .before .before .before .before .before .before .before .before .before .before .before .before .before .loop-test, apart-most (eqb (topOf 8 (c .before .before .left .result)) (c .before .before .before .before .before .before .before .before .before .before .before .before .before .before .before .before .before .before .before .before .before .before .before .before .before .before .before .before .loop .p)))
 
-loop-again-3 : tie.Need-loop-again-3 Inv-loop μ-loop
-loop-again-3 c = let l = c .before .before .before .before .before .before .before .before .before .before .before .before .before .before .before .before .before .before .before .before .before .before .before .before .before .before .before .loop in (omega (arith, c .before .before .before .before .before .before .before .before .before .before .before .before .before .before .before .before .before .before .before .before .before .before .before .before .before .before .loop-test), l .inv .1, l .inv .2, l .inv .3, λ u e. l .inv .4 u (after-tick _ _ _ _ _ (c .before .before .before .before .before .before .before .before .before .before .before .before .before .before .before .before .before .before .before .before .before .before .before .before .before .before .loop-test .taken) (c .before .before .before .before .before .before .before .before .before .before .before .before .before .before .before .before .before .before .before .before .before .before .before .before .before .coming-at .ensures ∙ ap (λ q. comingBy q (l .tick)) (l .inv .3)) (not-due _ (c .before .before .before .before .before .before .before .before .before .before .before .before .before .before .before .before .before .before .before .before .before .before .before .before .match .keys2)) (sym (c .before .before .before .before .before .before .before .before .before .before .before .before .before .before .before .before .before .before .before .before .before .before .before .stops .ensures) ∙ c .before .before .before .before .before .before .before .before .before .before .before .before .before .before .before .before .before .before .before .before .before .before .if1 .left) (tick-turn _ _ _ (l .jobs) (l .job) (c .before .before .before .before .step .result) _ _ _ _ (l .p) (c .before .before .before .before .before .before .before .before .before .before .before .before .before .before .before .before .before .before .before .before .before .top .ensures .0) (c .before .before .before .before .before .before .before .before .before .before .before .before .before .before .before .before .before .before .before .before .if2 .left) (c .before .before .before .wide5 .ensures) (omega (arith, l .inv .1, l .inv .2)) (c .before .before .before .before .step .ensures) (c .before .before .left .ensures) (c .used .ensures)) u e))
+loop-again-4 : tie.Need-loop-again-4 Inv-loop μ-loop
+loop-again-4 c = let l = c .before .before .before .before .before .before .before .before .before .before .before .before .before .before .before .before .before .before .before .before .before .before .before .before .before .before .before .before .loop in (omega (arith, c .before .before .before .before .before .before .before .before .before .before .before .before .before .before .before .before .before .before .before .before .before .before .before .before .before .before .before .loop-test), l .inv .1, l .inv .2, l .inv .3, λ u e. l .inv .4 u (after-tick _ _ _ _ _ (c .before .before .before .before .before .before .before .before .before .before .before .before .before .before .before .before .before .before .before .before .before .before .before .before .before .before .before .loop-test .taken) (c .before .before .before .before .before .before .before .before .before .before .before .before .before .before .before .before .before .before .before .before .before .before .before .before .before .before .coming-at .ensures ∙ ap (λ q. comingBy q (l .tick)) (l .inv .3)) (not-due _ (c .before .before .before .before .before .before .before .before .before .before .before .before .before .before .before .before .before .before .before .before .before .before .before .before .before .match .keys2)) (sym (c .before .before .before .before .before .before .before .before .before .before .before .before .before .before .before .before .before .before .before .before .before .before .before .before .stops .ensures) ∙ c .before .before .before .before .before .before .before .before .before .before .before .before .before .before .before .before .before .before .before .before .before .before .before .if1 .left) (tick-turn _ _ _ (l .jobs) (l .job) (c .before .before .before .before .step .result) _ _ _ _ (l .p) (c .before .before .before .before .before .before .before .before .before .before .before .before .before .before .before .before .before .before .before .before .before .before .if2 .left) (c .before .before .before .before .before .before .before .before .before .before .before .before .before .before .before .before .before .before .before .before .before .top .ensures .0) (c .before .before .before .before .before .before .before .before .before .before .before .before .before .before .before .before .before .before .before .before .if3 .left) (c .before .before .before .wide5 .ensures) (omega (arith, l .inv .1, l .inv .2)) (c .before .before .before .before .step .ensures) (c .before .before .left .ensures) (c .used .ensures)) u e))
 
 returns-2 : tie.Need-returns-2 Inv-loop μ-loop
 returns-2 c = let l = c .before .loop in record { jobs = set (l .jobs) (l .p) (l .job); mask = l .mask; next = l .place; ends = l .inv .4 _ (limited (c .loop-test .left)) }
@@ -177,6 +186,9 @@ run-spec =
     loop-again
     stops-requires
     returns
+    add-tick
+    loop-less-2
+    loop-again-2
     top-requires
     wide-requires-3
     mul-jobs-2
@@ -184,13 +196,13 @@ run-spec =
     wide-requires-4
     mul-job
     array-copy-out-job
-    loop-less-2
-    loop-again-2
+    loop-less-3
+    loop-again-3
     step-requires
     wide-requires-5
     left-requires
     used-requires
-    add-tick
-    loop-less-3
-    loop-again-3
+    add-tick-2
+    loop-less-4
+    loop-again-4
     returns-2)
