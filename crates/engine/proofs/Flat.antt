@@ -6,10 +6,10 @@ use Rattle.sheet.specs.Indexed.{Indexed}
 use Rattle.sheet.specs.declared.index.Sheet.{Sheet}
 use Rattle.start.specs.Contract.{Cells, Stores, Copies}
 use Rattle.statements.specs.Statements.{Arrays}
-use Rattle.machine.specs.World.{Finished}
+use Rattle.machine.specs.World.{startArrays, Finished}
 use Rattle.machine.specs.declared.run.Ended.{Ended}
 use Rattle.report.specs.Text.{reportText, Reported}
-use Rattle.engine.specs.Flat.{startArrays, totals, Ran}
+use Rattle.engine.specs.Flat.{totals, Ran}
 
 pub ran-by :
     {s : List ℕ} {limit : ℕ} {before after : List ℕ} {n : ℕ} {x : Sheet} {cells stores copies : List ℕ} {last : Arrays} {e : Ended}

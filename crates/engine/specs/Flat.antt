@@ -2,23 +2,14 @@
 use Prim.Native.Nat.{ℕ}
 use mathlib.Core.Path.{_≡_}
 use mathlib.Core.List.{List}
-use lib.ListN.{replicate}
 use Rattle.sheet.specs.Indexed.{Indexed}
 use Rattle.sheet.specs.declared.index.Sheet.{Sheet}
 use Rattle.start.specs.Contract.{Cells, Stores, Copies}
-use Rattle.statements.specs.Statements.{Arrays, arrays}
-use Rattle.machine.specs.World.{Finished}
+use Rattle.statements.specs.Statements.{Arrays}
+use Rattle.machine.specs.World.{startArrays, Finished}
 use Rattle.machine.specs.declared.run.Ended.{Ended}
 use Rattle.report.specs.Text.{reportText, Reported}
 use Rattle.report.specs.declared.Totals.{Totals}
-
-abbrev zeros : ℕ → List ℕ
-zeros n = replicate n 0
-
--- nothing is saved, no job has run
-abbrev pub startArrays : List ℕ → List ℕ → List ℕ → Arrays
-startArrays cells stores copies =
-    arrays cells (zeros 8) (zeros 64) stores (zeros 64) (zeros 64) copies (zeros 64) (zeros 64) (zeros 64) (zeros 64) (zeros 64) (zeros 128) (zeros 128) (zeros 32)
 
 abbrev pub totals : Sheet → Ended → Totals
 totals x e = record { words = x .words; blocks = x .blocks; tasks = x .tasks; now = e .ticks; dropped = e .dropped }

@@ -190,6 +190,14 @@ pub data Ends (sheet bodies : List ℕ) (limit : ℕ) : World → World → Type
   ticks : {w u : World} → w .ticks < limit → ((task next : ℕ) → comingIn sheet w ≡ Due task next → ⊥) → stopsBy (comingIn sheet w) (w .mask) ≡ false
       → Ends sheet bodies limit (ticked sheet w) u → Ends sheet bodies limit w u
 
+abbrev pub zeros : ℕ → List ℕ
+zeros n = replicate n 0
+
+-- nothing is saved, no job has run
+abbrev pub startArrays : List ℕ → List ℕ → List ℕ → Arrays
+startArrays cells stores copies =
+    arrays cells (zeros 8) (zeros 64) stores (zeros 64) (zeros 64) copies (zeros 64) (zeros 64) (zeros 64) (zeros 64) (zeros 64) (zeros 128) (zeros 128) (zeros 32)
+
 abbrev pub startWorld : Arrays → ℕ → World
 startWorld a place = world a (replicate 8 noJob) 0 place 0 0
 

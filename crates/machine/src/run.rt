@@ -199,6 +199,7 @@ pub fn run(
                 dropped: dropped,
             };
         }
+        // Nobody has work.
         if mask == 0 {
             tick += 1;
             continue;

@@ -17,12 +17,12 @@ use Rattle.model.proofs.Fit.RangesStart.{start-range, sheet-range}
 use Rattle.memory.specs.Rows.{row}
 use Rattle.memory.proofs.Rows.{length-row}
 use Rattle.statements.specs.Statements.{Arrays}
-use Rattle.machine.specs.World.{world, startWorld, Finished}
+use Rattle.machine.specs.World.{world, startArrays, startWorld, Finished}
 use Rattle.machine.specs.declared.run.Ended.{Ended}
 use Rattle.simulation.proofs.Parts.{sizes, sharedOf}
 use Rattle.simulation.proofs.World.{machineOf, task-at}
 use Rattle.simulation.proofs.Run.{run-fits}
-use Rattle.simulation.proofs.Start.{startArrays, Starts, start-same, start-sound}
+use Rattle.simulation.proofs.Start.{Starts, start-same, start-sound}
 
 -- a task's row of counts
 abbrev pub countsOf : Task → List ℕ

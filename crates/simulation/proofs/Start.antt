@@ -17,8 +17,8 @@ use Rattle.model.proofs.Fit.Start.{startTask, start-task, start-fit}
 use Rattle.memory.specs.Packed.{unpack}
 use Rattle.memory.specs.Rows.{row, rows}
 use Rattle.memory.proofs.Rows.{at-row, length-row}
-use Rattle.statements.specs.Statements.{Arrays, arrays}
-use Rattle.machine.specs.World.{noJob, startWorld}
+use Rattle.statements.specs.Statements.{Arrays}
+use Rattle.machine.specs.World.{noJob, zeros, startArrays, startWorld}
 use Rattle.transactions.specs.declared.job.Job.{Job}
 use Rattle.simulation.proofs.View.{bodyFrom, memoryOf, taskOf}
 use Rattle.simulation.proofs.Entries.{no-pairs}
@@ -26,14 +26,6 @@ use Rattle.simulation.proofs.Parts.{partsOf}
 use Rattle.simulation.proofs.Releases.{releasesFrom}
 use Rattle.simulation.proofs.Unfinished.{maskOf}
 use Rattle.simulation.proofs.World.{declaredBy, taskIn, tasksOf, machineOf, Sound, tasks-size, any-task, task-at}
-
-abbrev zeros : ℕ → List ℕ
-zeros n = replicate n 0
-
--- nothing is saved, no job has run
-abbrev pub startArrays : List ℕ → List ℕ → List ℕ → Arrays
-startArrays cells stores copies =
-    arrays cells (zeros 8) (zeros 64) stores (zeros 64) (zeros 64) copies (zeros 64) (zeros 64) (zeros 64) (zeros 64) (zeros 64) (zeros 128) (zeros 128) (zeros 32)
 
 -- the cells, stores, copy slots and places that belong to a sheet
 pub record Starts (sheet bodies : List ℕ) (place : ℕ) (s : Sheet) (cells stores copies : List ℕ) : Type 0 where

@@ -40,6 +40,7 @@ fn inner_command(
     ensures { λ r. ⌜ turn r (arrays (now (cells .entry)) (now (status .entry)) (now (saves .entry)) (now (stores .exit)) (now (registers .exit)) (now (kept .entry)) (now (copies .entry)) (now (names .exit)) (now (olds .exit)) (now (news .exit)) (now (inits .exit)) (now (overlapped .exit)) (now (kinds .exit)) (now (remembered .exit)) (now (counts .exit))) ≡ betweenBy (now (sheet .entry)) (arrays (now (cells .entry)) (now (status .entry)) (now (saves .entry)) (now (stores .entry)) (now (registers .entry)) (now (kept .entry)) (now (copies .entry)) (now (names .entry)) (now (olds .entry)) (now (news .entry)) (now (inits .entry)) (now (overlapped .entry)) (now (kinds .entry)) (now (remembered .entry)) (now (counts .entry))) p job (found (commandOf (now (sheet .entry)) at b) (at + widthOf b)) ⌝ }
 {
     match b {
+        // LOAD
         0x10 => {
             job::set_register(
                 &mut *registers,
@@ -49,6 +50,7 @@ fn inner_command(
             );
             return accesses::goes_on(job::moved_to(job, at + 5));
         }
+        // ADD
         0x11 => {
             job::add(
                 &mut *registers,
@@ -58,6 +60,7 @@ fn inner_command(
             );
             return accesses::goes_on(job::moved_to(job, at + 2));
         }
+        // GET and PUT
         0x21..=0x22 => {
             return accesses::access(
                 cells,
@@ -73,6 +76,7 @@ fn inner_command(
                 commands::access_of(sheet, at, b),
             );
         }
+        // COMMIT
         0x23 => {
             return commits::commit(
                 sheet,

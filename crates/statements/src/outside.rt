@@ -76,6 +76,7 @@ fn plain_command(
     ensures { λ r. ⌜ turn r (arrays (now (cells .entry)) (now (status .exit)) (now (saves .entry)) (now (stores .entry)) (now (registers .exit)) (now (kept .exit)) (now (copies .entry)) (now (names .exit)) (now (olds .exit)) (now (news .exit)) (now (inits .exit)) (now (overlapped .exit)) (now (kinds .exit)) (now (remembered .entry)) (now (counts .exit))) ≡ plainBy (now (sheet .entry)) (arrays (now (cells .entry)) (now (status .entry)) (now (saves .entry)) (now (stores .entry)) (now (registers .entry)) (now (kept .entry)) (now (copies .entry)) (now (names .entry)) (now (olds .entry)) (now (news .entry)) (now (inits .entry)) (now (overlapped .entry)) (now (kinds .entry)) (now (remembered .entry)) (now (counts .entry))) p job (found (commandOf (now (sheet .entry)) at b) (at + widthOf b)) ⌝ }
 {
     match b {
+        // LOAD
         0x10 => {
             job::set_register(
                 &mut *registers,
@@ -85,6 +86,7 @@ fn plain_command(
             );
             return job::done(sheet, &mut *counts, p, at + 5, job.pairs);
         }
+        // ADD
         0x11 => {
             job::add(
                 &mut *registers,
@@ -94,6 +96,7 @@ fn plain_command(
             );
             return job::done(sheet, &mut *counts, p, at + 2, job.pairs);
         }
+        // READ
         0x12 => {
             let register = commands::byte(sheet, at);
             let word = commands::byte(sheet, at + 1);
@@ -109,6 +112,7 @@ fn plain_command(
                 read,
             );
         }
+        // PAIR
         0x13 => {
             pair(
                 &*registers,
@@ -125,11 +129,13 @@ fn plain_command(
             );
             return job::done(sheet, &mut *counts, p, at + 3, places::next(job.pairs));
         }
+        // SWAP
         0x14 => {
             let register = commands::byte(sheet, at);
             let step = exchange::start(&mut *status, p);
             return job::in_phase(job::moved_to(job, at + 1), Phase::Exchange(register, step));
         }
+        // BEGIN
         0x20 => {
             job::copy(&mut *kept, &*registers, p);
             accesses::clear(&mut *kinds, p);

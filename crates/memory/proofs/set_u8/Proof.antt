@@ -1,3 +1,4 @@
+-- `set_u8` meets its contract.
 use Rattle.model.specs.Lists.{replace}
 use mathlib.Core.Path.{sym}
 use lib.Seq.{set-out}

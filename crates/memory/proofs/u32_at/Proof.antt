@@ -1,3 +1,4 @@
+-- `u32_at` meets its contract.
 use Rattle.model.specs.Lists.{at}
 use mathlib.Core.Path.{sym}
 use lib.ListN.{List·getD-eq-default}

@@ -1,3 +1,4 @@
+-- `clean` meets its contract.
 use mathlib.Core.Path.{sym, _∙_}
 use borrow.Author.Tests.{eq-eqb, ne-eqb}
 use Rattle.exchanges.specs.Exchange.{afterClean}

@@ -1,3 +1,4 @@
+-- `clean_mark` meets its contract.
 use Rattle.exchanges.specs.Exchange.{afterCleanMark}
 use borrow.Author.Needs.{needs}
 use Rattle.exchanges.proofs.exchange.clean_mark.Statement.{statement}

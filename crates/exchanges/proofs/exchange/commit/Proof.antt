@@ -1,3 +1,4 @@
+-- `commit` meets its contract.
 use borrow.Author.Tests.{eq-eqb, ne-eqb}
 use Rattle.exchanges.specs.Exchange.{afterCommit}
 use borrow.Author.Needs.{needs}

@@ -1,3 +1,4 @@
+-- `exchange_tick` meets its contract.
 use Rattle.exchanges.specs.Exchange.{afterExchange}
 use borrow.Author.Needs.{needs}
 use Rattle.exchanges.proofs.exchange.exchange_tick.Statement.{statement}

@@ -1,3 +1,4 @@
+-- `fail` meets its contract.
 use Rattle.exchanges.specs.Exchange.{afterFail}
 use borrow.Author.Needs.{needs}
 use Rattle.exchanges.proofs.exchange.fail.Statement.{statement}

@@ -1,3 +1,4 @@
+-- `fetch` meets its contract.
 use Rattle.exchanges.specs.Exchange.{afterFetch}
 use borrow.Author.Needs.{needs}
 use Rattle.exchanges.proofs.exchange.fetch.Statement.{statement}

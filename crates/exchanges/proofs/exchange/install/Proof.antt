@@ -1,3 +1,4 @@
+-- `install` meets its contract.
 use borrow.Author.Tests.{eq-eqb, ne-eqb}
 use Rattle.exchanges.specs.Exchange.{afterInstall}
 use borrow.Author.Needs.{needs}

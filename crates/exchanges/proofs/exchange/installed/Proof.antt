@@ -1,3 +1,4 @@
+-- `installed` meets its contract.
 use borrow.Author.Needs.{needs}
 use Rattle.exchanges.proofs.exchange.installed.Statement.{statement}
 use Rattle.exchanges.proofs.exchange.installed.Tie as tie

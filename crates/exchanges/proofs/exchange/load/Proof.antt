@@ -1,3 +1,4 @@
+-- `load` meets its contract.
 use Rattle.exchanges.specs.Exchange.{afterLoad}
 use borrow.Author.Needs.{needs}
 use Rattle.exchanges.proofs.exchange.load.Statement.{statement}

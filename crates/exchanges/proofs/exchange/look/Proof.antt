@@ -1,3 +1,4 @@
+-- `look` meets its contract.
 use mathlib.Core.Path.{sym, _∙_}
 use Rattle.exchanges.specs.Exchange.{afterLook}
 use borrow.Author.Needs.{needs}

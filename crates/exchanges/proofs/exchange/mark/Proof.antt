@@ -1,3 +1,4 @@
+-- `mark` meets its contract.
 use Rattle.exchanges.specs.Exchange.{afterMark}
 use borrow.Author.Needs.{needs}
 use Rattle.exchanges.proofs.exchange.mark.Statement.{statement}

@@ -1,3 +1,4 @@
+-- `save` meets its contract.
 use borrow.Author.Tests.{eq-eqb, ne-eqb}
 use Rattle.exchanges.specs.Exchange.{afterSave}
 use borrow.Author.Needs.{needs}

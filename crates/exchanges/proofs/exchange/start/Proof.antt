@@ -1,3 +1,4 @@
+-- `start` meets its contract.
 use Rattle.exchanges.specs.Exchange.{afterStart}
 use borrow.Author.Needs.{needs}
 use Rattle.exchanges.proofs.exchange.start.Statement.{statement}

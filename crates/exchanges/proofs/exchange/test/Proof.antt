@@ -1,3 +1,4 @@
+-- `test` meets its contract.
 use borrow.Author.Tests.{eq-eqb, ne-eqb}
 use Rattle.exchanges.specs.Exchange.{afterTest}
 use borrow.Author.Needs.{needs}

@@ -1,3 +1,4 @@
+-- `own` meets its contract.
 use mathlib.Core.Path.{sym, _∙_}
 use Rattle.exchanges.specs.Reading.{owned}
 use borrow.Author.Needs.{needs}

@@ -1,3 +1,4 @@
+-- `read_tick` meets its contract.
 use Rattle.exchanges.specs.Reading.{afterReading}
 use borrow.Author.Needs.{needs}
 use Rattle.exchanges.proofs.read.read_tick.Statement.{statement}

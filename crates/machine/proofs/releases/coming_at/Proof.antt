@@ -1,3 +1,4 @@
+-- `coming_at` meets its contract.
 use borrow.Author.Tests.{eq-eqb, ne-eqb}
 use borrow.Author.Needs.{needs}
 use Rattle.machine.proofs.releases.coming_at.Statement.{statement}

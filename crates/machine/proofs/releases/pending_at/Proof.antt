@@ -1,3 +1,4 @@
+-- `pending_at` meets its contract.
 use Rattle.machine.proofs.Runs.{pending-view}
 use borrow.Author.Needs.{needs}
 use Rattle.machine.proofs.releases.pending_at.Statement.{statement}

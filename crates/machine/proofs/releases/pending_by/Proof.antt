@@ -1,3 +1,4 @@
+-- `pending_by` meets its contract.
 use borrow.Author.Needs.{needs}
 use Rattle.machine.proofs.releases.pending_by.Statement.{statement}
 use Rattle.machine.proofs.releases.pending_by.Tie as tie

@@ -1,3 +1,4 @@
+-- `stops` meets its contract.
 use borrow.Author.Needs.{needs}
 use Rattle.machine.proofs.releases.stops.Statement.{statement}
 use Rattle.machine.proofs.releases.stops.Tie as tie

@@ -1,3 +1,4 @@
+-- `bit` meets its contract.
 use Rattle.machine.proofs.Mask.{power-at}
 use borrow.Author.Needs.{needs}
 use Rattle.machine.proofs.run.bit.Statement.{statement}

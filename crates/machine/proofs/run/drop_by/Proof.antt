@@ -1,3 +1,4 @@
+-- `drop_by` meets its contract.
 use mathlib.Core.Path.{sym, _∙_}
 use borrow.Author.Needs.{needs}
 use Rattle.machine.proofs.run.drop_by.Statement.{statement}

@@ -1,3 +1,4 @@
+-- `left` meets its contract.
 use mathlib.Core.Path.{sym, _∙_}
 use borrow.Author.Needs.{needs}
 use Rattle.machine.proofs.run.left.Statement.{statement}

@@ -1,3 +1,4 @@
+-- `run` meets its contract.
 use borrow.Author.Tests.{eq-eqb, ne-eqb}
 use borrow.Author.Needs.{needs}
 use Rattle.machine.proofs.Runs.{apart, apart-most, same-world, start-world, release-turn, switched, tick-turn, pass-turn, due-within, after-release, after-tick, after-stop}

@@ -1,3 +1,4 @@
+-- `top` meets its contract.
 use Rattle.machine.specs.World.{topOf}
 use Prim.Native.Nat.{ℕ, _<_}
 use native.Mathlib.Omega.{arith}

@@ -1,3 +1,4 @@
+-- `zero` meets its contract.
 use borrow.Author.Needs.{needs}
 use Rattle.machine.specs.World.{zeroed}
 use Prim.Native.Nat.{ℕ, _≤_, _-_, _+_}

@@ -1,3 +1,4 @@
+-- `between` meets its contract.
 use native.Mathlib.Omega.{arith}
 use Rattle.statements.proofs.Turns.{between-refused, between-known}
 use borrow.Author.Needs.{needs}

@@ -1,3 +1,4 @@
+-- `inner_command` meets its contract.
 use native.Mathlib.Omega.{arith}
 use Rattle.statements.proofs.Bytes.{between-rest}
 use Rattle.statements.proofs.Turns.{between-load, between-add, between-access, between-commit}

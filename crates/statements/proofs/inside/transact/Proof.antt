@@ -1,3 +1,4 @@
+-- `transact` meets its contract.
 use Rattle.statements.specs.Statements.{insideTick}
 use Rattle.statements.proofs.Turns.{inside-first, inside-again}
 use borrow.Author.Needs.{needs}

@@ -1,3 +1,4 @@
+-- `pair` meets its contract.
 use Rattle.statements.specs.Statements.{paired}
 use borrow.Author.Needs.{needs}
 use Rattle.statements.proofs.outside.pair.Statement.{statement}

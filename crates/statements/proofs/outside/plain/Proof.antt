@@ -1,3 +1,4 @@
+-- `plain` meets its contract.
 use native.Mathlib.Omega.{arith}
 use Rattle.statements.proofs.Turns.{plain-refused, plain-known}
 use borrow.Author.Needs.{needs}

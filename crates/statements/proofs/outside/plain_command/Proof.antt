@@ -1,3 +1,4 @@
+-- `plain_command` meets its contract.
 use native.Mathlib.Omega.{arith}
 use Rattle.statements.proofs.Bytes.{plain-rest}
 use Rattle.statements.proofs.Turns.{plain-load, plain-add, plain-read, plain-pair, plain-swap, plain-begin}

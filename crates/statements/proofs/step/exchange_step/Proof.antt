@@ -1,3 +1,4 @@
+-- `exchange_step` meets its contract.
 use Rattle.statements.specs.Statements.{exchangeStep}
 use borrow.Author.Needs.{needs}
 use Rattle.statements.proofs.step.exchange_step.Statement.{statement}

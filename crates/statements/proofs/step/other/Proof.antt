@@ -1,3 +1,4 @@
+-- `other` meets its contract.
 use Rattle.statements.proofs.Turns.{other-idle, other-plain, other-read, other-exchange, other-transaction}
 use borrow.Author.Needs.{needs}
 use Rattle.statements.proofs.step.other.Statement.{statement}

@@ -1,3 +1,4 @@
+-- `step` meets its contract.
 use mathlib.Core.Path.{_∙_}
 use Rattle.statements.proofs.Turns.{step-exchange, step-commit, step-other}
 use borrow.Author.Needs.{needs}

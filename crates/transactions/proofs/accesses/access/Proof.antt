@@ -1,3 +1,4 @@
+-- `access` meets its contract.
 use borrow.Author.Tests.{eq-eqb, ne-eqb}
 use Rattle.transactions.specs.Accesses.{accessTick}
 use borrow.Author.Needs.{needs}

@@ -1,3 +1,4 @@
+-- `again_read` meets its contract.
 use borrow.Author.Tests.{eq-eqb, ne-eqb}
 use Rattle.transactions.specs.Accesses.{againRead}
 use borrow.Author.Needs.{needs}

@@ -1,3 +1,4 @@
+-- `check` meets its contract.
 use Rattle.transactions.specs.Accesses.{checkedBy}
 use borrow.Author.Needs.{needs}
 use Rattle.transactions.proofs.accesses.check.Statement.{statement}

@@ -1,3 +1,4 @@
+-- `clear` meets its contract.
 use borrow.Author.Needs.{needs}
 use Rattle.transactions.specs.Blocks.{cleared}
 use Prim.Native.Nat.{ℕ, _≤_, _-_, _+_}

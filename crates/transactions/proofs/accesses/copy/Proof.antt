@@ -1,3 +1,4 @@
+-- `copy` meets its contract.
 use borrow.Author.Tests.{eq-eqb, ne-eqb}
 use Rattle.transactions.specs.Accesses.{afterCopy}
 use borrow.Author.Needs.{needs}

@@ -1,3 +1,4 @@
+-- `first_read` meets its contract.
 use Rattle.transactions.specs.Accesses.{firstRead}
 use borrow.Author.Needs.{needs}
 use Rattle.transactions.proofs.accesses.first_read.Statement.{statement}

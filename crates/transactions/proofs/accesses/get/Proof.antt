@@ -1,3 +1,4 @@
+-- `get` meets its contract.
 use Rattle.transactions.specs.Accesses.{gotBy}
 use borrow.Author.Needs.{needs}
 use Rattle.transactions.proofs.accesses.get.Statement.{statement}

@@ -1,3 +1,4 @@
+-- `put` meets its contract.
 use Rattle.transactions.specs.Accesses.{afterPut}
 use borrow.Author.Needs.{needs}
 use Rattle.transactions.proofs.accesses.put.Statement.{statement}

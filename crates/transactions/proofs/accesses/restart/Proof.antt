@@ -1,3 +1,4 @@
+-- `restart` meets its contract.
 use Rattle.transactions.specs.Accesses.{restarted}
 use borrow.Author.Needs.{needs}
 use Rattle.transactions.proofs.accesses.restart.Statement.{statement}

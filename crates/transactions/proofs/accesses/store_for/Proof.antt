@@ -1,3 +1,4 @@
+-- `store_for` meets its contract.
 use borrow.Author.Tests.{lt-ltb, le-ltb}
 use borrow.Author.Needs.{needs}
 use Rattle.transactions.proofs.accesses.store_for.Statement.{statement}

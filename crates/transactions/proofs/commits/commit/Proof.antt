@@ -1,3 +1,4 @@
+-- `commit` meets its contract.
 use mathlib.Core.Path.{sym, _∙_}
 use Rattle.transactions.specs.Commits.{commitBy}
 use borrow.Author.Needs.{needs}

@@ -1,3 +1,4 @@
+-- `committed_by` meets its contract.
 use Rattle.transactions.specs.Commits.{committedBy}
 use borrow.Author.Needs.{needs}
 use Rattle.transactions.proofs.commits.committed_by.Statement.{statement}

@@ -1,3 +1,4 @@
+-- `gather` meets its contract.
 use borrow.Author.Needs.{needs}
 use Rattle.transactions.specs.Blocks.{gathering, gatheredTo}
 use Prim.Native.Nat.{ℕ, _≤_, _-_, _+_}

@@ -1,3 +1,4 @@
+-- `gather_one` meets its contract.
 use borrow.Author.Tests.{eq-eqb, ne-eqb}
 use Rattle.transactions.specs.Blocks.{gatheredOne}
 use borrow.Author.Needs.{needs}

@@ -1,3 +1,4 @@
+-- `is_spent` meets its contract.
 use borrow.Author.Tests.{lt-ltb, le-ltb}
 use Rattle.transactions.proofs.commits.is_spent.Statement.{statement}
 use Rattle.transactions.proofs.commits.is_spent.Tie as tie

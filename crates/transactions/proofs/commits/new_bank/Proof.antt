@@ -1,3 +1,4 @@
+-- `new_bank` meets its contract.
 use borrow.Author.Tests.{lt-ltb, le-ltb}
 use borrow.Author.Needs.{needs}
 use Rattle.transactions.proofs.commits.new_bank.Statement.{statement}

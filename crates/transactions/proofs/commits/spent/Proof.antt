@@ -1,3 +1,4 @@
+-- `spent` meets its contract.
 use borrow.Author.Needs.{needs}
 use Rattle.transactions.proofs.Walks.{spent-stops, spent-goes-on}
 use Rattle.transactions.specs.Blocks.{spentFrom}

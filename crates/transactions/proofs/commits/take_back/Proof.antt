@@ -1,3 +1,4 @@
+-- `take_back` meets its contract.
 use borrow.Author.Needs.{needs}
 use Rattle.transactions.specs.Blocks.{takenTo}
 use Prim.Native.Nat.{ℕ, _≤_, _-_, _+_}

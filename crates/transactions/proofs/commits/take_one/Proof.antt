@@ -1,3 +1,4 @@
+-- `take_one` meets its contract.
 use borrow.Author.Tests.{lt-ltb, le-ltb}
 use Rattle.transactions.specs.Blocks.{takenOne}
 use borrow.Author.Needs.{needs}

@@ -1,3 +1,4 @@
+-- `untouched` meets its contract.
 use borrow.Author.Needs.{needs}
 use Rattle.transactions.proofs.Walks.{untouched-stops, untouched-goes-on}
 use Rattle.transactions.specs.Blocks.{untouchedFrom}

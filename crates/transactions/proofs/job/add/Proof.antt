@@ -1,3 +1,4 @@
+-- `add` meets its contract.
 use Rattle.transactions.specs.Jobs.{added}
 use borrow.Author.Needs.{needs}
 use Rattle.transactions.proofs.job.add.Statement.{statement}

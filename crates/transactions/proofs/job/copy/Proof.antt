@@ -1,3 +1,4 @@
+-- `copy` meets its contract.
 use borrow.Author.Needs.{needs}
 use Rattle.transactions.specs.Jobs.{copied}
 use Prim.Native.Nat.{ℕ, _≤_, _-_, _+_}

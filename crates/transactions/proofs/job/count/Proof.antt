@@ -1,3 +1,4 @@
+-- `count` meets its contract.
 use Rattle.transactions.specs.Jobs.{counted}
 use borrow.Author.Needs.{needs}
 use Rattle.transactions.proofs.job.count.Statement.{statement}

@@ -1,3 +1,4 @@
+-- `done` meets its contract.
 use mathlib.Core.Path.{sym, _∙_}
 use Rattle.transactions.specs.Jobs.{afterDone}
 use borrow.Author.Needs.{needs}

@@ -1,3 +1,4 @@
+-- `enter` meets its contract.
 use Rattle.transactions.specs.Jobs.{entered}
 use borrow.Author.Needs.{needs}
 use Rattle.transactions.proofs.job.enter.Statement.{statement}

@@ -1,3 +1,4 @@
+-- `give` meets its contract.
 use Rattle.transactions.specs.Jobs.{afterGiving}
 use borrow.Author.Needs.{needs}
 use Rattle.transactions.proofs.job.give.Statement.{statement}

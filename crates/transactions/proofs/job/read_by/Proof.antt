@@ -1,3 +1,4 @@
+-- `read_by` meets its contract.
 use Rattle.transactions.specs.Jobs.{readBy}
 use borrow.Author.Needs.{needs}
 use Rattle.transactions.proofs.job.read_by.Statement.{statement}

@@ -1,3 +1,4 @@
+-- `set_register` meets its contract.
 use borrow.Author.Needs.{needs}
 use Rattle.transactions.proofs.job.set_register.Statement.{statement}
 use Rattle.transactions.proofs.job.set_register.Tie as tie

@@ -1,3 +1,4 @@
+-- `swap_by` meets its contract.
 use Rattle.transactions.specs.Jobs.{swapBy}
 use borrow.Author.Needs.{needs}
 use Rattle.transactions.proofs.job.swap_by.Statement.{statement}
