@@ -17,9 +17,9 @@ use Rattle.commands.specs.declared.Command.{Command}
 use Rattle.commands.specs.declared.Command.the-variants as C
 use Rattle.statements.specs.Statements.{Arrays, turn, statement}
 use Rattle.machine.specs.World.{unfinishedJob, pendingBy, pendingAt, dueBy, comingBy, stopsBy, topOf, startWorld, droppedBy, begunBy, zeroedBy, startedBy, leftBy, tickedBy, World, world, noJob, withRegisters, withCounts, released, ticked, comingIn, Ends, stopped, releases, ticks}
-use Rattle.transactions.specs.Jobs.{jobAt}
-use Rattle.transactions.specs.declared.job.Phase.the-variants as P
-use Rattle.transactions.specs.declared.job.Job.{Job}
+use Rattle.jobs.specs.Jobs.{jobAt}
+use Rattle.jobs.specs.declared.Phase.the-variants as P
+use Rattle.jobs.specs.declared.Job.{Job}
 use Rattle.machine.specs.declared.releases.Coming.{Coming}
 use Rattle.machine.specs.declared.releases.Coming.the-variants.{Nothing, Later, Due}
 

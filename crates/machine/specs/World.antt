@@ -10,11 +10,11 @@ use Rattle.model.specs.Command as M
 use Rattle.commands.specs.declared.Command.{Command}
 use Rattle.commands.specs.declared.Command.the-variants as C
 use Rattle.exchanges.specs.Places.{if}
-use Rattle.transactions.specs.Jobs.{job, jobAt, counted}
+use Rattle.jobs.specs.Jobs.{job, jobAt, counted}
 use Rattle.statements.specs.Statements.{Arrays, arrays, Turn, turn, statement}
-use Rattle.transactions.specs.declared.job.Phase.{Phase}
-use Rattle.transactions.specs.declared.job.Phase.the-variants as P
-use Rattle.transactions.specs.declared.job.Job.{Job}
+use Rattle.jobs.specs.declared.Phase.{Phase}
+use Rattle.jobs.specs.declared.Phase.the-variants as P
+use Rattle.jobs.specs.declared.Job.{Job}
 use Rattle.machine.specs.declared.releases.Pending.{Pending}
 use Rattle.machine.specs.declared.releases.Coming.{Coming}
 use Rattle.machine.specs.declared.releases.Coming.the-variants.{Nothing, Later, Due}

@@ -6,10 +6,9 @@ ghost use Rattle.machine.specs.World.{unfinishedJob, topOf, droppedBy, b
 use crate::releases;
 use crate::releases::Coming;
 use exchanges::places;
+use jobs::Job;
+use jobs::Phase;
 use statements::step;
-use transactions::job;
-use transactions::job::Job;
-use transactions::job::Phase;
 
 // The ticks done, and the releases dropped.
 pub struct Ended {
@@ -100,7 +99,7 @@ fn started(job: Job, body: usize) -> Job
     if unfinished(phase) {
         return job;
     }
-    job::job_at(Phase::Plain, body, 0)
+    jobs::job_at(Phase::Plain, body, 0)
 }
 
 // The mask after a statement that found and left the job in those phases.
@@ -131,7 +130,7 @@ fn used(counts: &mut [u32; 32], p: u8, phase: Phase)
     ensures { λ r. ⌜ now (counts .exit) ≡ tickedBy (unfinishedJob phase) (now (counts .entry)) p ⌝ }
 {
     if unfinished(phase) {
-        job::count(&mut *counts, p, 3);
+        jobs::count(&mut *counts, p, 3);
         return;
     }
 }
@@ -171,7 +170,7 @@ pub fn run(
     }; 8];
     // The job of task p, which ran last, is held apart, and goes back when another task runs.
     let mut p: u8 = 0;
-    let mut job = job::job_at(Phase::Idle, 0, 0);
+    let mut job = jobs::job_at(Phase::Idle, 0, 0);
     let mut mask: u32 = 0;
     let mut place = first;
     let mut next = releases::pending_at(sheet, place);

@@ -27,7 +27,7 @@ use Rattle.statements.specs.Statements.{Arrays, Turn, onTouching, onStores, onA
 use Rattle.exchanges.specs.declared.read.Reading.the-variants.{Load}
 use Rattle.exchanges.specs.declared.read.Read.{Read}
 use Rattle.exchanges.specs.declared.read.Read.the-variants.{Reads, Gives}
-use Rattle.transactions.specs.declared.job.Job.{Job}
+use Rattle.jobs.specs.declared.Job.{Job}
 use Rattle.simulation.proofs.View.{memoryOf, readOf, touchedOf, blocksOf, bodyFrom, transactionOf, task}
 use Rattle.simulation.proofs.Memory.{rows-at, rows-written}
 use Rattle.simulation.proofs.Reading.{read-tick}

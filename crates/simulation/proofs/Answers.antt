@@ -12,14 +12,14 @@ use Rattle.model.specs.Machine as M
 use Rattle.model.proofs.Lists.{length-replace}
 use Rattle.memory.specs.Rows.{row}
 use Rattle.memory.proofs.Rows.{row-same, row-other}
-use Rattle.transactions.specs.Jobs.{afterDone, afterGiving, readBy, swapBy}
+use Rattle.jobs.specs.Jobs.{afterDone, afterGiving, readBy, swapBy}
 use Rattle.exchanges.specs.Exchange.{Left}
 use Rattle.statements.specs.Statements.{Arrays, onCounts, onAnswer, onExchange}
 use Rattle.exchanges.specs.declared.read.Read.{Read}
 use Rattle.exchanges.specs.declared.read.Read.the-variants.{Reads, Gives}
 use Rattle.exchanges.specs.declared.exchange.Exchanged.{Exchanged}
 use Rattle.exchanges.specs.declared.exchange.Exchanged.the-variants.{Goes, Finds, Ends}
-use Rattle.transactions.specs.declared.job.Job.{Job}
+use Rattle.jobs.specs.declared.Job.{Job}
 use Rattle.simulation.proofs.View.{memoryOf, entriesOf, pairsOf, bodyFrom, readOf, task, withRegisters, withLoaded}
 use Rattle.simulation.proofs.Entries.{no-pairs, no-entries}
 use Rattle.simulation.proofs.Exchange.{exchangedOf}

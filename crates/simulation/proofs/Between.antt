@@ -17,11 +17,11 @@ use Rattle.memory.proofs.Rows.{row-same, row-other}
 use Rattle.commands.specs.View.{viewAccess}
 use Rattle.commands.specs.declared.Access.{Access}
 use Rattle.commands.specs.declared.Access.the-variants.{Get, Put}
-use Rattle.transactions.specs.Jobs.{bodyCommand, movedTo, inPhase}
+use Rattle.jobs.specs.Jobs.{bodyCommand, movedTo, inPhase}
 use Rattle.statements.specs.Statements.{Arrays, turn, betweenBy}
-use Rattle.transactions.specs.declared.job.Inner.the-variants.{Between}
-use Rattle.transactions.specs.declared.job.Phase.the-variants.{Transaction}
-use Rattle.transactions.specs.declared.job.Job.{Job}
+use Rattle.jobs.specs.declared.Inner.the-variants.{Between}
+use Rattle.jobs.specs.declared.Phase.the-variants.{Transaction}
+use Rattle.jobs.specs.declared.Job.{Job}
 use Rattle.simulation.proofs.View.{bodyFrom, touchedOf, transactionOf}
 use Rattle.simulation.proofs.Body.{bodyBy, body-found}
 use Rattle.simulation.proofs.Parts.{Sizes, partsOf, sharedOf, AtWork, Simulated}

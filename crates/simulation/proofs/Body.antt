@@ -9,7 +9,7 @@ use borrow.Author.Tests.{le-ltb}
 use Rattle.model.specs.Command.{Command, WORD, BLOCK, TASK, RELEASE, END, LOAD, ADD, READ, PAIR, SWAP, BEGIN, access, COMMIT, Found, found, refused, foundByte, commandAt}
 use Rattle.model.specs.Sheet.{listed, commandsFrom, Declared, declare, declared}
 use Rattle.model.proofs.Fit.Reading.{found-at}
-use Rattle.transactions.specs.Jobs.{bodyCommand}
+use Rattle.jobs.specs.Jobs.{bodyCommand}
 use Rattle.simulation.proofs.View.{bodyFrom}
 
 -- nothing is found past the end

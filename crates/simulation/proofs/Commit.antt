@@ -16,7 +16,7 @@ use Rattle.model.proofs.Fit.Transaction.{touched?, count}
 use Rattle.memory.specs.Rows.{row}
 use Rattle.memory.proofs.Rows.{at-row}
 use Rattle.exchanges.specs.Places.{if, went}
-use Rattle.transactions.specs.Jobs.{jobAt, counted, afterDone}
+use Rattle.jobs.specs.Jobs.{jobAt, counted, afterDone}
 use Rattle.exchanges.specs.Exchange.{Left}
 use Rattle.transactions.specs.Blocks.{untouchedFrom, isSpent, spentFrom, gatheredTo, takenTo}
 use Rattle.transactions.specs.Accesses.{restarted}
@@ -24,8 +24,8 @@ use Rattle.transactions.specs.Commits.{Gathered, countedIn, exchangeOf, commitB
 use Rattle.statements.specs.Statements.{Arrays, entriesOf, onGathered, onCommitted}
 use Rattle.exchanges.specs.declared.exchange.Exchanged.{Exchanged}
 use Rattle.exchanges.specs.declared.exchange.Exchanged.the-variants.{Goes, Finds, Ends}
-use Rattle.transactions.specs.declared.job.Phase.the-variants.{Idle}
-use Rattle.transactions.specs.declared.job.Job.{Job}
+use Rattle.jobs.specs.declared.Phase.the-variants.{Idle}
+use Rattle.jobs.specs.declared.Job.{Job}
 use Rattle.simulation.proofs.Tabulate.{tabulate, tabulate-same}
 use Rattle.simulation.proofs.View.{Parts, memoryOf, touchedOf, blocksOf, bodyFrom, transactionOf, taskOf, withCopies, withCounts, withLoaded}
 use Rattle.simulation.proofs.View.{entriesOf as viewEntries}

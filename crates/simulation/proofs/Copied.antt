@@ -11,7 +11,7 @@ use Rattle.model.specs.Job as J
 use Rattle.model.proofs.Lists.{replace-same, replace-other, length-replace, same?}
 use Rattle.memory.specs.Rows.{row}
 use Rattle.memory.proofs.Rows.{at-row, row-same, row-other, length-row}
-use Rattle.transactions.specs.Jobs.{copied}
+use Rattle.jobs.specs.Jobs.{copied}
 use Rattle.transactions.specs.Blocks.{cleared}
 use Rattle.simulation.proofs.Tabulate.{tabulate, tabulate-same}
 use Rattle.simulation.proofs.View.{touchedOf, blocksOf}

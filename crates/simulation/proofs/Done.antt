@@ -12,9 +12,9 @@ use Rattle.model.specs.Exchange as X
 use Rattle.model.specs.Job as J
 use Rattle.memory.specs.Rows.{row}
 use Rattle.exchanges.specs.Places.{if, Went, went}
-use Rattle.transactions.specs.Jobs.{jobAt, bodyCommand, inBody, counted, afterDone}
-use Rattle.transactions.specs.declared.job.Phase.the-variants as Phase
-use Rattle.transactions.specs.declared.job.Job.{Job}
+use Rattle.jobs.specs.Jobs.{jobAt, bodyCommand, inBody, counted, afterDone}
+use Rattle.jobs.specs.declared.Phase.the-variants as Phase
+use Rattle.jobs.specs.declared.Job.{Job}
 use Rattle.simulation.proofs.View.{Parts, pairsOf, bodyFrom, task, taskOf, withCounts}
 use Rattle.simulation.proofs.Body.{bodyIf, bodyBy, body-at}
 use Rattle.simulation.proofs.Parts.{Unloaded, JobShape, counted-same, counted-other, counted-size, counted-others}

@@ -11,7 +11,7 @@ use Rattle.model.proofs.Lists.{length-replace}
 use Rattle.memory.specs.Packed.{packed}
 use Rattle.memory.specs.Rows.{row}
 use Rattle.memory.proofs.Rows.{row-same, row-other, length-row}
-use Rattle.transactions.specs.Jobs.{Entries, entered}
+use Rattle.jobs.specs.Jobs.{Entries, entered}
 use Rattle.simulation.proofs.View.{entriesOf, pairsOf}
 use Rattle.simulation.proofs.Entries.{pairs-more, entries-more}
 

@@ -17,7 +17,7 @@ use Rattle.model.proofs.Fit.Transaction.{touched?, count, countBy}
 use Rattle.memory.specs.Rows.{row}
 use Rattle.memory.proofs.Rows.{at-row, row-same, row-other}
 use Rattle.exchanges.specs.Places.{if, nextOf}
-use Rattle.transactions.specs.Jobs.{Entries, entries}
+use Rattle.jobs.specs.Jobs.{Entries, entries}
 use Rattle.transactions.specs.Blocks.{newBank, Gathering, gatheredEntry, gatheredOne, gatheredTo, takenOne, takenTo}
 use Rattle.simulation.proofs.Tabulate.{tabulate, length-tabulate, tabulate-snoc}
 use Rattle.simulation.proofs.View.{touchedOf}

@@ -12,13 +12,13 @@ use Rattle.model.specs.Job as J
 use Rattle.model.proofs.Lists.{replace-same, replace-other, length-replace}
 use Rattle.memory.specs.Rows.{row}
 use Rattle.memory.proofs.Rows.{at-row, row-same, row-other, length-row}
-use Rattle.transactions.specs.Jobs.{counted}
+use Rattle.jobs.specs.Jobs.{counted}
 use Rattle.statements.specs.Statements.{Arrays, Turn}
-use Rattle.transactions.specs.declared.job.Inner.{Inner}
-use Rattle.transactions.specs.declared.job.Inner.the-variants as Inner
-use Rattle.transactions.specs.declared.job.Phase.{Phase}
-use Rattle.transactions.specs.declared.job.Phase.the-variants as Phase
-use Rattle.transactions.specs.declared.job.Job.{Job}
+use Rattle.jobs.specs.declared.Inner.{Inner}
+use Rattle.jobs.specs.declared.Inner.the-variants as Inner
+use Rattle.jobs.specs.declared.Phase.{Phase}
+use Rattle.jobs.specs.declared.Phase.the-variants as Phase
+use Rattle.jobs.specs.declared.Job.{Job}
 use Rattle.simulation.proofs.View.{Parts, memoryOf, entriesOf, pairsOf, bodyFrom, taskOf}
 
 -- the sizes of all arrays

@@ -21,12 +21,12 @@ use Rattle.memory.proofs.Rows.{at-row, row-same, row-other}
 use Rattle.exchanges.specs.Places.{nextOf}
 use Rattle.exchanges.specs.Reading.{afterReading}
 use Rattle.exchanges.specs.Exchange.{afterStart, afterExchange}
-use Rattle.transactions.specs.Jobs.{bodyCommand, movedTo, inPhase, added, Entries, entered}
+use Rattle.jobs.specs.Jobs.{bodyCommand, movedTo, inPhase, added, Entries, entered}
 use Rattle.statements.specs.Statements.{Arrays, turn, entriesOf, paired, plainBy}
 use Rattle.exchanges.specs.declared.read.Reading.the-variants.{Load}
 use Rattle.exchanges.specs.declared.exchange.Step.the-variants.{Start}
-use Rattle.transactions.specs.declared.job.Phase.the-variants.{Plain}
-use Rattle.transactions.specs.declared.job.Job.{Job}
+use Rattle.jobs.specs.declared.Phase.the-variants.{Plain}
+use Rattle.jobs.specs.declared.Job.{Job}
 use Rattle.simulation.proofs.View.{bodyFrom, withEntries}
 use Rattle.simulation.proofs.Body.{bodyBy, body-found}
 use Rattle.simulation.proofs.Entered.{EntrySizes, rowPairs, entered-frame, entered-sizes, entered-pairs, entered-entries}

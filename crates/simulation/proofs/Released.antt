@@ -13,10 +13,10 @@ use Rattle.model.specs.Machine as M
 use Rattle.model.proofs.Lists.{replace-same, replace-other, length-replace, at-replicate, same?}
 use Rattle.memory.specs.Rows.{row}
 use Rattle.memory.proofs.Rows.{row-same, row-other, length-row}
-use Rattle.transactions.specs.Jobs.{jobAt}
+use Rattle.jobs.specs.Jobs.{jobAt}
 use Rattle.machine.specs.World.{unfinishedJob, droppedBy, begunBy, zeroed, zeroedBy, startedBy, World, world, noJob, jobOf, withRegisters, released}
-use Rattle.transactions.specs.declared.job.Phase.the-variants as Phase
-use Rattle.transactions.specs.declared.job.Job.{Job}
+use Rattle.jobs.specs.declared.Phase.the-variants as Phase
+use Rattle.jobs.specs.declared.Job.{Job}
 use Rattle.simulation.proofs.View.{bodyFrom, taskOf}
 use Rattle.simulation.proofs.Entries.{no-pairs, no-entries}
 use Rattle.simulation.proofs.Parts.{sizes, partsOf, sharedOf}

@@ -19,7 +19,7 @@ use Rattle.memory.specs.Rows.{row, rows}
 use Rattle.memory.proofs.Rows.{at-row, length-row}
 use Rattle.statements.specs.Statements.{Arrays}
 use Rattle.machine.specs.World.{noJob, zeros, startArrays, startWorld}
-use Rattle.transactions.specs.declared.job.Job.{Job}
+use Rattle.jobs.specs.declared.Job.{Job}
 use Rattle.simulation.proofs.View.{bodyFrom, memoryOf, taskOf}
 use Rattle.simulation.proofs.Entries.{no-pairs}
 use Rattle.simulation.proofs.Parts.{partsOf}

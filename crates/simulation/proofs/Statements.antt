@@ -27,15 +27,15 @@ use Rattle.commands.specs.declared.Access.the-variants.{Get, Put}
 use Rattle.exchanges.specs.Reading.{afterReading}
 use Rattle.transactions.specs.Blocks.{bankOf, namedBlock}
 use Rattle.exchanges.specs.Exchange.{Left, afterExchange}
-use Rattle.transactions.specs.Jobs.{bodyCommand, inPhase}
+use Rattle.jobs.specs.Jobs.{bodyCommand, inPhase}
 use Rattle.statements.specs.Statements.{Arrays, plainTick, betweenTick, insideTick, otherTick, transactionTick, statement}
 use Rattle.exchanges.specs.declared.read.Reading.{Reading}
 use Rattle.exchanges.specs.declared.exchange.Step.{Step}
-use Rattle.transactions.specs.declared.job.Inner.{Inner}
-use Rattle.transactions.specs.declared.job.Inner.the-variants.{Between, First, Copying, Again, Committing}
-use Rattle.transactions.specs.declared.job.Phase.{Phase}
-use Rattle.transactions.specs.declared.job.Phase.the-variants as Phase
-use Rattle.transactions.specs.declared.job.Job.{Job}
+use Rattle.jobs.specs.declared.Inner.{Inner}
+use Rattle.jobs.specs.declared.Inner.the-variants.{Between, First, Copying, Again, Committing}
+use Rattle.jobs.specs.declared.Phase.{Phase}
+use Rattle.jobs.specs.declared.Phase.the-variants as Phase
+use Rattle.jobs.specs.declared.Job.{Job}
 use Rattle.simulation.proofs.View.{readingOf, readOf, pairsOf, partEntries, numberOf, stepOf, exchangeOf, touchedOf, bodyFrom, transactionOf, innerOf, phaseOf, commandsOf, waitingOf, taskOf}
 use Rattle.simulation.proofs.Tabulate.{length-tabulate}
 use Rattle.simulation.proofs.Memory.{length-map}

@@ -20,14 +20,14 @@ use Rattle.model.proofs.Fit.Machine.{DeclaredFit, Fit}
 use Rattle.model.proofs.Fit.Statement.{statement-fit}
 use Rattle.model.proofs.Fit.Ranges.{TaskRange, Ranges}
 use Rattle.memory.specs.Rows.{row}
-use Rattle.transactions.specs.Jobs.{counted}
+use Rattle.jobs.specs.Jobs.{counted}
 use Rattle.statements.specs.Statements.{Arrays, Turn, statement}
 use Rattle.machine.specs.World.{unfinishedJob, topOf, leftBy, World, world, noJob, jobOf, withCounts, tickedFor, passed, ticked}
-use Rattle.transactions.specs.declared.job.Phase.{Phase}
-use Rattle.transactions.specs.declared.job.Phase.the-variants as Phase
-use Rattle.transactions.specs.declared.job.Inner.{Inner}
-use Rattle.transactions.specs.declared.job.Inner.the-variants as Inner
-use Rattle.transactions.specs.declared.job.Job.{Job}
+use Rattle.jobs.specs.declared.Phase.{Phase}
+use Rattle.jobs.specs.declared.Phase.the-variants as Phase
+use Rattle.jobs.specs.declared.Inner.{Inner}
+use Rattle.jobs.specs.declared.Inner.the-variants as Inner
+use Rattle.jobs.specs.declared.Job.{Job}
 use Rattle.simulation.proofs.View.{Parts, bodyFrom, transactionOf, innerOf, phaseOf, waitingOf, taskOf, withCounts as partsWith}
 use Rattle.simulation.proofs.Parts.{sizes, partsOf, sharedOf, turnOf, JobShape, Simulated, counted-same, counted-other, counted-size, counted-others}
 use Rattle.simulation.proofs.Releases.{releasesFrom}

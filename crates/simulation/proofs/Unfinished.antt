@@ -10,7 +10,7 @@ use lib.ListN.{length, getD, set}
 use lib.Seq.{getD-set-same, getD-set-other}
 use Rattle.model.proofs.Lists.{same?}
 use Rattle.machine.specs.World.{unfinishedJob, topOf, noJob}
-use Rattle.transactions.specs.declared.job.Job.{Job}
+use Rattle.jobs.specs.declared.Job.{Job}
 
 abbrev pub busy : List Job → ℕ → Bool
 busy js p = unfinishedJob (getD js p noJob .phase)

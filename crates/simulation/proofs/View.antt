@@ -13,18 +13,18 @@ use Rattle.model.specs.Job as J
 use Rattle.memory.specs.Packed.{unpack}
 use Rattle.memory.specs.Rows.{row, rows}
 use Rattle.commands.specs.View.{viewAccess}
-use Rattle.transactions.specs.Jobs.{Entries}
+use Rattle.jobs.specs.Jobs.{Entries}
 use Rattle.exchanges.specs.declared.read.Reading.{Reading}
 use Rattle.exchanges.specs.declared.read.Reading.the-variants as Reading
 use Rattle.exchanges.specs.declared.read.Read.{Read}
 use Rattle.exchanges.specs.declared.read.Read.the-variants.{Reads, Gives}
 use Rattle.exchanges.specs.declared.exchange.Step.{Step}
 use Rattle.exchanges.specs.declared.exchange.Step.the-variants as Step
-use Rattle.transactions.specs.declared.job.Inner.{Inner}
-use Rattle.transactions.specs.declared.job.Inner.the-variants as Inner
-use Rattle.transactions.specs.declared.job.Phase.{Phase}
-use Rattle.transactions.specs.declared.job.Phase.the-variants as Phase
-use Rattle.transactions.specs.declared.job.Job.{Job}
+use Rattle.jobs.specs.declared.Inner.{Inner}
+use Rattle.jobs.specs.declared.Inner.the-variants as Inner
+use Rattle.jobs.specs.declared.Phase.{Phase}
+use Rattle.jobs.specs.declared.Phase.the-variants as Phase
+use Rattle.jobs.specs.declared.Job.{Job}
 use Rattle.simulation.proofs.Tabulate.{tabulate}
 
 -- packed cells; eight save places a task, eight values a store

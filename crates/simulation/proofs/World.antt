@@ -18,9 +18,9 @@ use Rattle.model.proofs.Fit.Running.{highest-running, none-nobody}
 use Rattle.model.proofs.Fit.Running.{busy as working}
 use Rattle.statements.specs.Statements.{Arrays}
 use Rattle.machine.specs.World.{unfinishedJob, World, jobOf, noJob}
-use Rattle.transactions.specs.declared.job.Phase.{Phase}
-use Rattle.transactions.specs.declared.job.Phase.the-variants as Phase
-use Rattle.transactions.specs.declared.job.Job.{Job}
+use Rattle.jobs.specs.declared.Phase.{Phase}
+use Rattle.jobs.specs.declared.Phase.the-variants as Phase
+use Rattle.jobs.specs.declared.Job.{Job}
 use Rattle.simulation.proofs.Tabulate.{tabulate, at-tabulate, length-tabulate, tabulate-replace}
 use Rattle.simulation.proofs.View.{Parts, bodyFrom, phaseOf, taskOf}
 use Rattle.simulation.proofs.Parts.{Sized, partsOf, sharedOf, JobShape}

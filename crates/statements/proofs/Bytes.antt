@@ -8,7 +8,7 @@ use lib.Dec.{eqb}
 use Rattle.model.specs.Command.{Command, WORD, BLOCK, TASK, RELEASE, END, LOAD, ADD, READ, PAIR, SWAP, BEGIN, access, COMMIT, found}
 use Rattle.commands.specs.Stages.{commandOf}
 use Rattle.commands.proofs.Bytes.{same, allSame, by-byte}
-use Rattle.transactions.specs.declared.job.Job.{Job}
+use Rattle.jobs.specs.declared.Job.{Job}
 use Rattle.statements.specs.Statements.{Arrays, turn, plainBy, betweenBy}
 
 -- a command that stands outside a transaction, and its bytes

@@ -22,7 +22,7 @@ use Rattle.commands.proofs.Decoding.{cases, load-command, sum-command, read-com
 use Rattle.exchanges.specs.Places.{nextOf, Went, went}
 use Rattle.exchanges.specs.Reading.{afterReading}
 use Rattle.exchanges.specs.Exchange.{Left, exchanged, afterStart, afterExchange}
-use Rattle.transactions.specs.Jobs.{jobAt, movedTo, inPhase, added, copied, Entries, afterDone, answered, readBy, swapBy}
+use Rattle.jobs.specs.Jobs.{jobAt, movedTo, inPhase, added, copied, Entries, afterDone, answered, readBy, swapBy}
 use Rattle.transactions.specs.Blocks.{bankOf, namedBlock, cleared}
 use Rattle.transactions.specs.Accesses.{goesOn, Touching, firstRead, Accessed, accessTick, Checked, againRead}
 use Rattle.transactions.specs.Commits.{Gathered, commitBy, Committed, committedBy}
@@ -36,12 +36,12 @@ use Rattle.exchanges.specs.declared.exchange.Step.{Step}
 use Rattle.exchanges.specs.declared.exchange.Step.the-variants.{Start}
 use Rattle.exchanges.specs.declared.exchange.Exchanged.{Exchanged}
 use Rattle.exchanges.specs.declared.exchange.Exchanged.the-variants.{Goes}
-use Rattle.transactions.specs.declared.job.Inner.{Inner}
-use Rattle.transactions.specs.declared.job.Inner.the-variants.{Between, First, Copying, Again, Committing}
-use Rattle.transactions.proofs.job.Phase.{the-type}
-use Rattle.transactions.specs.declared.job.Phase.{Phase}
-use Rattle.transactions.specs.declared.job.Phase.the-variants as P
-use Rattle.transactions.specs.declared.job.Job.{Job}
+use Rattle.jobs.specs.declared.Inner.{Inner}
+use Rattle.jobs.specs.declared.Inner.the-variants.{Between, First, Copying, Again, Committing}
+use Rattle.jobs.proofs.Phase.{the-type}
+use Rattle.jobs.specs.declared.Phase.{Phase}
+use Rattle.jobs.specs.declared.Phase.the-variants as P
+use Rattle.jobs.specs.declared.Job.{Job}
 
 -- THE COMMAND AT WORK
 module _ (sheet : List ℕ) (a : Arrays) (p : ℕ) (j : Job) {y : Opcode} where

@@ -9,7 +9,7 @@ use Rattle.commands.specs.declared.Access.the-variants.{Get, Put}
 use Rattle.exchanges.specs.Places.{nextOf, Went}
 use Rattle.exchanges.specs.Reading.{afterReading}
 use Rattle.exchanges.specs.Exchange.{Left, afterExchange}
-use Rattle.transactions.specs.Jobs.{jobAt, movedTo, added, copied, Entries, entries, entered, afterDone, Answered, readBy, swapBy}
+use Rattle.jobs.specs.Jobs.{jobAt, movedTo, added, copied, Entries, entries, entered, afterDone, Answered, readBy, swapBy}
 use Rattle.transactions.specs.Blocks.{bankOf, namedBlock, cleared}
 use Rattle.transactions.specs.Accesses.{goesOn, Touching, firstRead, afterCopy, Accessed, accessTick, Checked, againRead}
 use Rattle.transactions.specs.Commits.{Gathered, commitBy, Committed, committedBy}
@@ -18,11 +18,11 @@ use Rattle.exchanges.specs.declared.exchange.Step.{Step}
 use Rattle.exchanges.specs.declared.exchange.Step.the-variants.{Start}
 use Rattle.statements.specs.declared.step.Exchanging.{Exchanging}
 use Rattle.statements.specs.declared.step.Exchanging.the-variants.{At, No}
-use Rattle.transactions.specs.declared.job.Inner.{Inner}
-use Rattle.transactions.specs.declared.job.Inner.the-variants.{Between, First, Copying, Again, Committing}
-use Rattle.transactions.specs.declared.job.Phase.{Phase}
-use Rattle.transactions.specs.declared.job.Phase.the-variants as P
-use Rattle.transactions.specs.declared.job.Job.{Job}
+use Rattle.jobs.specs.declared.Inner.{Inner}
+use Rattle.jobs.specs.declared.Inner.the-variants.{Between, First, Copying, Again, Committing}
+use Rattle.jobs.specs.declared.Phase.{Phase}
+use Rattle.jobs.specs.declared.Phase.the-variants as P
+use Rattle.jobs.specs.declared.Job.{Job}
 
 pub record Arrays : Type 0 where
   pub cells : List ℕ

@@ -7,11 +7,10 @@ ghost use Rattle.commands.specs.Stages.{commandOf, widthOf};
 ghost use Rattle.statements.specs.Statements.{arrays, turn, betweenBy, betweenTick, insideTick};
 use commands::Opcode;
 use exchanges::read;
+use jobs::Inner;
+use jobs::Job;
 use transactions::accesses;
 use transactions::commits;
-use transactions::job;
-use transactions::job::Inner;
-use transactions::job::Job;
 
 // The command of a byte, its operands starting at a place, inside a transaction; the sheet check lets no other command stand there.
 fn inner_command(
@@ -42,23 +41,23 @@ fn inner_command(
     match b {
         // LOAD
         0x10 => {
-            job::set_register(
+            jobs::set_register(
                 &mut *registers,
                 p,
                 commands::byte(sheet, at),
                 commands::value4(sheet, at + 1),
             );
-            return accesses::goes_on(job::moved_to(job, at + 5));
+            return accesses::goes_on(jobs::moved_to(job, at + 5));
         }
         // ADD
         0x11 => {
-            job::add(
+            jobs::add(
                 &mut *registers,
                 p,
                 commands::byte(sheet, at),
                 commands::byte(sheet, at + 1),
             );
-            return accesses::goes_on(job::moved_to(job, at + 2));
+            return accesses::goes_on(jobs::moved_to(job, at + 2));
         }
         // GET and PUT
         0x21..=0x22 => {
@@ -72,7 +71,7 @@ fn inner_command(
                 &mut *kinds,
                 &mut *remembered,
                 p,
-                job::moved_to(job, at + 3),
+                jobs::moved_to(job, at + 3),
                 commands::access_of(sheet, at, b),
             );
         }
@@ -90,7 +89,7 @@ fn inner_command(
                 &*remembered,
                 &mut *counts,
                 p,
-                job::moved_to(job, at),
+                jobs::moved_to(job, at),
             );
         }
         _ => {

@@ -4,18 +4,17 @@ ghost use Prim.Native.Nat.{_+_, _≤_};
 ghost use lib.ListN.{length};
 ghost use Rattle.model.specs.Command.{found};
 ghost use Rattle.commands.specs.Stages.{commandOf, widthOf};
-ghost use Rattle.transactions.specs.Jobs.{entries};
+ghost use Rattle.jobs.specs.Jobs.{entries};
 ghost use Rattle.statements.specs.Statements.{arrays, turn, paired, plainBy, plainTick};
 use commands::Opcode;
 use exchanges::exchange;
 use exchanges::places;
 use exchanges::read;
 use exchanges::read::Reading;
+use jobs::Inner;
+use jobs::Job;
+use jobs::Phase;
 use transactions::accesses;
-use transactions::job;
-use transactions::job::Inner;
-use transactions::job::Job;
-use transactions::job::Phase;
 
 // PAIR records both values.
 fn pair(
@@ -35,7 +34,7 @@ fn pair(
 {
     let o = places::slot(p, old);
     let w = places::slot(p, new);
-    job::enter(
+    jobs::enter(
         &mut *names,
         &mut *olds,
         &mut *news,
@@ -78,35 +77,35 @@ fn plain_command(
     match b {
         // LOAD
         0x10 => {
-            job::set_register(
+            jobs::set_register(
                 &mut *registers,
                 p,
                 commands::byte(sheet, at),
                 commands::value4(sheet, at + 1),
             );
-            return job::done(sheet, &mut *counts, p, at + 5, job.pairs);
+            return jobs::done(sheet, &mut *counts, p, at + 5, job.pairs);
         }
         // ADD
         0x11 => {
-            job::add(
+            jobs::add(
                 &mut *registers,
                 p,
                 commands::byte(sheet, at),
                 commands::byte(sheet, at + 1),
             );
-            return job::done(sheet, &mut *counts, p, at + 2, job.pairs);
+            return jobs::done(sheet, &mut *counts, p, at + 2, job.pairs);
         }
         // READ
         0x12 => {
             let register = commands::byte(sheet, at);
             let word = commands::byte(sheet, at + 1);
             let read = read::read_tick(cells, &*status, saves, places::wide(word), Reading::Load);
-            return job::read_by(
+            return jobs::read_by(
                 sheet,
                 &mut *registers,
                 &mut *counts,
                 p,
-                job::moved_to(job, at + 2),
+                jobs::moved_to(job, at + 2),
                 register,
                 word,
                 read,
@@ -127,19 +126,19 @@ fn plain_command(
                 commands::byte(sheet, at + 1),
                 commands::byte(sheet, at + 2),
             );
-            return job::done(sheet, &mut *counts, p, at + 3, places::next(job.pairs));
+            return jobs::done(sheet, &mut *counts, p, at + 3, places::next(job.pairs));
         }
         // SWAP
         0x14 => {
             let register = commands::byte(sheet, at);
             let step = exchange::start(&mut *status, p);
-            return job::in_phase(job::moved_to(job, at + 1), Phase::Exchange(register, step));
+            return jobs::in_phase(jobs::moved_to(job, at + 1), Phase::Exchange(register, step));
         }
         // BEGIN
         0x20 => {
-            job::copy(&mut *kept, &*registers, p);
+            jobs::copy(&mut *kept, &*registers, p);
             accesses::clear(&mut *kinds, p);
-            return job::job_at(Phase::Transaction(Inner::Between), at, 0);
+            return jobs::job_at(Phase::Transaction(Inner::Between), at, 0);
         }
         _ => {
             return job;

@@ -7,11 +7,10 @@ use exchanges::exchange;
 use exchanges::exchange::Step;
 use exchanges::places;
 use exchanges::read;
+use jobs::Inner;
+use jobs::Job;
+use jobs::Phase;
 use transactions::commits;
-use transactions::job;
-use transactions::job::Inner;
-use transactions::job::Job;
-use transactions::job::Phase;
 
 // Whether a job is at a step of an exchange, of SWAP or of COMMIT.
 pub enum Exchanging {
@@ -89,7 +88,7 @@ fn other(
         }
         Phase::Read(register, word, step) => {
             let read = read::read_tick(cells, &*status, saves, places::wide(word), step);
-            return job::read_by(
+            return jobs::read_by(
                 sheet,
                 &mut *registers,
                 &mut *counts,
@@ -170,7 +169,7 @@ pub fn step(
             step,
         );
         if let Phase::Exchange(register, _) = phase {
-            return job::swap_by(
+            return jobs::swap_by(
                 sheet,
                 &mut *registers,
                 &mut *counts,

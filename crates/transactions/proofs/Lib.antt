@@ -1,2 +1,1 @@
-pub mod BodyBytes
 pub mod Walks

@@ -8,15 +8,15 @@ use Rattle.commands.specs.declared.Access.{Access}
 use Rattle.commands.specs.declared.Access.the-variants.{Get, Put}
 use Rattle.exchanges.specs.Places.{if, nextOf, Went, went}
 use Rattle.exchanges.specs.Reading.{afterReading}
-use Rattle.transactions.specs.Jobs.{job, jobAt, inPhase, copied}
+use Rattle.jobs.specs.Jobs.{job, jobAt, inPhase, copied}
 use Rattle.transactions.specs.Blocks.{bankOf, namedBlock, cleared}
 use Rattle.exchanges.specs.declared.read.Reading.the-variants.{Load}
 use Rattle.exchanges.specs.declared.read.Read.{Read}
 use Rattle.exchanges.specs.declared.read.Read.the-variants.{Reads, Gives}
-use Rattle.transactions.specs.declared.job.Inner.{Inner}
-use Rattle.transactions.specs.declared.job.Inner.the-variants.{Between, First, Copying, Again}
-use Rattle.transactions.specs.declared.job.Phase.the-variants.{Transaction}
-use Rattle.transactions.specs.declared.job.Job.{Job}
+use Rattle.jobs.specs.declared.Inner.{Inner}
+use Rattle.jobs.specs.declared.Inner.the-variants.{Between, First, Copying, Again}
+use Rattle.jobs.specs.declared.Phase.the-variants.{Transaction}
+use Rattle.jobs.specs.declared.Job.{Job}
 
 abbrev pub inner : Job → Inner → Job
 inner j s = inPhase j (Transaction s)

@@ -7,7 +7,7 @@ use Rattle.model.specs.Lists.{at, replace}
 use Rattle.commands.specs.declared.Access.{Access}
 use Rattle.commands.specs.declared.Access.the-variants.{Get, Put}
 use Rattle.exchanges.specs.Places.{if, nextOf}
-use Rattle.transactions.specs.Jobs.{Entries, entries, entered}
+use Rattle.jobs.specs.Jobs.{Entries, entries, entered}
 
 -- the cell of a block's bank word
 abbrev pub bankOf : ℕ → ℕ

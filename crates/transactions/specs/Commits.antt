@@ -3,15 +3,15 @@ use Prim.Native.Nat.{ℕ, _*_}
 use mathlib.Core.Bool.{Bool, true, false}
 use mathlib.Core.List.{List}
 use Rattle.exchanges.specs.Places.{if, Went, went}
-use Rattle.transactions.specs.Jobs.{job, jobAt, withValue, counted, afterDone, Entries, entries}
+use Rattle.jobs.specs.Jobs.{job, jobAt, withValue, counted, afterDone, Entries, entries}
 use Rattle.transactions.specs.Blocks.{untouchedFrom, spentFrom, Gathering, gathering, gatheredTo, takenTo}
 use Rattle.transactions.specs.Accesses.{inner, Checked, restarted}
 use Rattle.exchanges.specs.declared.exchange.Step.the-variants.{Start, Save}
 use Rattle.exchanges.specs.declared.exchange.Exchanged.{Exchanged}
 use Rattle.exchanges.specs.declared.exchange.Exchanged.the-variants.{Goes, Finds, Ends}
-use Rattle.transactions.specs.declared.job.Inner.the-variants.{Committing}
-use Rattle.transactions.specs.declared.job.Phase.the-variants.{Idle, Transaction}
-use Rattle.transactions.specs.declared.job.Job.{Job}
+use Rattle.jobs.specs.declared.Inner.the-variants.{Committing}
+use Rattle.jobs.specs.declared.Phase.the-variants.{Idle, Transaction}
+use Rattle.jobs.specs.declared.Job.{Job}
 
 pub record Gathered : Type 0 where
   pub job : Job

@@ -1,4 +1,3 @@
-pub mod Jobs
 pub mod Blocks
 pub mod Accesses
 pub mod Commits

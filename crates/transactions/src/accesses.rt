@@ -2,18 +2,17 @@
 ghost use mathlib.Core.Path.{_≡_};
 ghost use Prim.Native.Nat.{_+_, _*_, _<_};
 ghost use Rattle.exchanges.specs.Places.{went};
-ghost use Rattle.transactions.specs.Jobs.{inPhase};
+ghost use Rattle.jobs.specs.Jobs.{inPhase};
 ghost use Rattle.transactions.specs.Blocks.{bankOf, namedBlock, cleared};
 ghost use Rattle.transactions.specs.Accesses.{goesOn, touching, firstRead, storeFor, gotBy, afterCopy, afterPut, accessed, accessTick, checked, restarted, checkedBy, againRead};
-use crate::job;
-use crate::job::Inner;
-use crate::job::Job;
-use crate::job::Phase;
 use commands::Access;
 use exchanges::places;
 use exchanges::read;
 use exchanges::read::Read;
 use exchanges::read::Reading;
+use jobs::Inner;
+use jobs::Job;
+use jobs::Phase;
 
 // The cell of a block's bank word.
 pub fn bank(block: u8) -> usize
@@ -43,7 +42,7 @@ pub fn block(access: Access) -> u8
 pub fn inner(job: Job, step: Inner) -> Job
     ensures { λ r. ⌜ r ≡ inPhase job (Phase.Transaction step) ⌝ }
 {
-    job::in_phase(job, Phase::Transaction(step))
+    jobs::in_phase(job, Phase::Transaction(step))
 }
 
 // The next command of the transaction.
@@ -249,9 +248,9 @@ pub fn restart(
 ) -> Job
     ensures { λ r. ⌜ checked r (now (registers .exit)) (now (kinds .exit)) ≡ restarted (now (registers .entry)) (now (kept .entry)) (now (kinds .entry)) p job ⌝ }
 {
-    job::copy(&mut *registers, kept, p);
+    jobs::copy(&mut *registers, kept, p);
     clear(&mut *kinds, p);
-    job::job_at(Phase::Transaction(Inner::Between), job.begin, 0)
+    jobs::job_at(Phase::Transaction(Inner::Between), job.begin, 0)
 }
 
 // The version read again is the remembered one.
@@ -271,7 +270,7 @@ fn check(
             block: _,
             offset: _,
         } => {
-            job::set_register(&mut *registers, p, register, value);
+            jobs::set_register(&mut *registers, p, register, value);
             return goes_on(job);
         }
         Access::Put {

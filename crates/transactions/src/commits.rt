@@ -4,13 +4,12 @@ ghost use Prim.Native.Nat.{_+_, _*_, _<_};
 ghost use Rattle.transactions.specs.Blocks.{untouchedFrom, isSpent, spentFrom, newBank, gathering, gatheredOne, gatheredTo, takenOne, takenTo};
 ghost use Rattle.transactions.specs.Commits.{gathered, commitBy, committed, committedBy};
 use crate::accesses;
-use crate::job;
-use crate::job::Inner;
-use crate::job::Job;
-use crate::job::Phase;
 use exchanges::exchange::Exchanged;
 use exchanges::exchange::Step;
 use exchanges::places;
+use jobs::Inner;
+use jobs::Job;
+use jobs::Phase;
 
 fn untouched(kinds: &[u8; 128], p: u8) -> bool
     ensures { λ r. ⌜ r ≡ untouchedFrom 16 (now (kinds .entry)) (16 * p) ⌝ }
@@ -85,7 +84,7 @@ fn gather_one(
         return n;
     }
     let bank = memory::u32_at(remembered, s);
-    job::enter(
+    jobs::enter(
         &mut *names,
         &mut *olds,
         &mut *news,
@@ -152,11 +151,11 @@ pub fn commit(
     ensures { λ r. ⌜ gathered r (now (names .exit)) (now (olds .exit)) (now (news .exit)) (now (inits .exit)) (now (overlapped .exit)) (now (counts .exit)) ≡ commitBy (now (sheet .entry)) (now (copies .entry)) (now (names .entry)) (now (olds .entry)) (now (news .entry)) (now (inits .entry)) (now (overlapped .entry)) (now (kinds .entry)) (now (remembered .entry)) (now (counts .entry)) p job ⌝ }
 {
     if untouched(kinds, p) {
-        return job::done(sheet, &mut *counts, p, job.next, 0);
+        return jobs::done(sheet, &mut *counts, p, job.next, 0);
     }
     if spent(kinds, remembered, p) {
-        job::count(&mut *counts, p, 1);
-        return job::job_at(Phase::Idle, job.next, 0);
+        jobs::count(&mut *counts, p, 1);
+        return jobs::job_at(Phase::Idle, job.next, 0);
     }
     let n = gather(
         copies,
@@ -226,13 +225,13 @@ pub fn committed_by(
         Exchanged::Ends(yes) => {
             if yes {
                 take_back(&mut *copies, &*kinds, remembered, p);
-                return job::done(sheet, &mut *counts, p, job.next, 0);
+                return jobs::done(sheet, &mut *counts, p, job.next, 0);
             }
-            job::count(&mut *counts, p, 2);
+            jobs::count(&mut *counts, p, 2);
             return accesses::restart(&mut *registers, kept, &mut *kinds, p, job);
         }
         Exchanged::Finds(found) => {
-            return job::with_value(
+            return jobs::with_value(
                 job,
                 Phase::Transaction(Inner::Committing(Step::Save(found.i))),
                 found.value,

@@ -1,4 +1,3 @@
-// Jobs, and the statements of a transaction.
+// The statements of a transaction: GET, PUT and COMMIT.
 pub mod accesses;
 pub mod commits;
-pub mod job;

@@ -12,9 +12,9 @@ use Rattle.exchanges.specs.declared.read.Read.the-variants.{Reads, Gives}
 use Rattle.exchanges.specs.declared.exchange.Exchanged.{Exchanged}
 use Rattle.exchanges.specs.declared.exchange.Exchanged.the-variants.{Goes, Finds, Ends}
 use Rattle.exchanges.specs.declared.exchange.Step.the-variants.{Save}
-use Rattle.transactions.specs.declared.job.Phase.{Phase}
-use Rattle.transactions.specs.declared.job.Phase.the-variants as P
-use Rattle.transactions.specs.declared.job.Job.{Job}
+use Rattle.jobs.specs.declared.Phase.{Phase}
+use Rattle.jobs.specs.declared.Phase.the-variants as P
+use Rattle.jobs.specs.declared.Job.{Job}
 
 abbrev pub job : Phase → ℕ → ℕ → ℕ → ℕ → ℕ → ℕ → Job
 job f v a n b k u = record { phase = f; value = v; at = a; next = n; begin = b; pairs = k; used = u }

@@ -1,8 +1,8 @@
 -- `read_by` meets its contract.
-use Rattle.transactions.specs.Jobs.{readBy}
+use Rattle.jobs.specs.Jobs.{readBy}
 use borrow.Author.Needs.{needs}
-use Rattle.transactions.proofs.job.read_by.Statement.{statement}
-use Rattle.transactions.proofs.job.read_by.Tie as tie
+use Rattle.jobs.proofs.read_by.Statement.{statement}
+use Rattle.jobs.proofs.read_by.Tie as tie
 
 enum-known-read : tie.Need-enum-known-read
 enum-known-read c = search needs

@@ -1,8 +1,8 @@
 -- `swap_by` meets its contract.
-use Rattle.transactions.specs.Jobs.{swapBy}
+use Rattle.jobs.specs.Jobs.{swapBy}
 use borrow.Author.Needs.{needs}
-use Rattle.transactions.proofs.job.swap_by.Statement.{statement}
-use Rattle.transactions.proofs.job.swap_by.Tie as tie
+use Rattle.jobs.proofs.swap_by.Statement.{statement}
+use Rattle.jobs.proofs.swap_by.Tie as tie
 
 enum-known-exchanged : tie.Need-enum-known-exchanged
 enum-known-exchanged c = search needs

@@ -4,7 +4,7 @@ ghost use Prim.Native.Nat.{_+_, _*_};
 ghost use Rattle.model.specs.Lists.{replace};
 ghost use Rattle.model.specs.Command.{commandAt};
 ghost use Rattle.exchanges.specs.Places.{went};
-ghost use Rattle.transactions.specs.Jobs.{inBody, jobAt, movedTo, inPhase, withValue, counted, added, copied, afterDone, answered, afterGiving, readBy, swapBy, entries, entered};
+ghost use Rattle.jobs.specs.Jobs.{inBody, jobAt, movedTo, inPhase, withValue, counted, added, copied, afterDone, answered, afterGiving, readBy, swapBy, entries, entered};
 use commands::Access;
 use commands::Opcode;
 use exchanges::exchange::Exchanged;

@@ -1,7 +1,7 @@
 -- `set_register` meets its contract.
 use borrow.Author.Needs.{needs}
-use Rattle.transactions.proofs.job.set_register.Statement.{statement}
-use Rattle.transactions.proofs.job.set_register.Tie as tie
+use Rattle.jobs.proofs.set_register.Statement.{statement}
+use Rattle.jobs.proofs.set_register.Tie as tie
 
 slot-requires : tie.Need-slot-requires
 slot-requires c κs = search needs

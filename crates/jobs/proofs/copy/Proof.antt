@@ -1,12 +1,12 @@
 -- `copy` meets its contract.
 use borrow.Author.Needs.{needs}
-use Rattle.transactions.specs.Jobs.{copied}
+use Rattle.jobs.specs.Jobs.{copied}
 use Prim.Native.Nat.{ℕ, _≤_, _-_, _+_}
 use mathlib.Core.Path.{_≡_, refl}
 use native.Mathlib.Numerals.{add-one}
 use native.Mathlib.Omega.{arith}
-use Rattle.transactions.proofs.job.copy.Statement.{statement}
-use Rattle.transactions.proofs.job.copy.Tie as tie
+use Rattle.jobs.proofs.copy.Statement.{statement}
+use Rattle.jobs.proofs.copy.Tie as tie
 
 abbrev Inv-loop : tie.InvT-loop
 Inv-loop to₀ from p n₀ to n = (n ≤ 8) × (to ≡ copied n to₀ from p)

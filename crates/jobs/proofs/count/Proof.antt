@@ -1,8 +1,8 @@
 -- `count` meets its contract.
-use Rattle.transactions.specs.Jobs.{counted}
+use Rattle.jobs.specs.Jobs.{counted}
 use borrow.Author.Needs.{needs}
-use Rattle.transactions.proofs.job.count.Statement.{statement}
-use Rattle.transactions.proofs.job.count.Tie as tie
+use Rattle.jobs.proofs.count.Statement.{statement}
+use Rattle.jobs.proofs.count.Tie as tie
 
 quarter-requires : tie.Need-quarter-requires
 quarter-requires c κs = search needs

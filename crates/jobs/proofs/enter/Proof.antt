@@ -1,8 +1,8 @@
 -- `enter` meets its contract.
-use Rattle.transactions.specs.Jobs.{entered}
+use Rattle.jobs.specs.Jobs.{entered}
 use borrow.Author.Needs.{needs}
-use Rattle.transactions.proofs.job.enter.Statement.{statement}
-use Rattle.transactions.proofs.job.enter.Tie as tie
+use Rattle.jobs.proofs.enter.Statement.{statement}
+use Rattle.jobs.proofs.enter.Tie as tie
 
 slot-requires : tie.Need-slot-requires
 slot-requires c κs = search needs

@@ -1,8 +1,8 @@
 -- `add` meets its contract.
-use Rattle.transactions.specs.Jobs.{added}
+use Rattle.jobs.specs.Jobs.{added}
 use borrow.Author.Needs.{needs}
-use Rattle.transactions.proofs.job.add.Statement.{statement}
-use Rattle.transactions.proofs.job.add.Tie as tie
+use Rattle.jobs.proofs.add.Statement.{statement}
+use Rattle.jobs.proofs.add.Tie as tie
 
 slot-requires : tie.Need-slot-requires
 slot-requires c κs = search needs
