@@ -51,15 +51,15 @@ hit-kept {u} {h} {h′} {p} {word} step e i = go (carried step (i .by) (i .began
     go (kept is) = with-other (i .other) is refl refl
     go (amended other is m) = with-other other is (m .task) (m .arguments)
 
-module _ {u : ℕ} {ts : List Task} {h : History} (l : Linked u ts h) (p q : ℕ) (lower : p < q) (inside : Inside (givenTo ts p)) (above : Inside (givenTo ts q)) where
-  -- what hits a task's operation hits the open one of a lower task
+module _ {u : ℕ} {ts : List Task} {h : History} (l : Linked u ts h) (p q : ℕ) (later : latestOf h p < latestOf h q) (inside : Inside (givenTo ts p)) (above : Inside (givenTo ts q)) where
+  -- what hits a task's operation hits an open one that began before it
   pub hit-lower : (word : ℕ) → Hit h q word → Hit h p word
   hit-lower word i = record {
     by = i .by;
     other = i .other;
     began = i .began;
-    higher = omega (arith, i .higher);
-    after = omega (arith, i .after, l .nested p q lower inside above);
+    higher = omega (arith, i .higher, l .rising p q inside above later);
+    after = omega (arith, i .after);
     pairs = i .pairs;
     is = i .is;
     changing = i .changing;
@@ -68,14 +68,14 @@ module _ {u : ℕ} {ts : List Task} {h : History} (l : Linked u ts h) (p q : ℕ
     differs = i .differs;
   }
 
-  -- an open exchange hits the open operations of lower tasks on the words that it changes
+  -- an open exchange hits the open operations that began before it, on the words that it changes
   pub hit-by : {ps : List Pair} {yes? : Bool} → Open h q (swapOf ps) yes? → (changing : Pair) → Among changing ps → changing .old ≢ changing .new → Hit h p (changing .word)
   hit-by {ps} o changing i ne = record {
     by = latestOf h q;
     other = o .operation;
     began = o .is;
-    higher = rw (o .task) lower;
-    after = l .nested p q lower inside above;
+    higher = rw (o .task) (l .rising p q inside above later);
+    after = later;
     pairs = ps;
     is = o .arguments;
     changing = changing;

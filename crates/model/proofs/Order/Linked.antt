@@ -1,5 +1,5 @@
 -- History and machine: a task inside an operation is inside its latest one, which is open and has that task and those arguments;
--- of two such tasks the higher one's operation began later.
+-- no two of these operations began in one tick, and the later begun is a higher task's.
 use Prim.Native.Nat.{ℕ, suc, _<_, _≤_}
 use mathlib.Core.Bool.{Bool, true, false, true≢false}
 use mathlib.Core.Path.{_≡_, refl, sym, _∙_}
@@ -48,7 +48,8 @@ pub record Linked (u : ℕ) (ts : List Task) (h : History) : Type 0 where
   pub latest : length (h .latest) ≡ 8
   pub past : (p : ℕ) → latestOf h p ≤ u
   pub opened : (p : ℕ) → OpenBy h p (givenTo ts p) (hasCommitted (taskAt ts p .phase))
-  pub nested : (p q : ℕ) → p < q → Inside (givenTo ts p) → Inside (givenTo ts q) → latestOf h p < latestOf h q
+  pub apart : (p q : ℕ) → p ≢ q → Inside (givenTo ts p) → Inside (givenTo ts q) → latestOf h p ≢ latestOf h q
+  pub rising : (p q : ℕ) → Inside (givenTo ts p) → Inside (givenTo ts q) → latestOf h p < latestOf h q → p < q
 
 -- AN OPEN OPERATION AMENDED
 module _ {h : History} {p : ℕ} {a : Arguments} where

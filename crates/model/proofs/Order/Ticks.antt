@@ -39,7 +39,8 @@ linked-arrived a l = record {
   latest = l .latest;
   past = l .past;
   opened = λ p. rw (given-arrived (a .task p), committed-arrived (a .task p)) (l .opened p);
-  nested = λ p q lt i j. l .nested p q lt (rw (given-arrived (a .task p)) at i) (rw (given-arrived (a .task q)) at j);
+  apart = λ p q ne i j. l .apart p q ne (rw (given-arrived (a .task p)) at i) (rw (given-arrived (a .task q)) at j);
+  rising = λ p q i j lt. l .rising p q (rw (given-arrived (a .task p)) at i) (rw (given-arrived (a .task q)) at j) lt;
 }
 
 -- an operation that stays as it is stays open
@@ -71,17 +72,17 @@ module _ {u p : ℕ} {ts : List Task} {h h′ : History} (r : Highest ts p) (l :
   above-outside : (q : ℕ) → p < q → Inside (givenTo ts q) → ⊥
   above-outside q lt i = rw (above-idle r q lt) at i
 
-  -- a lower task's latest operation is another one
-  lower-apart : (q : ℕ) → q ≢ p → Inside (givenTo ts q) → Inside (givenTo ts p) → latestOf h q ≢ latestOf h p
-  lower-apart q ne i j = go (decLt q p)
+  -- of the open operations that of the task that runs began last
+  pub last-begun : (q : ℕ) → q ≢ p → Inside (givenTo ts q) → Inside (givenTo ts p) → latestOf h q < latestOf h p
+  last-begun q ne i j = go (decLt (latestOf h p) (latestOf h q))
     where
-      go : Dec (q < p) → latestOf h q ≢ latestOf h p
-      go (yes lt) = λ e. omega (arith, l .nested q p lt i j)
-      go (no gt) = absurd (above-outside q (omega arith) i)
+      go : Dec (latestOf h p < latestOf h q) → latestOf h q < latestOf h p
+      go (yes lt) = absurd (above-outside q (l .rising p q j i lt) i)
+      go (no gt) = let d = l .apart q p ne i j in omega arith
 
-  -- and stays as it is
+  -- the others are other ones
   pub other-operation : (q : ℕ) → q ≢ p → Inside (givenTo ts q) → operationAt h′ (latestOf h′ q) ≡ operationAt h (latestOf h q)
-  other-operation q ne i = rw (n .other q ne) (n .else (latestOf h q) (let k = latest-below l q i in omega arith) (lower-apart q ne i))
+  other-operation q ne i = rw (n .other q ne) (n .else (latestOf h q) (let k = latest-below l q i in omega arith) (λ j. l .apart q p ne i j))
 
   other-given : (q : ℕ) → q ≢ p → givenTo ts′ q ≡ givenTo ts q
   other-given q ne = rw (replace-other noTask ts p q t′ ne) refl
@@ -93,22 +94,39 @@ module _ {u p : ℕ} {ts : List Task} {h h′ : History} (r : Highest ts p) (l :
   opened′ q = same? q p
       (λ e. rw (e, replace-same noTask ts p t′ (r .below)) (n .mine))
       (λ ne. rw (replace-other noTask ts p q t′ ne) (open-kept h h′ q (givenTo ts q) (hasCommitted (taskAt ts q .phase)) (n .other q ne)
-      (λ i. n .else (latestOf h q) (let k = latest-below l q i in omega arith) (lower-apart q ne i)) (l .opened q)))
+      (λ i. n .else (latestOf h q) (let k = latest-below l q i in omega arith) (λ j. l .apart q p ne i j)) (l .opened q)))
 
-  nested′ : (q s : ℕ) → q < s → Inside (givenTo ts′ q) → Inside (givenTo ts′ s) → latestOf h′ q < latestOf h′ s
-  nested′ q s lt i j = same? s p
-      (λ e. let ne : q ≢ p = omega arith in rw (e, n .other q ne) (top ne (rw (other-given q ne) at i) (n .since (rw (e, here-given) at j))))
+  -- another task's operation began before p's
+  before-own : (q : ℕ) → q ≢ p → Inside (givenTo ts q) → Inside (givenTo ts p) ⊎ (latestOf h′ p ≡ u) → latestOf h q < latestOf h′ p
+  before-own q ne i (inl k) = rw (n .stays k) (last-begun q ne i k)
+  before-own q ne i (inr e) = rw e (latest-below l q i)
+
+  own-later : (q : ℕ) → q ≢ p → Inside (givenTo ts′ q) → Inside (givenTo ts′ p) → latestOf h′ q < latestOf h′ p
+  own-later q ne i j = rw (n .other q ne) (before-own q ne (rw (other-given q ne) at i) (n .since (rw here-given at j)))
+
+  apart′ : (q s : ℕ) → q ≢ s → Inside (givenTo ts′ q) → Inside (givenTo ts′ s) → latestOf h′ q ≢ latestOf h′ s
+  apart′ q s d i j = same? s p
+      (λ e. let k = own-later q (λ z. d (z ∙ sym e)) i (rw e at j) in rw e (omega arith))
       (λ ne. same? q p
-      (λ e. absurd (above-outside s (omega arith) (rw (other-given s ne) at j)))
-      (λ k. rw (n .other q k, n .other s ne) (l .nested q s lt (rw (other-given q k) at i) (rw (other-given s ne) at j))))
+      (λ e. let k = own-later s ne j (rw e at i) in rw e (omega arith))
+      (λ k. rw (n .other q k, n .other s ne) (l .apart q s d (rw (other-given q k) at i) (rw (other-given s ne) at j))))
+
+  -- a lower task than the one that runs
+  lower : (q : ℕ) → q ≢ p → Inside (givenTo ts q) → q < p
+  lower q ne i = go (decLt q p)
     where
-      top : q ≢ p → Inside (givenTo ts q) → Inside (givenTo ts p) ⊎ (latestOf h′ p ≡ u) → latestOf h q < latestOf h′ p
-      top ne i (inl k) = rw (n .stays k) (go (decLt q p))
-        where
-          go : Dec (q < p) → latestOf h q < latestOf h p
-          go (yes lt) = l .nested q p lt i k
-          go (no gt) = absurd (above-outside q (omega arith) i)
-      top ne i (inr e) = rw e (latest-below l q i)
+      go : Dec (q < p) → q < p
+      go (yes lt) = lt
+      go (no gt) = absurd (above-outside q (omega arith) i)
+
+  rising′ : (q s : ℕ) → Inside (givenTo ts′ q) → Inside (givenTo ts′ s) → latestOf h′ q < latestOf h′ s → q < s
+  rising′ q s i j lt = same? s p
+      (λ e. same? q p
+      (λ z. absurd (let k : latestOf h′ p < latestOf h′ p = rw (e, z) at lt in omega arith))
+      (λ ne. rw e (lower q ne (rw (other-given q ne) at i))))
+      (λ ne. same? q p
+      (λ e. absurd (let k = own-later s ne j (rw e at i) in let g : latestOf h′ p < latestOf h′ s = rw e at lt in omega arith))
+      (λ k. l .rising q s (rw (other-given q k) at i) (rw (other-given s ne) at j) (rw (n .other q k, n .other s ne) at lt)))
 
   past′ : (q : ℕ) → latestOf h′ q ≤ suc u
   past′ q = same? q p (λ e. rw e (go (n .own))) (λ ne. rw (n .other q ne) (omega (arith, l .past q)))
@@ -118,7 +136,7 @@ module _ {u p : ℕ} {ts : List Task} {h h′ : History} (r : Highest ts p) (l :
       go (inr e) = omega arith
 
   pub linked-runs : Linked (suc u) ts′ h′
-  linked-runs = record { size = n .size; latest = n .latest; past = past′; opened = opened′; nested = nested′ }
+  linked-runs = record { size = n .size; latest = n .latest; past = past′; opened = opened′; apart = apart′; rising = rising′ }
 
 -- THE MACHINE with its history
 pub record MachineLinked (m : Machine) (h : History) : Type 0 where
@@ -149,7 +167,8 @@ module _ {m : Machine} {h : History} (g : MachineLinked m h) where
       latest = latest-size (m .now) 0 h (g .linked .size) nothing ∙ g .linked .latest;
       past = λ q. rw (latest-nothing (m .now) 0 h (g .linked .size) q) (omega (arith, g .linked .past q));
       opened = λ q. rw (none-runs (m .tasks) e q) tt;
-      nested = λ q s lt i j. absurd (rw (none-runs (m .tasks) e q) at i);
+      apart = λ q s d i j. absurd (rw (none-runs (m .tasks) e q) at i);
+      rising = λ q s i j lt. absurd (rw (none-runs (m .tasks) e q) at i);
     };
   }
   move-linked (running p) e =
@@ -193,7 +212,8 @@ module _ {m : Machine} (s : Started m) where
       latest = refl;
       past = λ p. let z = no-latest 8 p in omega arith;
       opened = λ p. rw (s .idle p) tt;
-      nested = λ p q lt i j. absurd (rw (s .idle p) at i);
+      apart = λ p q d i j. absurd (rw (s .idle p) at i);
+      rising = λ p q i j lt. absurd (rw (s .idle p) at i);
     };
   }
   machine-linked (suc t) = rw (state-next m t, history-next m t) (move-linked (arrive-linked (arrived-at m t) (machine-linked t)) (runningOf (arrivedAt m t .tasks)) refl)

@@ -28,7 +28,7 @@ use Rattle.model.proofs.Order.Arrive.{none-runs}
 use Rattle.model.proofs.Order.Ticks.{arrived-at, arrived-now, arrived-linked}
 use Rattle.model.proofs.Order.Start.{started, firstStore, wordCells, bankCells, start-cells, start-memory}
 use Rattle.model.proofs.Run.Acts.{actsOf, act-at}
-use Rattle.model.proofs.Run.State.{Holds, holds-arrived, holds-runs}
+use Rattle.model.proofs.Run.State.{Holds, invariant-again, holds-arrived, holds-runs}
 use Rattle.model.proofs.Run.Latest.{latestOperation}
 
 -- AN IDLE TICK
@@ -40,7 +40,7 @@ module _ {s : Sheet} {values : ℕ → ℕ → ℕ} {u : ℕ} {m : Machine} {h :
   unfolding move
   holds-idle f = record {
     fit = f;
-    invariant = k .invariant;
+    invariant = invariant-again (actsOf (m .tasks)) (λ r b. absurd (b (all-free r))) (k .invariant);
     past = record { pairs = λ p. []; past = past-at-first (actsOf (m .tasks)) all-free };
     transactions = record { owners = k .transactions .owners; task = λ p l. rw (none p) tt };
   }

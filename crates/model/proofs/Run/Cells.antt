@@ -5,7 +5,6 @@ use mathlib.Core.Path.{_≡_, refl, sym, _∙_, ap, subst}
 use mathlib.Core.Logic.{_≢_}
 use mathlib.Core.List.{List, _∷_}
 use mathlib.Core.Option.{Option, none, some}
-use native.Mathlib.Decide.{decLt}
 use native.Mathlib.Omega.{arith}
 use lib.Dec.{eqb}
 use lib.ListN.{length, length-map}
@@ -18,7 +17,6 @@ use Rattle.model.specs.Job.{reading as readingPhase}
 use Rattle.model.specs.Transaction.{bank, blockOf}
 use Rattle.model.specs.Machine.{taskAt}
 use Rattle.model.proofs.Lists.{same?, test?, impossible}
-use Rattle.model.proofs.Fit.Elements.{below?}
 use Rattle.model.proofs.Fit.Memory.{MemoryFit}
 use Rattle.model.proofs.Fit.Exchange.{ExchangeFit, exchange-start}
 use Rattle.model.proofs.Fit.Machine.{OutsideFit, PhaseFit}
@@ -36,16 +34,31 @@ use Rattle.model.proofs.Transactions.Given.{exchangeIn, SaysYes, Cells,
 use Rattle.model.proofs.Transactions.Given.{same as sameCells}
 use Rattle.model.proofs.Transactions.Statement.{JobFit}
 use Rattle.model.proofs.Order.Exchange.{saysYes, says-commit, says-not}
-use Rattle.model.proofs.Fit.Running.{Highest}
-use Rattle.model.proofs.Order.Arrive.{above-idle}
+use Rattle.model.proofs.Order.Moves.{given}
+use Rattle.model.proofs.Order.Linked.{Inside, givenTo}
 use Rattle.model.proofs.Run.Acts.{readAct, actIn, taskAct, actsOf, act-at, ExchangeIn, begins, goes-on, commits, Touches, nothing, loads, looks, exchanges}
 
--- THE ORDER OF URGENCY, now by task number
-abbrev pub below : ℕ → ℕ → Type 0
-below r q = r < q
+-- THE ORDER: `began r` is the tick in which the operation of task r began
+abbrev pub below : (ℕ → ℕ) → ℕ → ℕ → Type 0
+below began r q = began r < began q
 
-pub by-number : Order below
-by-number = record { irreflexive = λ p l. omega arith; transitive = λ p q r l k. omega arith }
+pub by-beginning : (began : ℕ → ℕ) → Order (below began)
+by-beginning began = record { irreflexive = λ p l. omega arith; transitive = λ p q r l k. omega arith }
+
+-- a task does nothing to cells, or is inside an operation
+act-inside? : {P : Type 0} (f : Phase) → (Inside (given f) → P) → (actIn f ≡ free → P) → P
+act-inside? idle f g = g refl
+act-inside? plain f g = g refl
+act-inside? (readingPhase r w s) f g = f tt
+act-inside? (exchanging r x) f g = f tt
+act-inside? (transacting x s) f g = f tt
+
+loaded-inside : (f : Phase) {w : Word} → loadedBy (readingIn f) ≡ some w → Inside (given f)
+loaded-inside idle e = impossible (cc)
+loaded-inside plain e = impossible (cc)
+loaded-inside (readingPhase r w s) e = tt
+loaded-inside (exchanging r x) e = tt
+loaded-inside (transacting x s) e = tt
 
 -- THE EXCHANGE AT WORK
 pub record Work (x : Exchange) : Type 0 where
@@ -56,16 +69,18 @@ pub record Work (x : Exchange) : Type 0 where
   pub most : high ≤ 48
 
 -- task p runs on a well formed machine that has the invariant
-pub record Ready (words blocks : ℕ) (m : Memory) (ts : List Task) (p : ℕ) : Type 0 where
+pub record Ready (words blocks : ℕ) (began : ℕ → ℕ) (m : Memory) (ts : List Task) (p : ℕ) : Type 0 where
   pub fewWords : words ≤ 32
   pub fewBlocks : blocks ≤ 16
   pub memory : MemoryFit m
   pub size : length ts ≡ 8
-  pub runs : Highest ts p
+  pub there : p < length ts
+  -- of the tasks inside an operation it is the last to have begun
+  pub last : (q : ℕ) → q ≢ p → Inside (givenTo ts q) → began q < began p
   pub job : JobFit words blocks (taskAt ts p)
-  pub invariant : Invariant below m (actsOf ts)
+  pub invariant : Invariant (below began) m (actsOf ts)
 
-module _ {words blocks : ℕ} {m : Memory} {ts : List Task} {p : ℕ} (R : Ready words blocks m ts p) where
+module _ {words blocks : ℕ} {began : ℕ → ℕ} {m : Memory} {ts : List Task} {p : ℕ} (R : Ready words blocks began m ts p) where
   pub job-as : (g : Phase) → taskAt ts p .phase ≡ g → PhaseFit words blocks (taskAt ts p .copies) (taskAt ts p .commands) (taskAt ts p .pairs) g
   job-as g e = subst (λ (g : Phase). PhaseFit words blocks (taskAt ts p .copies) (taskAt ts p .commands) (taskAt ts p .pairs) g) e (R .job)
 
@@ -80,22 +95,22 @@ module _ {words blocks : ℕ} {m : Memory} {ts : List Task} {p : ℕ} (R : Ready
   room i =
       let w = work i in
       let g = R .memory in
-      let l : p < 8 = omega (arith, R .runs .below, R .size) in
+      let l : p < 8 = omega (arith, R .there, R .size) in
       record { saves = omega (arith, g .saves); places = omega (arith, g .save p l, w .fit .entries .most); cells = λ e h. omega (arith, g .cells, w .fit .entries .below e h, w .most) }
 
   pub distinct : {x : Exchange} → ExchangeIn (taskAt ts p) x → Distinct (x .entries)
   distinct i = work i .fit .entries .different
 
   -- THE SITUATION of a statement
-  rank : (q : ℕ) → Rank below (actsOf ts) p q
-  rank q = same? q p itself (λ ne. below? q p (λ l. lower l) (λ l. idleRank (act-at ts q ∙ ap actIn (above-idle (R .runs) q (omega arith)))))
+  rank : (q : ℕ) → Rank (below began) (actsOf ts) p q
+  rank q = same? q p itself (λ ne. act-inside? (taskAt ts q .phase) (λ i. lower (R .last q ne i)) (λ e. idleRank (act-at ts q ∙ e)))
 
-  pub situation : {v : Act} → actIn (taskAt ts p .phase) ≡ v → Situation below m (actsOf ts) p v
+  pub situation : {v : Act} → actIn (taskAt ts p .phase) ≡ v → Situation (below began) m (actsOf ts) p v
   situation e = record {
-    order = by-number;
+    order = by-beginning began;
     rank = rank;
     act = act-at ts p ∙ e;
-    task = omega (arith, R .runs .below, length-map ts taskAct);
+    task = omega (arith, R .there, length-map ts taskAct);
     sizes = R .memory .status ∙ sym (length-map ts taskAct ∙ R .size);
     invariant = R .invariant;
   }
@@ -157,8 +172,8 @@ module _ (of : ℕ → Type 0) (status : List ℕ) (saves : List (List ℕ)) (ac
   loaded-content (transacting x (committing c)) w e k = nothing-loaded e
 
 -- WHAT THE STATEMENT LEAVES
-module _ {words blocks : ℕ} {m : Memory} {ts : List Task} {p : ℕ} (R : Ready words blocks m ts p) where
-  pub invariant-after : {v v′ : Act} {n : Memory} → actIn (taskAt ts p .phase) ≡ v → Touches p m (taskAt ts p) v n v′ → Invariant below n (replace (actsOf ts) p v′)
+module _ {words blocks : ℕ} {began : ℕ → ℕ} {m : Memory} {ts : List Task} {p : ℕ} (R : Ready words blocks began m ts p) where
+  pub invariant-after : {v v′ : Act} {n : Memory} → actIn (taskAt ts p .phase) ≡ v → Touches p m (taskAt ts p) v n v′ → Invariant (below began) n (replace (actsOf ts) p v′)
   invariant-after e (nothing s) = rw (s .is) (stores-kept (s .stores) (free-kept (situation R e) tt))
   invariant-after e (loads c) = load-kept (situation R e) tt c
   invariant-after e (looks c k q) = rw q (reading-kept c k (situation R e))
@@ -198,14 +213,12 @@ module _ {words blocks : ℕ} {m : Memory} {ts : List Task} {p : ℕ} (R : Ready
       (λ k. exchange-cells x i (e ∙ k))
 
   readings-after : {n : Memory} → Frame p m n → (q : ℕ) → q ≢ p → (w : Word) → loadedBy (readingIn (taskAt ts q .phase)) ≡ some w → SameContent m n w
-  readings-after {n} F q ne w e = go (decLt q p)
-    where
-      go : Dec (q < p) → SameContent m n w
-      go (yes l) =
-          let k : Knows (λ z. below z q) (m .status) (m .saves) (actsOf ts) q (actIn (taskAt ts q .phase)) = subst (λ (v : Act). Knows (λ z. below z q) (m .status) (m .saves) (actsOf ts) q v) (act-at ts q) (R .invariant .knows q) in
-          let c = loaded-content (λ z. below z q) (m .status) (m .saves) (actsOf ts) q (taskAt ts q .phase) w e k in
-          record { value = current-frame F (λ z b d. omega arith) (c .1); counts = own-frame F (λ z b d. omega arith) (c .1) }
-      go (no k) = impossible (cc (rw (above-idle (R .runs) q (omega arith)) at e))
+  readings-after {n} F q ne w e =
+      let l = R .last q ne (loaded-inside (taskAt ts q .phase) e) in
+      let k : Knows (λ z. below began z q) (m .status) (m .saves) (actsOf ts) q (actIn (taskAt ts q .phase)) = subst (λ (v : Act). Knows (λ z. below began z q) (m .status) (m .saves) (actsOf ts) q v) (act-at ts q) (R .invariant .knows q) in
+      let c = loaded-content (λ z. below began z q) (m .status) (m .saves) (actsOf ts) q (taskAt ts q .phase) w e k in
+      let other : (z : ℕ) → below began z q → z ≢ p = λ z b d. let x : began p < began q = rw d at b in omega arith in
+      record { value = current-frame F other (c .1); counts = own-frame F other (c .1) }
 
   pub given-after : {v v′ : Act} {n : Memory} → actIn (taskAt ts p .phase) ≡ v → Touches p m (taskAt ts p) v n v′ → Given p m ts n
   given-after e t = record { cells = cells-after e t; readings = readings-after (frame-after e t) }

@@ -23,7 +23,7 @@ use Rattle.model.proofs.Whole.Grounded.{free-past, load-past, reading-p
 use Rattle.model.proofs.Order.Linked.{givenTo, Linked, Next}
 use Rattle.model.proofs.Run.Acts.{actIn, actsOf, act-at, ExchangeIn, Touches, nothing, loads, looks, exchanges}
 use Rattle.model.proofs.Run.Cells.{below, Ready, situation, room, distinct}
-use Rattle.model.proofs.Run.Past.{Seen, knowledge, passes, sees-now}
+use Rattle.model.proofs.Run.Past.{Seen, knowledge, beganIn, passes, sees-now}
 
 -- the pairs of task p are these from now on
 abbrev pairsBy : Bool → List Entry → List Entry → List Entry
@@ -33,18 +33,18 @@ pairsBy false es old = old
 abbrev pairsWith : ℕ → List Entry → (ℕ → List Entry) → ℕ → List Entry
 pairsWith p es pairs r = pairsBy (eqb r p) es (pairs r)
 
-pub record PastAfter (values : ℕ → ℕ → ℕ) (u : ℕ) (h : History) (m : Memory) (acts : List Act) : Type 0 where
+pub record PastAfter (began : ℕ → ℕ) (values : ℕ → ℕ → ℕ) (u : ℕ) (h : History) (m : Memory) (acts : List Act) : Type 0 where
   pub pairs : ℕ → List Entry
-  pub past : Past below (knowledge values u h pairs) m acts
+  pub past : Past (below began) (knowledge values u h pairs) m acts
 
 module _ {u p words blocks : ℕ} {m : Memory} {ts : List Task} {h h′ : History} {g′ : Option Arguments} {yes? : Bool} {values : ℕ → ℕ → ℕ} {pairs : ℕ → List Entry}
-    (R : Ready words blocks m ts p) (l : Linked u ts h) (n : Next u p h h′ (givenTo ts p) g′ yes?) (now : (c : ℕ) → values u c ≡ currentOf m c) (P : Past below (knowledge values u h pairs) m (actsOf ts)) where
+    (R : Ready words blocks (beganIn u ts h) m ts p) (l : Linked u ts h) (n : Next u p h h′ (givenTo ts p) g′ yes?) (now : (c : ℕ) → values u c ≡ currentOf m c) (P : Past (below (beganIn u ts h)) (knowledge values u h pairs) m (actsOf ts)) where
   pub same-pairs : (x : Exchange) → actIn (taskAt ts p .phase) ≡ exchangingAct x → SamePairs (x .entries) (pairs p)
   same-pairs x e =
-      let k : PastExchange below (knowledge values u h pairs) (m .cells) (m .status) (m .saves) (actsOf ts) p x = subst (λ (v : Act). PastAct below (knowledge values u h pairs) (m .cells) (m .status) (m .saves) (actsOf ts) p v) (act-at ts p ∙ e) (P .knows p) in
+      let k : PastExchange (below (beganIn u ts h)) (knowledge values u h pairs) (m .cells) (m .status) (m .saves) (actsOf ts) p x = subst (λ (v : Act). PastAct (below (beganIn u ts h)) (knowledge values u h pairs) (m .cells) (m .status) (m .saves) (actsOf ts) p v) (act-at ts p ∙ e) (P .knows p) in
       k .pairs
 
-  T : Passes below (actsOf ts) p (knowledge values u h pairs) (knowledge values (suc u) h′ pairs)
+  T : Passes (below (beganIn u ts h)) (actsOf ts) p (knowledge values u h pairs) (knowledge values (suc u) h′ pairs)
   T = passes R l n same-pairs (λ q b. refl)
 
   sees : SeesNow m p (knowledge values (suc u) h′ pairs)
@@ -57,15 +57,15 @@ module _ {u p words blocks : ℕ} {m : Memory} {ts : List Task} {h h′ : Histor
         (λ k. let a : actIn (taskAt ts p .phase) ≡ free = e ∙ rw s in impossible (cc (b .act, ap (actAt (actsOf ts)) k, act-at ts p)))
         (λ ne. rw (ne-eqb q p ne))
 
-    start-passes : Passes below (actsOf ts) p (knowledge values u h pairs) (knowledge values (suc u) h′ (pairsWith p (x .entries) pairs))
+    start-passes : Passes (below (beganIn u ts h)) (actsOf ts) p (knowledge values u h pairs) (knowledge values (suc u) h′ (pairsWith p (x .entries) pairs))
     start-passes = passes R l n same-pairs others-keep
 
-    start-past-after : Past below (knowledge values (suc u) h′ (pairsWith p (x .entries) pairs)) (memoryAfter (exchangeTick p m x (x .step))) (replace (actsOf ts) p (actAfter (exchangeTick p m x (x .step))))
+    start-past-after : Past (below (beganIn u ts h)) (knowledge values (suc u) h′ (pairsWith p (x .entries) pairs)) (memoryAfter (exchangeTick p m x (x .step))) (replace (actsOf ts) p (actAfter (exchangeTick p m x (x .step))))
     start-past-after =
         exchange-past start-passes (sees-now R l n (pairsWith p (x .entries) pairs) now) P x (situation R e) (room R i)
         (λ s. (distinct R i, rw (eq-eqb p p refl) (same-refl (x .entries))))
 
-  pub past-after : {v v′ : Act} {m′ : Memory} → actIn (taskAt ts p .phase) ≡ v → Touches p m (taskAt ts p) v m′ v′ → PastAfter values (suc u) h′ m′ (replace (actsOf ts) p v′)
+  pub past-after : {v v′ : Act} {m′ : Memory} → actIn (taskAt ts p .phase) ≡ v → Touches p m (taskAt ts p) v m′ v′ → PastAfter (beganIn u ts h) values (suc u) h′ m′ (replace (actsOf ts) p v′)
   past-after e (nothing s) = let k = free-past (situation R e) tt T P in record { pairs = pairs; past = rw (s .is) (record { knows = k .knows }) }
   past-after e (loads c) = record { pairs = pairs; past = load-past (situation R e) tt T P sees c }
   past-after e (looks c k q) = record { pairs = pairs; past = rw q (reading-past c T sees P k (situation R e)) }

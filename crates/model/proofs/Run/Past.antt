@@ -4,7 +4,7 @@ use mathlib.Core.Bool.{Bool}
 use mathlib.Core.Path.{_≡_, refl, sym, _∙_, ap}
 use mathlib.Core.Logic.{_≢_, _⊎_, inl, inr}
 use mathlib.Core.List.{List, [], _∷_, map}
-use mathlib.Core.Option.{Option}
+use mathlib.Core.Option.{Option, none, some}
 use native.Mathlib.Omega.{arith}
 use lib.ListN.{length}
 use Rattle.model.specs.Lists.{at}
@@ -86,8 +86,23 @@ at-work t (transacting y (copying a n)) k e = impossible (cc)
 at-work t (transacting y (again a v r)) k e = read-not (bank (blockOf a)) r e
 at-work t (transacting y (committing c)) k e = commits y (k ∙ ap (λ (z : Exchange). transacting y (committing z)) (act-is c e))
 
+-- THE TICK IN WHICH A TASK'S OPERATION BEGAN; outside one it is this tick, in which the next would begin
+abbrev beganBy : Option Arguments → ℕ → ℕ → ℕ
+beganBy none u n = u
+beganBy (some a) u n = n
+
+abbrev pub beganIn : ℕ → List Task → History → ℕ → ℕ
+beganIn u ts h p = beganBy (givenTo ts p) u (latestOf h p)
+
+began-by : (g : Option Arguments) (u n : ℕ) → Inside g → beganBy g u n ≡ n
+began-by none u n i = absurd i
+began-by (some a) u n i = refl
+
+pub began-inside : (u : ℕ) (ts : List Task) (h : History) (p : ℕ) → Inside (givenTo ts p) → beganIn u ts h p ≡ latestOf h p
+began-inside u ts h p i = began-by (givenTo ts p) u (latestOf h p) i
+
 -- A TICK OF TASK p
-module _ {u p words blocks : ℕ} {m : Memory} {ts : List Task} {h h′ : History} {g′ : Option Arguments} {yes? : Bool} (R : Ready words blocks m ts p) (l : Linked u ts h) (n : Next u p h h′ (givenTo ts p) g′ yes?) where
+module _ {u p words blocks : ℕ} {m : Memory} {ts : List Task} {h h′ : History} {g′ : Option Arguments} {yes? : Bool} (R : Ready words blocks (beganIn u ts h) m ts p) (l : Linked u ts h) (n : Next u p h h′ (givenTo ts p) g′ yes?) where
   latest-stays : (r : ℕ) → Inside (givenTo ts r) → latestOf h′ r ≡ latestOf h r
   latest-stays r i = same? r p (λ e. rw e (n .stays (rw e at i))) (λ ne. n .other r ne)
 
@@ -98,8 +113,8 @@ module _ {u p words blocks : ℕ} {m : Memory} {ts : List Task} {h h′ : Histor
       go (inl e) = omega (arith, l .past p)
       go (inr e) = omega arith
 
-  -- an exchange of words hits lower tasks on the words that it changes; an exchange of bank words counts as a hit
-  own-hit : {x : Exchange} {ps : List Entry} → ExchangeIn (taskAt ts p) x → actIn (taskAt ts p .phase) ≡ exchangingAct x → SamePairs (x .entries) ps → (r e : ℕ) → Inside (givenTo ts r) → r < p → e < length ps → entryOf ps e .old ≢ entryOf ps e .new → HitOn h′ r (entryOf ps e .cell)
+  -- an exchange of words hits the operations that began before it on the words that it changes; an exchange of bank words counts as a hit
+  own-hit : {x : Exchange} {ps : List Entry} → ExchangeIn (taskAt ts p) x → actIn (taskAt ts p .phase) ≡ exchangingAct x → SamePairs (x .entries) ps → (r e : ℕ) → Inside (givenTo ts r) → latestOf h r < latestOf h p → e < length ps → entryOf ps e .old ≢ entryOf ps e .new → HitOn h′ r (entryOf ps e .cell)
   own-hit {x} {ps} (begins q k e₀ c) a s r e i lt le ne = impossible (cc (rw e₀ at a))
   own-hit {x} {ps} (goes-on q k) a s r e i lt le ne =
       let o : Open h p (swapOf (pairsOf x)) _ = rw k at (l .opened p) in
@@ -115,22 +130,25 @@ module _ {u p words blocks : ℕ} {m : Memory} {ts : List Task} {h h′ : Histor
 
   -- the exchange that task p is in has the pairs that are known of it
   pub passes : {values : ℕ → ℕ → ℕ} {pairs pairs′ : ℕ → List Entry} → ((x : Exchange) → actIn (taskAt ts p .phase) ≡ exchangingAct x → SamePairs (x .entries) (pairs p)) → ((r : ℕ) → Busy (actsOf ts) r → pairs′ r ≡ pairs r)
-      → Passes below (actsOf ts) p (knowledge values u h pairs) (knowledge values (suc u) h′ pairs′)
+      → Passes (below (beganIn u ts h)) (actsOf ts) p (knowledge values u h pairs) (knowledge values (suc u) h′ pairs′)
   passes {values} {pairs} {pairs′} same-pairs keep = record {
     seen = λ r c v ne k. record { tick = k .tick; from = rw (latest-stays r (acts-inside ts r ne)) (k .from); before = omega (arith, k .before); value = k .value };
     hit = λ r c b k. hit-on r c (latest-stays r (busy-inside ts r b)) k;
     pairs = keep;
     down = λ r c b bp lt k. down r c b bp lt k;
-    mine = λ r e b bp lt le ne. let a = sym (act-at ts p) ∙ bp .act in own-hit (at-work (taskAt ts p) (taskAt ts p .phase) refl a) a (same-pairs (bp .exchange) a) r e (busy-inside ts r b) lt le ne;
+    mine = λ r e b bp lt le ne. let a = sym (act-at ts p) ∙ bp .act in own-hit (at-work (taskAt ts p) (taskAt ts p .phase) refl a) a (same-pairs (bp .exchange) a) r e (busy-inside ts r b) (later r b bp lt) le ne;
   }
     where
+      later : (r : ℕ) → Busy (actsOf ts) r → Busy (actsOf ts) p → below (beganIn u ts h) r p → latestOf h r < latestOf h p
+      later r b bp lt = rw (began-inside u ts h r (busy-inside ts r b), began-inside u ts h p (busy-inside ts p bp)) at lt
+
       hit-on : (r c : ℕ) → latestOf h′ r ≡ latestOf h r → HitOn h r c → HitOn h′ r c
       hit-on r c e (inl k) = inl k
       hit-on r c e (inr k) = inr (hit-kept (n .advance) e k)
 
-      down : (r c : ℕ) → Busy (actsOf ts) r → Busy (actsOf ts) p → r < p → HitOn h p c → HitOn h′ r c
+      down : (r c : ℕ) → Busy (actsOf ts) r → Busy (actsOf ts) p → below (beganIn u ts h) r p → HitOn h p c → HitOn h′ r c
       down r c b bp lt (inl k) = inl k
-      down r c b bp lt (inr k) = inr (hit-kept (n .advance) (latest-stays r (busy-inside ts r b)) (hit-lower l r p lt (busy-inside ts r b) (busy-inside ts p bp) c k))
+      down r c b bp lt (inr k) = inr (hit-kept (n .advance) (latest-stays r (busy-inside ts r b)) (hit-lower l r p (later r b bp lt) (busy-inside ts r b) (busy-inside ts p bp) c k))
 
   pub sees-now : {values : ℕ → ℕ → ℕ} (pairs : ℕ → List Entry) → ((c : ℕ) → values u c ≡ currentOf m c) → SeesNow m p (knowledge values (suc u) h′ pairs)
   sees-now pairs now = λ c. record { tick = u; from = latest-now; before = omega arith; value = now c }

@@ -1,21 +1,26 @@
 -- What holds after every tick of an accepted sheet's run: the machine is well formed, and so say the exchange and the transaction layer with their knowledge of the past.
 use Prim.Native.Nat.{ℕ, suc, _<_}
 use mathlib.Core.Path.{_≡_, refl, sym, _∙_, ap}
+use mathlib.Core.Logic.{_≢_, _⊎_, inl, inr}
+use mathlib.Core.List.{List}
+use mathlib.Core.Option.{Option, none, some}
+use Rattle.model.specs.Plain.{Arguments}
 use native.Mathlib.Omega.{arith}
 use lib.ListN.{length, length-map}
 use Rattle.model.specs.Lists.{replace}
 use Rattle.model.specs.Sheet.{Sheet}
 use Rattle.model.specs.Word.{Memory, currentOf}
 use Rattle.model.specs.Job.{Task, ticked}
-use Rattle.model.specs.Machine.{Machine, taskAt, unfinished, running, move}
+use Rattle.model.specs.Machine.{Machine, noTask, taskAt, unfinished, running, move}
 use Rattle.model.specs.History.{Operation, History, observed}
-use Rattle.model.proofs.Lists.{map-replace}
+use Rattle.model.proofs.Lists.{same?, replace-same, replace-other, map-replace}
 use Rattle.model.proofs.Fit.Sheet.{SheetFit}
 use Rattle.model.proofs.Fit.Machine.{Fit}
 use Rattle.model.proofs.Fit.Statement.{statement-fit}
 use Rattle.model.proofs.Fit.Tick.{tasks-of, declared}
-use Rattle.model.proofs.Whole.Act.{free}
+use Rattle.model.proofs.Whole.Act.{Act, free, actAt}
 use Rattle.model.proofs.Whole.Invariant.{Invariant}
+use Rattle.model.proofs.Whole.Reorder.{invariant-reordered, past-reordered}
 use Rattle.model.proofs.Transactions.Facts.{slotsOf, TaskFacts, Transactions}
 use Rattle.model.proofs.Transactions.Owners.{owners-stay}
 use Rattle.model.proofs.Transactions.Contents.{ext-at}
@@ -24,17 +29,21 @@ use Rattle.model.proofs.Transactions.Machine.{Running as RunningTask}
 use Rattle.model.proofs.Fit.Running.{Highest}
 use Rattle.model.proofs.Order.Arrive.{TaskArrived, waits, starts, Arrived}
 use Rattle.model.proofs.Order.Statement.{moves}
-use Rattle.model.proofs.Order.Ticks.{MachineLinked, next-of, other-operation}
+use Rattle.model.proofs.Order.Moves.{given}
+use Rattle.model.proofs.Order.Noted.{latestOf}
+use Rattle.model.proofs.Order.Linked.{Inside, givenTo}
+use Rattle.model.proofs.Order.Ticks.{given-arrived, latest-below, last-begun, MachineLinked, next-of, other-operation}
 use Rattle.model.proofs.Run.Acts.{taskAct, actsOf, act-at, touches}
 use Rattle.model.proofs.Run.Cells.{below, Ready, invariant-after, given-after}
+use Rattle.model.proofs.Run.Past.{beganIn, began-inside, acts-inside}
 use Rattle.model.proofs.Run.Grounds.{PastAfter, past-after}
 use Rattle.model.proofs.Run.Latest.{operationOr, latestOperation, latest-after}
 
 -- in a run of the sheet, u ticks being done; `values t c` is the current value of cell c after t ticks
 pub record Holds (s : Sheet) (values : ℕ → ℕ → ℕ) (u : ℕ) (m : Machine) (h : History) : Type 0 where
   pub fit : Fit s m
-  pub invariant : Invariant below (m .memory) (actsOf (m .tasks))
-  pub past : PastAfter values u h (m .memory) (actsOf (m .tasks))
+  pub invariant : Invariant (below (beganIn u (m .tasks) h)) (m .memory) (actsOf (m .tasks))
+  pub past : PastAfter (beganIn u (m .tasks) h) values u h (m .memory) (actsOf (m .tasks))
   pub transactions : Transactions (length (s .blocks)) (length (s .bodies)) (m .memory) (m .tasks) (latestOperation h)
 
 -- RELEASES ARRIVE
@@ -58,11 +67,21 @@ arrived-facts blocks n o (starts i e) k = rw e tt
 arrived-transactions : {blocks tasks : ℕ} {m m′ : Machine} {operations : ℕ → Operation} → Arrived m m′ → Transactions blocks tasks (m .memory) (m .tasks) operations → Transactions blocks tasks (m′ .memory) (m′ .tasks) operations
 arrived-transactions {blocks} {m = m} {operations = operations} a t = rw (a .memory) (record { owners = owners-stay (λ b. refl) (λ p. arrived-slots (a .task p)) (t .owners); task = λ p l. arrived-facts blocks (m .memory) (operations p) (a .task p) (t .task p l) })
 
+-- THE ORDER may be given by other numbers, as long as they are the same for the tasks at work
+pub past-again : {began began′ : ℕ → ℕ} {values : ℕ → ℕ → ℕ} {u : ℕ} {h : History} {m : Memory} (acts : List Act) → ((r : ℕ) → actAt acts r ≢ free → began′ r ≡ began r) → PastAfter began values u h m acts → PastAfter began′ values u h m acts
+past-again acts e P = record { pairs = P .pairs; past = past-reordered acts (λ r q n k b. rw (e r n, e q k) b) (P .past) }
+
+pub invariant-again : {began began′ : ℕ → ℕ} {m : Memory} (acts : List Act) → ((r : ℕ) → actAt acts r ≢ free → began′ r ≡ began r) → Invariant (below began) m acts → Invariant (below began′) m acts
+invariant-again acts e I = invariant-reordered acts (λ r q n k b. rw (e r n, e q k) b) I
+
+began-arrived : (u : ℕ) (h : History) {m m′ : Machine} → Arrived m m′ → (r : ℕ) → beganIn u (m′ .tasks) h r ≡ beganIn u (m .tasks) h r
+began-arrived u h a r = rw (given-arrived (a .task r))
+
 pub holds-arrived : {s : Sheet} {values : ℕ → ℕ → ℕ} {u : ℕ} {m m′ : Machine} {h : History} → Fit s m′ → Arrived m m′ → Holds s values u m h → Holds s values u m′ h
-holds-arrived f a k = record {
+holds-arrived {u = u} {m} {m′} {h} f a k = record {
   fit = f;
-  invariant = rw (a .memory, arrived-acts a) (k .invariant);
-  past = rw (a .memory, arrived-acts a) (k .past);
+  invariant = rw (a .memory, arrived-acts a) (invariant-again (actsOf (m .tasks)) (λ r n. began-arrived u h a r) (k .invariant));
+  past = rw (a .memory, arrived-acts a) (past-again (actsOf (m .tasks)) (λ r n. began-arrived u h a r) (k .past));
   transactions = arrived-transactions a (k .transactions);
 }
 
@@ -71,8 +90,16 @@ module _ {s : Sheet} (c : SheetFit s) {values : ℕ → ℕ → ℕ} {m : Machin
   pub declared-task : p < length (s .bodies)
   declared-task = declared c (tasks-of (k .fit)) p (r .unfinished)
 
-  pub ready : Ready (length (s .words)) (length (s .blocks)) (m .memory) (m .tasks) p
-  ready = record { fewWords = c .words; fewBlocks = c .blocks; memory = k .fit .memory; size = k .fit .tasks; runs = r; job = k .fit .task p declared-task .phase; invariant = k .invariant }
+  -- of the tasks inside an operation the one that runs is the last to have begun
+  last : (q : ℕ) → q ≢ p → Inside (givenTo (m .tasks) q) → beganIn (m .now) (m .tasks) h q < beganIn (m .now) (m .tasks) h p
+  last q ne i = rw (began-inside (m .now) (m .tasks) h q i) (go (givenTo (m .tasks) p) refl)
+    where
+      go : (g : Option Arguments) → givenTo (m .tasks) p ≡ g → latestOf h q < beganIn (m .now) (m .tasks) h p
+      go none e = rw e (latest-below (linked .linked) q i)
+      go (some a) e = rw e (last-begun r (linked .linked) (turnOf p (m .memory) (m .tasks) .task) (next-of linked p r) q ne i (rw e tt))
+
+  pub ready : Ready (length (s .words)) (length (s .blocks)) (beganIn (m .now) (m .tasks) h) (m .memory) (m .tasks) p
+  ready = record { fewWords = c .words; fewBlocks = c .blocks; memory = k .fit .memory; size = k .fit .tasks; there = r .below; last = last; job = k .fit .task p declared-task .phase; invariant = k .invariant }
 
   pub running-task : RunningTask (length (s .words)) (length (s .blocks)) (length (s .bodies)) p (m .memory) (m .tasks) (latestOperation h)
   running-task = record {
@@ -98,13 +125,31 @@ module _ {s : Sheet} (c : SheetFit s) {values : ℕ → ℕ → ℕ} {m : Machin
   acts-after : actsOf (replace (m .tasks) p (ticked (turnOf p (m .memory) (m .tasks) .task))) ≡ replace (actsOf (m .tasks)) p (taskAct (turnOf p (m .memory) (m .tasks) .task))
   acts-after = map-replace taskAct (m .tasks) p (ticked (turnOf p (m .memory) (m .tasks) .task))
 
+  abbrev tasks-after : List Task
+  tasks-after = replace (m .tasks) p (ticked (turnOf p (m .memory) (m .tasks) .task))
+
+  -- a task at work after the statement began when it had begun, or begins now
+  began-after : (q : ℕ) → Inside (givenTo tasks-after q) → beganIn (suc (m .now)) tasks-after (observed m (running p) h) q ≡ beganIn (m .now) (m .tasks) h q
+  began-after q i = began-inside (suc (m .now)) tasks-after (observed m (running p) h) q i ∙ same? q p (λ e. rw e (own (rw (e, here) at i))) (λ ne. next-of linked p r .other q ne ∙ sym (began-inside (m .now) (m .tasks) h q (rw (ap (λ (t : Task). given (t .phase)) (replace-other noTask (m .tasks) p q (ticked (turnOf p (m .memory) (m .tasks) .task)) ne)) at i)))
+    where
+      here : givenTo tasks-after p ≡ given (turnOf p (m .memory) (m .tasks) .task .phase)
+      here = rw (replace-same noTask (m .tasks) p (ticked (turnOf p (m .memory) (m .tasks) .task)) (r .below)) refl
+
+      was : (g : Option Arguments) → givenTo (m .tasks) p ≡ g → (Inside g → latestOf (observed m (running p) h) p ≡ latestOf h p) → Inside g ⊎ (latestOf (observed m (running p) h) p ≡ m .now) → latestOf (observed m (running p) h) p ≡ beganIn (m .now) (m .tasks) h p
+      was none e f (inl j) = absurd j
+      was none e f (inr z) = rw e z
+      was (some a) e f j = rw e (f tt)
+
+      own : Inside (given (turnOf p (m .memory) (m .tasks) .task .phase)) → latestOf (observed m (running p) h) p ≡ beganIn (m .now) (m .tasks) h p
+      own j = was (givenTo (m .tasks) p) refl (next-of linked p r .stays) (next-of linked p r .since j)
+
   pub holds-runs : Fit s (move m (running p)) → Holds s values (suc (m .now)) (move m (running p)) (observed m (running p) h)
   unfolding move
   holds-runs f =
       let t = touches p (m .memory) (taskAt (m .tasks) p) (taskAt (m .tasks) p .phase) refl in
       record {
         fit = f;
-        invariant = rw acts-after (invariant-after ready refl t);
-        past = rw acts-after (past-after ready (linked .linked) (next-of linked p r) now (k .past .past) refl t);
+        invariant = invariant-again (actsOf tasks-after) (λ q b. began-after q (acts-inside tasks-after q b)) (rw acts-after (invariant-after ready refl t));
+        past = past-again (actsOf tasks-after) (λ q b. began-after q (acts-inside tasks-after q b)) (rw acts-after (past-after ready (linked .linked) (next-of linked p r) now (k .past .past) refl t));
         transactions = statement-keeps running-task (m .now) later;
       }
