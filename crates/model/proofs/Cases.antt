@@ -53,11 +53,11 @@ holds a m (prints text) = eqb (a .number) 0 && eqb (a .place) (length text) && s
 holds a m (wordIs w v) = eqb (currentOf (m .memory) w) v
 holds a m (versionIs b v) = eqb (versionOf (currentOf (m .memory) (bank b))) v
 holds a m (valueIs b o v) = eqb (stored (m .memory .stores) (storeOf (currentOf (m .memory) (bank b))) o) v
-holds a m (registerIs p r v) = eqb (at 0 (taskAt (m .tasks) p .registers) r) v
-holds a m (finishedAre p n) = eqb (taskAt (m .tasks) p .finished) n
-holds a m (spentAre p n) = eqb (taskAt (m .tasks) p .spent) n
-holds a m (rejectedAre p n) = eqb (taskAt (m .tasks) p .rejected) n
-holds a m (ticksUsed p n) = eqb (taskAt (m .tasks) p .ticks) n
+holds a m (registerIs p r v) = eqb (at 0 (taskAt (m .tasks) p .job .registers) r) v
+holds a m (finishedAre p n) = eqb (taskAt (m .tasks) p .counts .finished) n
+holds a m (spentAre p n) = eqb (taskAt (m .tasks) p .counts .spent) n
+holds a m (rejectedAre p n) = eqb (taskAt (m .tasks) p .counts .rejected) n
+holds a m (ticksUsed p n) = eqb (taskAt (m .tasks) p .counts .ticks) n
 holds a m (ticksDone n) = eqb (m .now) n
 holds a m (dropsAre n) = eqb (m .dropped) n
 

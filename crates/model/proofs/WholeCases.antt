@@ -12,9 +12,10 @@ use Rattle.model.specs.Command.{Block}
 use Rattle.model.specs.Sheet.{Verdict, accepted, turnedDown, verdict, sheetOf}
 use Rattle.model.specs.Word.{current}
 use Rattle.model.specs.Machine.{run, startMachine}
-use Rattle.model.specs.Plain.{Contents, Pair, Arguments, readOf, swapOf, transactionOf, plainly}
+use Rattle.model.specs.Plain.{Contents, plainly}
 use Rattle.model.specs.History.{Operation, History, operationAt, historyOf}
 use Rattle.model.specs.Claim.{countedBy, contentsOf, declaredContents, each}
+use Rattle.model.specs.Arguments.{Pair, Arguments, readOf, swapOf, transactionOf}
 use Rattle.model.proofs.Sheets.{body₀, body₁, bodyRead, against}
 use Rattle.model.proofs.Bytes.{word, block, task, release, end, load, pair, swap, begin, get, put, commit}
 

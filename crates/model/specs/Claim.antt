@@ -12,7 +12,8 @@ use Rattle.model.specs.Sheet.{Sheet, sheetOf}
 use Rattle.model.specs.Word.{Memory, currentOf}
 use Rattle.model.specs.Transaction.{bank, versionOf, storeOf}
 use Rattle.model.specs.Machine.{Machine, run, startMachine}
-use Rattle.model.specs.Plain.{Contents, Pair, Arguments, swapOf, Result, result, plainly}
+use Rattle.model.specs.Arguments.{Pair, Arguments, swapOf}
+use Rattle.model.specs.Plain.{Contents, Result, result, plainly}
 use Rattle.model.specs.History.{Operation, History, operationAt, historyOf}
 
 -- A RUN'S CONTENTS are those of the W and B lines

@@ -5,7 +5,7 @@ use mathlib.Core.List.{List, []}
 use lib.Dec.{eqb}
 use lib.ListN.{length}
 use Rattle.model.specs.Lists.{at, replace}
-use Rattle.model.specs.Word.{Word, fresh, sameWord, Memory, cellOf, statusOf, saved, setCell, setStatus, setSave, own}
+use Rattle.model.specs.Word.{Word, freshWord, sameWord, Memory, cellOf, statusOf, saved, setCell, setStatus, setSave, own}
 
 -- A pair of the exchange: its cell, old and new value; what was loaded there, and whether that was overlapped.
 pub record Entry : Type 0 where
@@ -16,7 +16,7 @@ pub record Entry : Type 0 where
   pub overlapped : Bool
 
 abbrev pub entry : ℕ → ℕ → ℕ → Entry
-entry c o n = record { cell = c; old = o; new = n; init = fresh 0; overlapped = false }
+entry c o n = record { cell = c; old = o; new = n; init = freshWord 0; overlapped = false }
 
 -- `save` has the value found, `clean` and its Mark have j and the answer
 pub data Step : Type 0 where
@@ -38,6 +38,25 @@ pub data Exchanged : Type 0 where
 abbrev pub exchangeOf : List Entry → Exchange
 exchangeOf es = record { entries = es; i = 0; step = start }
 
+-- Commit has said yes before this step
+abbrev pub saidYes : Step → Bool
+saidYes (clean j yes?) = yes?
+saidYes (cleanMark j yes?) = yes?
+saidYes start = false
+saidYes test = false
+saidYes load = false
+saidYes look = false
+saidYes fetch = false
+saidYes fail = false
+saidYes mark = false
+saidYes install = false
+saidYes commit = false
+saidYes (save v) = false
+
+-- in the tick between these two states Commit has said yes
+abbrev pub commitSaidYes : Exchange → Exchange → Bool
+commitSaidYes before after = not (saidYes (before .step)) && saidYes (after .step)
+
 abbrev pub entryAt : Exchange → ℕ → Entry
 entryAt x e = at (entry 0 0 0) (x .entries) e
 
@@ -56,11 +75,11 @@ abbrev pub to : Exchange → Step → Exchange
 to x s = record { entries = x .entries; i = x .i; step = s }
 
 -- entry i with what was loaded, and with what Look found
-abbrev pub loaded : Entry → Word → Bool → Entry
-loaded e w o = record { cell = e .cell; old = e .old; new = e .new; init = w; overlapped = o }
+abbrev pub withInit : Entry → Word → Bool → Entry
+withInit e w o = record { cell = e .cell; old = e .old; new = e .new; init = w; overlapped = o }
 
-abbrev pub noted : Exchange → Word → Bool → Step → Exchange
-noted x w o s = record { entries = replace (x .entries) (x .i) (loaded (entryAt x (x .i)) w o); i = x .i; step = s }
+abbrev pub initLoaded : Exchange → Word → Bool → Step → Exchange
+initLoaded x w o s = record { entries = replace (x .entries) (x .i) (withInit (entryAt x (x .i)) w o); i = x .i; step = s }
 
 abbrev pub onward : Exchange → Step → Exchange
 onward x s = record { entries = x .entries; i = suc (x .i); step = s }
@@ -71,8 +90,8 @@ testBy false m x = goes m (to x load)
 
 unfoldable pub lookBy : Bool → Memory → Exchange → Entry → Exchanged
 unfolding replace at
-lookBy true m x e = goes m (noted x (e .init) false (save (e .init .value)))
-lookBy false m x e = goes m (noted x (e .init) true fetch)
+lookBy true m x e = goes m (initLoaded x (e .init) false (save (e .init .value)))
+lookBy false m x e = goes m (initLoaded x (e .init) true fetch)
 
 -- after Save, by: the value found is old; Mark is needed
 abbrev pub afterSave : Bool → Bool → Step
@@ -120,7 +139,7 @@ exchangeTick p m x start = goes (setStatus m p 0) (record { entries = x .entries
 -- Test: at i = k or status 1 go to Commit
 exchangeTick p m x test = testBy (eqb (x .i) (length (x .entries)) || eqb (statusOf m p) 1) m x
 -- Load word i as init
-exchangeTick p m x load = goes m (noted x (cellOf m (entryAt x (x .i) .cell)) false look)
+exchangeTick p m x load = goes m (initLoaded x (cellOf m (entryAt x (x .i) .cell)) false look)
 -- Look: find whether its own value counts
 exchangeTick p m x look = lookBy (own (m .status) (entryAt x (x .i) .init)) m x (entryAt x (x .i))
 -- Fetch the save place if not

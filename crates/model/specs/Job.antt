@@ -1,11 +1,13 @@
 -- A task and its job: idle, in a plain command, in a read, in an exchange or in a transaction, each with its next step.
 use Prim.Native.Nat.{ℕ, suc}
+use mathlib.Core.Bool.{Bool}
 use mathlib.Core.List.{List, [], _∷_}
 use lib.ListN.{replicate}
 use Rattle.model.specs.Ceilings.{registers}
 use Rattle.model.specs.Command.{Access, Command}
 use Rattle.model.specs.Word.{Memory, Reading}
 use Rattle.model.specs.Exchange.{Entry, Exchange}
+use Rattle.model.specs.Arguments.{Arguments}
 
 -- A block in a transaction: not touched; its bank word read and that value remembered; PUT as well, with the number of its copy slot.
 pub data Touched : Type 0 where
@@ -37,50 +39,103 @@ pub data Phase : Type 0 where
   exchanging : ℕ → Exchange → Phase
   transacting : Transaction → Inner → Phase
 
--- A task: its body; of its job the commands still to do, the one at work first, the phase, the registers and the waiting PAIRs;
--- its copy slots, which hold the numbers of block stores; and its counts.
-pub record Task : Type 0 where
-  pub body : List Command
-  pub commands : List Command
+-- THE JOB: its phase, the commands still to do, the one at work first, the registers and the waiting PAIRs.
+pub record Job : Type 0 where
   pub phase : Phase
+  pub commands : List Command
   pub registers : List ℕ
   pub pairs : List Entry
-  pub copies : List ℕ
+
+abbrev pub job : Phase → List Command → List ℕ → List Entry → Job
+job f l rs ps = record { phase = f; commands = l; registers = rs; pairs = ps }
+
+-- no job yet: all registers 0
+abbrev pub noJob : Job
+noJob = job idle [] (replicate registers 0) []
+
+-- THE COUNTS of a task, in the order of its T line: jobs finished, jobs spent, commits rejected, ticks used.
+pub record Counts : Type 0 where
   pub finished : ℕ
   pub spent : ℕ
   pub rejected : ℕ
   pub ticks : ℕ
 
--- what a statement leaves of the shared memory and of its task
-pub record Turn : Type 0 where
-  pub memory : Memory
-  pub task : Task
+pub data Count : Type 0 where
+  finished spent rejected ticks : Count
 
-abbrev pub turn : Memory → Task → Turn
-turn m t = record { memory = m; task = t }
+abbrev pub counts : ℕ → ℕ → ℕ → ℕ → Counts
+counts f s r t = record { finished = f; spent = s; rejected = r; ticks = t }
+
+abbrev pub noCounts : Counts
+noCounts = counts 0 0 0 0
+
+-- a count rises by one
+abbrev pub raised : Count → Counts → Counts
+raised finished c = counts (suc (c .finished)) (c .spent) (c .rejected) (c .ticks)
+raised spent c = counts (c .finished) (suc (c .spent)) (c .rejected) (c .ticks)
+raised rejected c = counts (c .finished) (c .spent) (suc (c .rejected)) (c .ticks)
+raised ticks c = counts (c .finished) (c .spent) (c .rejected) (suc (c .ticks))
+
+-- A TASK: its body, its copy slots, which hold the numbers of block stores, its counts and its job.
+pub record Task : Type 0 where
+  pub body : List Command
+  pub copies : List ℕ
+  pub counts : Counts
+  pub job : Job
+
+abbrev pub task : List Command → List ℕ → Counts → Job → Task
+task b cs n j = record { body = b; copies = cs; counts = n; job = j }
+
+-- the task with that job, and with a count raised
+abbrev pub withJob : Task → Job → Task
+withJob t j = task (t .body) (t .copies) (t .counts) j
+
+abbrev pub counting : Count → Task → Task
+counting c t = task (t .body) (t .copies) (raised c (t .counts)) (t .job)
+
+abbrev pub inPhase : Task → Phase → Task
+inPhase t f = withJob t (job f (t .job .commands) (t .job .registers) (t .job .pairs))
 
 abbrev pub rest : List Command → List Command
 rest [] = []
 rest (c ∷ l) = l
 
-abbrev pub inPhase : Task → Phase → Task
-inPhase t f = record { body = t .body; commands = t .commands; phase = f; registers = t .registers; pairs = t .pairs; copies = t .copies; finished = t .finished; spent = t .spent; rejected = t .rejected; ticks = t .ticks }
-
 -- the command is done: the job goes on with the next, or is finished
 unfoldable pub doneBy : List Command → Task → List ℕ → List Entry → List ℕ → Task
-doneBy [] t rs ps cs = record { body = t .body; commands = []; phase = idle; registers = rs; pairs = ps; copies = cs; finished = suc (t .finished); spent = t .spent; rejected = t .rejected; ticks = t .ticks }
-doneBy (c ∷ l) t rs ps cs = record { body = t .body; commands = c ∷ l; phase = plain; registers = rs; pairs = ps; copies = cs; finished = t .finished; spent = t .spent; rejected = t .rejected; ticks = t .ticks }
+doneBy [] t rs ps cs = task (t .body) cs (raised finished (t .counts)) (job idle [] rs ps)
+doneBy (c ∷ l) t rs ps cs = task (t .body) cs (t .counts) (job plain (c ∷ l) rs ps)
 
 abbrev pub done : Task → List ℕ → List Entry → List ℕ → Task
-done t rs ps cs = doneBy (rest (t .commands)) t rs ps cs
+done t rs ps cs = doneBy (rest (t .job .commands)) t rs ps cs
 
 -- a job starts with all registers 0
 abbrev pub started : Task → Task
-started t = record { body = t .body; commands = t .body; phase = plain; registers = replicate registers 0; pairs = []; copies = t .copies; finished = t .finished; spent = t .spent; rejected = t .rejected; ticks = t .ticks }
+started t = withJob t (job plain (t .body) (replicate registers 0) [])
 
 -- the job ends as spent, registers left as they are
 abbrev pub ended : Task → Task
-ended t = record { body = t .body; commands = []; phase = idle; registers = t .registers; pairs = []; copies = t .copies; finished = t .finished; spent = suc (t .spent); rejected = t .rejected; ticks = t .ticks }
+ended t = counting spent (withJob t (job idle [] (t .job .registers) []))
 
-abbrev pub ticked : Task → Task
-ticked t = record { body = t .body; commands = t .commands; phase = t .phase; registers = t .registers; pairs = t .pairs; copies = t .copies; finished = t .finished; spent = t .spent; rejected = t .rejected; ticks = suc (t .ticks) }
+-- WHAT A STATEMENT DID, for whoever watches the run: an operation began; a READ gave its value; the Commit of a SWAP said yes; a SWAP gave its
+-- answer; a GET gave its value; a pass was lost; the Commit of a transaction said yes; it ended after that, with nothing touched, or spent.
+pub data Deed : Type 0 where
+  nothingDone : Deed
+  began : Arguments → Deed
+  readGave : ℕ → Deed
+  swapCommitted : Deed
+  swapAnswered : Bool → Deed
+  getGave : ℕ → Deed
+  passLost : Deed
+  transactionCommitted : Deed
+  transactionEnded : Deed
+  endedUntouched : Deed
+  endedSpent : Deed
+
+-- what a statement leaves of the shared memory and of its task, and what it did
+pub record Turn : Type 0 where
+  pub memory : Memory
+  pub task : Task
+  pub did : Deed
+
+abbrev pub turn : Memory → Task → Deed → Turn
+turn m t d = record { memory = m; task = t; did = d }

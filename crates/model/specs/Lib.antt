@@ -6,6 +6,7 @@ pub mod Fault
 pub mod Sheet
 pub mod Word
 pub mod Exchange
+pub mod Arguments
 pub mod Job
 pub mod Transaction
 pub mod Machine

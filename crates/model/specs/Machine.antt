@@ -8,11 +8,12 @@ use Rattle.model.specs.Ceilings.{maxWords, maxBlocks, maxTasks, register
 use Rattle.model.specs.Lists.{at, replace}
 use Rattle.model.specs.Command.{Release, Block, Command, WORD, BLOCK, TASK, RELEASE, END, LOAD, ADD, READ, PAIR, SWAP, BEGIN, access, COMMIT}
 use Rattle.model.specs.Sheet.{Sheet}
-use Rattle.model.specs.Word.{Word, Memory, memory, Reading, loading, Read, reads, gives, readTick}
-use Rattle.model.specs.Word.{fresh as freshWord}
-use Rattle.model.specs.Exchange.{entry, exchangeOf, Exchanged, goes, ends, exchangeTick, start}
-use Rattle.model.specs.Job.{between, Phase, idle, plain, reading, exchanging, transacting, Task, Turn, turn, rest, inPhase, done, doneBy, started, ticked}
-use Rattle.model.specs.Transaction.{bankValue, fresh, within, loaded, added, transactionTick}
+use Rattle.model.specs.Word.{Word, freshWord, Memory, memory, Reading, loading, Read, reads, gives, readTick}
+use Rattle.model.specs.Exchange.{Entry, entry, Exchange, exchangeOf, commitSaidYes, Exchanged, goes, ends, exchangeTick, start}
+use Rattle.model.specs.Arguments.{Pair, Arguments, readOf, swapOf, transactionOf, untilCommit}
+use Rattle.model.specs.Job.{between, Phase, idle, plain, reading, exchanging, transacting, noJob, noCounts, ticks, Task, task, counting, inPhase}
+use Rattle.model.specs.Job.{rest, done, doneBy, started, Deed, nothingDone, began, readGave, swapCommitted, swapAnswered, Turn, turn}
+use Rattle.model.specs.Transaction.{bankValue, freshTransaction, within, loaded, added, transactionTick}
 
 -- STATEMENTS
 -- 1 yes or 0 no
@@ -22,39 +23,60 @@ answer false = 0
 
 unfoldable pub readBy : Memory → Task → ℕ → ℕ → Read → Turn
 unfolding replace doneBy
-readBy m t r w (reads s) = turn m (inPhase t (reading r w s))
-readBy m t r w (gives v) = turn m (done t (replace (t .registers) r v) (t .pairs) (t .copies))
+readBy m t r w (reads s) = turn m (inPhase t (reading r w s)) nothingDone
+readBy m t r w (gives v) = turn m (done t (replace (t .job .registers) r v) (t .job .pairs) (t .copies)) (readGave v)
 
-unfoldable pub swapBy : Task → ℕ → Exchanged → Turn
+-- a tick of the exchange, whose Commit may have said yes in it
+abbrev pub swapCommittedIf : Bool → Deed
+swapCommittedIf true = swapCommitted
+swapCommittedIf false = nothingDone
+
+unfoldable pub swapBy : Task → ℕ → Exchange → Exchanged → Turn
 unfolding replace doneBy
-swapBy t r (goes m x) = turn m (inPhase t (exchanging r x))
-swapBy t r (ends m yes?) = turn m (done t (replace (t .registers) r (answer yes?)) [] (t .copies))
+swapBy t r x (goes m x′) = turn m (inPhase t (exchanging r x′)) (swapCommittedIf (commitSaidYes x x′))
+swapBy t r x (ends m yes?) = turn m (done t (replace (t .job .registers) r (answer yes?)) [] (t .copies)) (swapAnswered yes?)
+
+abbrev pub pairOf : Entry → Pair
+pairOf e = record { word = e .cell; old = e .old; new = e .new }
+
+-- the first tick of an operation, fed those arguments
+abbrev pub beginning : Arguments → Turn → Turn
+beginning a u = turn (u .memory) (u .task) (began a)
+
+-- PAIR records both values
+abbrev pub recorded : Task → ℕ → ℕ → ℕ → List Entry
+recorded t w o n = t .job .pairs ++ (entry w (at 0 (t .job .registers) o) (at 0 (t .job .registers) n) ∷ [])
+
+-- BEGIN keeps the registers
+abbrev pub begun : Task → List Command → Task
+begun t l = within t l (t .job .registers) (freshTransaction (t .job .registers) l) between
 
 -- the command at work outside a transaction; the sheet check lets no other command stand there
 unfoldable pub plainTick : ℕ → Memory → Task → List Command → Turn
-unfolding at replace doneBy readTick readBy exchangeTick swapBy
-plainTick p m t [] = turn m t
-plainTick p m t (LOAD r v ∷ l) = turn m (done t (loaded (t .registers) r v) (t .pairs) (t .copies))
-plainTick p m t (ADD r q ∷ l) = turn m (done t (added (t .registers) r q) (t .pairs) (t .copies))
-plainTick p m t (READ r w ∷ l) = readBy m t r w (readTick m w loading)
-plainTick p m t (PAIR w o n ∷ l) = turn m (done t (t .registers) (t .pairs ++ (entry w (at 0 (t .registers) o) (at 0 (t .registers) n) ∷ [])) (t .copies))
-plainTick p m t (SWAP r ∷ l) = swapBy t r (exchangeTick p m (exchangeOf (t .pairs)) start)
-plainTick p m t (BEGIN ∷ l) = turn m (within t l (t .registers) (fresh (t .registers) l) between)
-plainTick p m t (access a ∷ l) = turn m t
-plainTick p m t (COMMIT ∷ l) = turn m t
-plainTick p m t (WORD v ∷ l) = turn m t
-plainTick p m t (BLOCK b ∷ l) = turn m t
-plainTick p m t (TASK ∷ l) = turn m t
-plainTick p m t (RELEASE r ∷ l) = turn m t
-plainTick p m t (END ∷ l) = turn m t
+unfolding at replace doneBy readTick readBy exchangeTick swapBy untilCommit
+plainTick p m t [] = turn m t nothingDone
+plainTick p m t (LOAD r v ∷ l) = turn m (done t (loaded (t .job .registers) r v) (t .job .pairs) (t .copies)) nothingDone
+plainTick p m t (ADD r q ∷ l) = turn m (done t (added (t .job .registers) r q) (t .job .pairs) (t .copies)) nothingDone
+plainTick p m t (READ r w ∷ l) = beginning (readOf w) (readBy m t r w (readTick m w loading))
+plainTick p m t (PAIR w o n ∷ l) = turn m (done t (t .job .registers) (recorded t w o n) (t .copies)) nothingDone
+plainTick p m t (SWAP r ∷ l) =
+    beginning (swapOf (map pairOf (t .job .pairs))) (swapBy t r (exchangeOf (t .job .pairs)) (exchangeTick p m (exchangeOf (t .job .pairs)) start))
+plainTick p m t (BEGIN ∷ l) = turn m (begun t l) (began (transactionOf (t .job .registers) (untilCommit l)))
+plainTick p m t (access a ∷ l) = turn m t nothingDone
+plainTick p m t (COMMIT ∷ l) = turn m t nothingDone
+plainTick p m t (WORD v ∷ l) = turn m t nothingDone
+plainTick p m t (BLOCK b ∷ l) = turn m t nothingDone
+plainTick p m t (TASK ∷ l) = turn m t nothingDone
+plainTick p m t (RELEASE r ∷ l) = turn m t nothingDone
+plainTick p m t (END ∷ l) = turn m t nothingDone
 
 -- one statement of task p
 unfoldable pub statement : ℕ → Memory → Task → Phase → Turn
 unfolding plainTick readTick readBy exchangeTick swapBy transactionTick
-statement p m t idle = turn m t
-statement p m t plain = plainTick p m t (t .commands)
+statement p m t idle = turn m t nothingDone
+statement p m t plain = plainTick p m t (t .job .commands)
 statement p m t (reading r w s) = readBy m t r w (readTick m w s)
-statement p m t (exchanging r x) = swapBy t r (exchangeTick p m x (x .step))
+statement p m t (exchanging r x) = swapBy t r x (exchangeTick p m x (x .step))
 statement p m t (transacting x s) = transactionTick p m t x s
 
 -- THE MACHINE: the tasks by their numbers, the releases to come, the ticks done, the releases dropped
@@ -69,7 +91,7 @@ abbrev pub machine : Memory → List Task → List Release → ℕ → ℕ → M
 machine m ts rs n d = record { memory = m; tasks = ts; releases = rs; now = n; dropped = d }
 
 abbrev pub noTask : Task
-noTask = record { body = []; commands = []; phase = idle; registers = replicate registers 0; pairs = []; copies = []; finished = 0; spent = 0; rejected = 0; ticks = 0 }
+noTask = task [] [] noCounts noJob
 
 abbrev pub taskAt : List Task → ℕ → Task
 taskAt ts p = at noTask ts p
@@ -81,9 +103,9 @@ unfinished (reading r w s) = true
 unfinished (exchanging r x) = true
 unfinished (transacting x s) = true
 
--- THE ORDER OF URGENCY: the job of p runs before that of q. Now by task number; the tasks are there for an order by their jobs.
-abbrev pub runsBefore : List Task → ℕ → ℕ → Bool
-runsBefore ts p q = ltb q p
+-- WHO RUNS. THE ORDER OF URGENCY: the job of p runs before that of q. Now by task number; the machine is there for an order by its jobs.
+abbrev pub runsBefore : Machine → ℕ → ℕ → Bool
+runsBefore m p q = ltb q p
 
 pub data Running : Type 0 where
   nobody : Running
@@ -93,25 +115,26 @@ abbrev pub firstBy : Bool → ℕ → ℕ → Running
 firstBy true p q = running p
 firstBy false p q = running q
 
-abbrev pub firstOf : List Task → ℕ → Running → Running
-firstOf ts p nobody = running p
-firstOf ts p (running q) = firstBy (runsBefore ts p q) p q
+abbrev pub firstOf : Machine → ℕ → Running → Running
+firstOf m p nobody = running p
+firstOf m p (running q) = firstBy (runsBefore m p q) p q
 
-unfoldable pub candidate : Bool → List Task → ℕ → Running → Running
-candidate true ts p best = firstOf ts p best
-candidate false ts p best = best
+unfoldable pub candidate : Bool → Machine → ℕ → Running → Running
+candidate true m p best = firstOf m p best
+candidate false m p best = best
 
 -- of the tasks from number p on, and the best of those before them
-unfoldable pub runningFrom : List Task → ℕ → List Task → Running → Running
+unfoldable pub runningFrom : Machine → ℕ → List Task → Running → Running
 unfolding candidate
-runningFrom ts p [] best = best
-runningFrom ts p (t ∷ l) best = runningFrom ts (suc p) l (candidate (unfinished (t .phase)) ts p best)
+runningFrom m p [] best = best
+runningFrom m p (t ∷ l) best = runningFrom m (suc p) l (candidate (unfinished (t .job .phase)) m p best)
 
 -- the task whose unfinished job runs before all others
-unfoldable pub runningOf : List Task → Running
+unfoldable pub runningOf : Machine → Running
 unfolding runningFrom
-runningOf ts = runningFrom ts 0 ts nobody
+runningOf m = runningFrom m 0 (m .tasks) nobody
 
+-- RELEASES
 -- a release to a task whose job is unfinished is dropped and counted, else a job starts
 unfoldable pub releaseBy : Bool → ℕ → Machine → Machine
 unfolding at replace
@@ -123,7 +146,7 @@ toCome m rs = machine (m .memory) (m .tasks) rs (m .now) (m .dropped)
 
 unfoldable pub arriveBy : Bool → (Machine → Machine) → Release → List Release → Machine → Machine
 unfolding at releaseBy
-arriveBy true go r l m = go (releaseBy (unfinished (taskAt (m .tasks) (r .task) .phase)) (r .task) m)
+arriveBy true go r l m = go (releaseBy (unfinished (taskAt (m .tasks) (r .task) .job .phase)) (r .task) m)
 arriveBy false go r l m = toCome m (r ∷ l)
 
 -- this tick's releases arrive, the others stay to come
@@ -134,22 +157,32 @@ arrive (r ∷ l) m =
     let go : Machine → Machine = arrive l in
     arriveBy (eqb (r .tick) (m .now)) go r l m
 
+-- what comes before a tick's statement
+unfoldable pub enter : Machine → Machine
+unfolding arrive
+enter m = arrive (m .releases) m
+
+-- TICKS
+-- one statement of task p
+abbrev pub turnOf : Machine → ℕ → Turn
+turnOf m p = statement p (m .memory) (taskAt (m .tasks) p) (taskAt (m .tasks) p .job .phase)
+
 abbrev pub afterTurn : Machine → ℕ → Turn → Machine
-afterTurn m p u = machine (u .memory) (replace (m .tasks) p (ticked (u .task))) (m .releases) (suc (m .now)) (m .dropped)
+afterTurn m p u = machine (u .memory) (replace (m .tasks) p (counting ticks (u .task))) (m .releases) (suc (m .now)) (m .dropped)
 
 -- with nobody to run the tick is idle
 unfoldable pub move : Machine → Running → Machine
 unfolding at replace statement
 move m nobody = machine (m .memory) (m .tasks) (m .releases) (suc (m .now)) (m .dropped)
-move m (running p) = afterTurn m p (statement p (m .memory) (taskAt (m .tasks) p) (taskAt (m .tasks) p .phase))
+move m (running p) = afterTurn m p (turnOf m p)
 
 unfoldable pub moveAny : Machine → Machine
 unfolding move runningOf
-moveAny m = move m (runningOf (m .tasks))
+moveAny m = move m (runningOf m)
 
 unfoldable pub tick : Machine → Machine
-unfolding arrive moveAny
-tick m = moveAny (arrive (m .releases) m)
+unfolding enter moveAny
+tick m = moveAny (enter m)
 
 abbrev pub noneToCome : List Release → Bool
 noneToCome [] = true
@@ -162,7 +195,7 @@ nobody? (running p) = false
 -- no job is unfinished and no release is to come
 unfoldable pub over : Machine → Bool
 unfolding runningOf
-over m = noneToCome (m .releases) && nobody? (runningOf (m .tasks))
+over m = noneToCome (m .releases) && nobody? (runningOf m)
 
 unfoldable pub runBy : Bool → (Machine → Machine) → Machine → Machine
 unfolding tick
@@ -176,6 +209,20 @@ run zero m = m
 run (suc n) m =
     let go : Machine → Machine = run n in
     runBy (over m) go m
+
+-- BESIDE THE RUN: what an observer has who is shown each tick's machine, before its statement, with what he had so far
+unfoldable pub besideBy : {A : Type 0} → Bool → (Machine → A → A) → (Machine → A → A) → Machine → A → A
+unfolding enter tick
+besideBy true see go m a = a
+besideBy false see go m a = go (tick m) (see (enter m) a)
+
+-- the same machine, the same limit, the same stop
+unfoldable pub beside : {A : Type 0} → (Machine → A → A) → ℕ → Machine → A → A
+unfolding besideBy over
+beside see zero m a = a
+beside {A} see (suc n) m a =
+    let go : Machine → A → A = beside see n in
+    besideBy (over m) see go m a
 
 -- THE START
 unfoldable pub filled : {A : Type 0} → ℕ → A → List A → List A
@@ -192,12 +239,12 @@ unfoldable pub banksFrom : ℕ → List Block → List Word
 banksFrom store [] = []
 banksFrom store (b ∷ l) = freshWord (bankValue (b .version) store) ∷ banksFrom (suc store) l
 
-abbrev pub valuesOf : Block → List ℕ
-valuesOf b = b .values
+abbrev pub startValues : Block → List ℕ
+startValues b = b .values
 
 unfoldable pub tasksFrom : ℕ → List (List Command) → List Task
 tasksFrom p [] = []
-tasksFrom p (c ∷ l) = (record { body = c; commands = []; phase = idle; registers = replicate registers 0; pairs = []; copies = copiesOf p; finished = 0; spent = 0; rejected = 0; ticks = 0 }) ∷ tasksFrom (suc p) l
+tasksFrom p (b ∷ l) = task b (copiesOf p) noCounts noJob ∷ tasksFrom (suc p) l
 
 -- cells, stores and tasks as many as the ceilings allow; those that the sheet does not declare stay as they are here
 unfoldable pub startMemory : Sheet → Memory
@@ -207,7 +254,8 @@ startMemory s =
     (filled maxWords (freshWord 0) (map freshWord (s .words)) ++ filled maxBlocks (freshWord 0) (banksFrom (4 * length (s .bodies)) (s .blocks)))
     (zeros maxTasks)
     (replicate maxTasks (zeros savePlaces))
-    (filled (4 * maxTasks + maxBlocks) (zeros blockValues) (replicate (4 * length (s .bodies)) (zeros blockValues) ++ map valuesOf (s .blocks)))
+    (filled (4 * maxTasks + maxBlocks) (zeros blockValues)
+    (replicate (4 * length (s .bodies)) (zeros blockValues) ++ map startValues (s .blocks)))
 
 unfoldable pub startMachine : Sheet → Machine
 unfolding filled tasksFrom startMemory

@@ -7,24 +7,13 @@ use lib.Dec.{eqb}
 use lib.ListN.{length, replicate}
 use Rattle.model.specs.Lists.{at, replace}
 use Rattle.model.specs.Command.{GET, PUT, Block, Command, WORD, BLOCK, TASK, RELEASE, END, LOAD, ADD, READ, PAIR, SWAP, BEGIN, access, COMMIT}
+use Rattle.model.specs.Arguments.{Pair, Arguments, readOf, swapOf, transactionOf}
 use Rattle.model.specs.Transaction.{loaded, added}
 
 -- a value for each word, a version and eight values for each block
 pub record Contents : Type 0 where
   pub words : List ℕ
   pub blocks : List Block
-
--- a PAIR as recorded
-pub record Pair : Type 0 where
-  pub word : ℕ
-  pub old : ℕ
-  pub new : ℕ
-
--- The arguments of an operation: READ its word, SWAP its PAIRs, a transaction the registers at BEGIN and its commands.
-pub data Arguments : Type 0 where
-  readOf : ℕ → Arguments
-  swapOf : List Pair → Arguments
-  transactionOf : List ℕ → List Command → Arguments
 
 -- what an operation leaves and answers: READ its value, SWAP 1 or 0, a transaction what its GETs gave
 pub record Result : Type 0 where
@@ -45,10 +34,10 @@ unfolding replace
 allNew words [] = words
 allNew words (a ∷ l) = allNew (replace words (a .word) (a .new)) l
 
-unfoldable pub swapBy : Bool → List Pair → Contents → Result
+unfoldable pub plainSwapBy : Bool → List Pair → Contents → Result
 unfolding allNew
-swapBy true ps c = result (record { words = allNew (c .words) ps; blocks = c .blocks }) (1 ∷ [])
-swapBy false ps c = result c (0 ∷ [])
+plainSwapBy true ps c = result (record { words = allNew (c .words) ps; blocks = c .blocks }) (1 ∷ [])
+plainSwapBy false ps c = result c (0 ∷ [])
 
 -- A transaction on its way: its registers, the copies by block number, the answers of its GETs.
 pub record Pass : Type 0 where
@@ -117,7 +106,7 @@ passOf bs rs l = passed bs (record { registers = rs; copies = noCopies bs; answe
 
 -- an operation whole
 unfoldable pub plainly : Arguments → Contents → Result
-unfolding at swapBy allOld passed commitBlocks
+unfolding at plainSwapBy allOld passed commitBlocks
 plainly (readOf w) c = result c (at 0 (c .words) w ∷ [])
-plainly (swapOf ps) c = swapBy (allOld (c .words) ps) ps c
+plainly (swapOf ps) c = plainSwapBy (allOld (c .words) ps) ps c
 plainly (transactionOf rs l) c = commits c (passOf (c .blocks) rs l)

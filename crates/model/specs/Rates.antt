@@ -11,19 +11,19 @@ use Rattle.model.specs.Sheet.{sheetOf}
 use Rattle.model.specs.Word.{Memory}
 use Rattle.model.specs.Exchange.{Exchange, start, ends, exchangeTick}
 use Rattle.model.specs.Job.{Transaction, committing, transacting}
-use Rattle.model.specs.Machine.{Machine, taskAt, Running, nobody, running, runningOf, arrive, run, startMachine}
-use Rattle.model.specs.Plain.{Pair, readOf, swapOf}
+use Rattle.model.specs.Machine.{Machine, taskAt, Running, nobody, running, runningOf, enter, run, startMachine}
+use Rattle.model.specs.Arguments.{Pair, readOf, swapOf}
 use Rattle.model.specs.History.{Operation, operationAt, historyOf}
 
 -- TICKS OF ITS OWN
 -- the machine in tick u: what the run with limit u leaves, tick u's releases having arrived
 unfoldable pub inTick : Machine → ℕ → Machine
-unfolding run arrive
-inTick m u = arrive (run u m .releases) (run u m)
+unfolding run enter
+inTick m u = enter (run u m)
 
 -- who does the statement of tick u
 abbrev pub runningIn : Machine → ℕ → Running
-runningIn m u = runningOf (inTick m u .tasks)
+runningIn m u = runningOf (inTick m u)
 
 abbrev pub isTask : ℕ → Running → Bool
 isTask p nobody = false
@@ -47,7 +47,7 @@ pub record Committing (m : Machine) (p u : ℕ) : Type 0 where
   pub runs : runningIn m u ≡ running p
   pub transaction : Transaction
   pub exchange : Exchange
-  pub phase : taskAt (inTick m u .tasks) p .phase ≡ transacting transaction (committing exchange)
+  pub phase : taskAt (inTick m u .tasks) p .job .phase ≡ transacting transaction (committing exchange)
 
 -- that statement is the Start of an exchange of k entries
 pub record Starts (m : Machine) (p u k : ℕ) : Type 0 where
@@ -65,7 +65,7 @@ pub record Ends (m : Machine) (p u : ℕ) : Type 0 where
 -- THE RATES of a run with a limit. One that the limit cuts short has done fewer, so that so many ticks of its own are always enough.
 pub record RunRates (limit : ℕ) (m : Machine) : Type 0 where
   -- the ticks that a task has used, as its T line says, are its own from tick 0 on
-  pub used : (p : ℕ) → taskAt (run limit m .tasks) p .ticks ≡ ownBefore (runningIn m) p 0 (run limit m .now)
+  pub used : (p : ℕ) → taskAt (run limit m .tasks) p .counts .ticks ≡ ownBefore (runningIn m) p 0 (run limit m .now)
   -- a READ that ends takes 2 or 3 ticks of its own
   pub read : (a w l : ℕ) (o : Operation) → operationAt (historyOf limit m) a ≡ some o → o .arguments ≡ readOf w → o .last ≡ some l → (ownTicks m (o .task) a l ≡ 2) ⊎ (ownTicks m (o .task) a l ≡ 3)
   pub readCutShort : (a w : ℕ) (o : Operation) → operationAt (historyOf limit m) a ≡ some o → o .arguments ≡ readOf w → o .last ≡ none → ownBefore (runningIn m) (o .task) a (run limit m .now) < 3

@@ -48,10 +48,10 @@ abbrev pub blockLine : Memory → ℕ → List ℕ
 blockLine m b = line 0x42 (b ∷ versionOf (currentOf m (bank b)) ∷ at [] (m .stores) (storeOf (currentOf m (bank b))))
 
 abbrev pub taskLine : ℕ → Task → List ℕ
-taskLine p t = line 0x54 (p ∷ t .finished ∷ t .spent ∷ t .rejected ∷ t .ticks ∷ [])
+taskLine p t = line 0x54 (p ∷ t .counts .finished ∷ t .counts .spent ∷ t .counts .rejected ∷ t .counts .ticks ∷ [])
 
 abbrev pub registerLine : ℕ → Task → List ℕ
-registerLine p t = line 0x52 (p ∷ t .registers)
+registerLine p t = line 0x52 (p ∷ t .job .registers)
 
 abbrev pub taskLines : List Task → ℕ → List ℕ
 taskLines ts p = taskLine p (taskAt ts p) ++ registerLine p (taskAt ts p)

@@ -8,8 +8,10 @@ use Rattle.model.specs.Ceilings.{maxWords, maxBlocks, blockValues, lastV
 use Rattle.model.specs.Lists.{at, replace}
 use Rattle.model.specs.Command.{Access, GET, PUT, Command, WORD, BLOCK, TASK, RELEASE, END, LOAD, ADD, READ, PAIR, SWAP, BEGIN, access, COMMIT}
 use Rattle.model.specs.Word.{Memory, stored, setStored, Reading, loading, Read, reads, gives, readTick}
-use Rattle.model.specs.Exchange.{Entry, entry, Exchange, exchangeOf, Exchanged, goes, ends, exchangeTick}
-use Rattle.model.specs.Job.{Touched, untouched, remembered, copied, Transaction, Inner, between, first, copying, again, committing, transacting, Task, Turn, turn, rest, done, doneBy, ended}
+use Rattle.model.specs.Exchange.{Entry, entry, Exchange, exchangeOf, commitSaidYes, Exchanged, goes, ends, exchangeTick}
+use Rattle.model.specs.Job.{Touched, untouched, remembered, copied, Transaction, Inner, between, first, copying, again, committing, transacting}
+use Rattle.model.specs.Job.{job, rejected, Task, withJob, counting, rest, done, doneBy, ended}
+use Rattle.model.specs.Job.{Deed, nothingDone, getGave, passLost, transactionCommitted, transactionEnded, endedUntouched, endedSpent, Turn, turn}
 
 -- the bank word of block b is the cell after the words' cells
 abbrev pub bank : ℕ → ℕ
@@ -38,28 +40,25 @@ abbrev pub touchedOf : Transaction → ℕ → Touched
 touchedOf x b = at untouched (x .blocks) b
 
 -- nothing touched
-abbrev pub fresh : List ℕ → List Command → Transaction
-fresh kept l = record { kept = kept; commands = l; blocks = replicate maxBlocks untouched; used = 0 }
+abbrev pub freshTransaction : List ℕ → List Command → Transaction
+freshTransaction kept l = record { kept = kept; commands = l; blocks = replicate maxBlocks untouched; used = 0 }
 
 abbrev pub touch : Transaction → ℕ → Touched → ℕ → Transaction
 touch x b s n = record { kept = x .kept; commands = x .commands; blocks = replace (x .blocks) b s; used = n }
 
 -- the task in its transaction, at that command with those registers; no PAIRs wait there
 abbrev pub within : Task → List Command → List ℕ → Transaction → Inner → Task
-within t l rs x s = record { body = t .body; commands = l; phase = transacting x s; registers = rs; pairs = []; copies = t .copies; finished = t .finished; spent = t .spent; rejected = t .rejected; ticks = t .ticks }
+within t l rs x s = withJob t (job (transacting x s) l rs [])
 
 abbrev pub stays : Task → Transaction → Inner → Task
-stays t x s = within t (t .commands) (t .registers) x s
+stays t x s = within t (t .job .commands) (t .job .registers) x s
 
 abbrev pub goesOn : Task → List ℕ → Transaction → Task
-goesOn t rs x = within t (rest (t .commands)) rs x between
+goesOn t rs x = within t (rest (t .job .commands)) rs x between
 
 -- registers as kept, nothing touched, next the command after BEGIN
 abbrev pub restarted : Task → Transaction → Task
-restarted t x = within t (x .commands) (x .kept) (fresh (x .kept) (x .commands)) between
-
-abbrev pub rejected : Task → Task
-rejected t = record { body = t .body; commands = t .commands; phase = t .phase; registers = t .registers; pairs = t .pairs; copies = t .copies; finished = t .finished; spent = t .spent; rejected = suc (t .rejected); ticks = t .ticks }
+restarted t x = within t (x .commands) (x .kept) (freshTransaction (x .kept) (x .commands)) between
 
 -- LOAD and ADD, the same inside and outside a transaction
 abbrev pub loaded : List ℕ → ℕ → ℕ → List ℕ
@@ -71,37 +70,47 @@ added rs r q = replace rs r ((at 0 rs r + at 0 rs q) % valueRange)
 -- GET and PUT, by what the block is so far
 unfoldable pub firstRead : Memory → Task → Transaction → Access → Read → Turn
 unfolding replace
-firstRead m t x a (reads r) = turn m (stays t x (first a r))
-firstRead m t x a (gives v) = turn m (stays t (touch x (blockOf a) (remembered v) (x .used)) between)
+firstRead m t x a (reads r) = turn m (stays t x (first a r)) nothingDone
+firstRead m t x a (gives v) = turn m (stays t (touch x (blockOf a) (remembered v) (x .used)) between) nothingDone
 
 -- value n goes into the next copy store
 unfoldable pub copyBy : Bool → Memory → Task → Transaction → Access → ℕ → Turn
-copyBy true m t x a n = turn m (stays t x (again a 0 loading))
-copyBy false m t x a n = turn m (stays t x (copying a (suc n)))
+copyBy true m t x a n = turn m (stays t x (again a 0 loading)) nothingDone
+copyBy false m t x a n = turn m (stays t x (copying a (suc n))) nothingDone
 
 unfoldable pub copyTick : Memory → Task → Transaction → Access → ℕ → Turn
 unfolding at replace copyBy
 copyTick m t x a n =
-    copyBy (eqb (suc n) blockValues) (setStored m (at 0 (t .copies) (x .used)) n (stored (m .stores) (storeOf (rememberedOf (touchedOf x (blockOf a)))) n)) t x a n
+    let v : ℕ = stored (m .stores) (storeOf (rememberedOf (touchedOf x (blockOf a)))) n in
+    copyBy (eqb (suc n) blockValues) (setStored m (at 0 (t .copies) (x .used)) n v) t x a n
+
+-- GET has fetched the value, from that store
+abbrev pub fetched : Memory → Task → Transaction → Access → ℕ → ℕ → Turn
+fetched m t x a s o = turn m (stays t x (again a (stored (m .stores) s o) loading)) nothingDone
 
 unfoldable pub accessTick : Memory → Task → Transaction → Access → Touched → Turn
 unfolding at replace readTick firstRead copyTick
 accessTick m t x a untouched = firstRead m t x a (readTick m (bank (blockOf a)) loading)
-accessTick m t x (GET r b o) (remembered v) = turn m (stays t x (again (GET r b o) (stored (m .stores) (storeOf v) o) loading))
-accessTick m t x (GET r b o) (copied v k) = turn m (stays t x (again (GET r b o) (stored (m .stores) (at 0 (t .copies) k) o) loading))
+accessTick m t x (GET r b o) (remembered v) = fetched m t x (GET r b o) (storeOf v) o
+accessTick m t x (GET r b o) (copied v k) = fetched m t x (GET r b o) (at 0 (t .copies) k) o
 accessTick m t x (PUT b o r) (remembered v) = copyTick m t x (PUT b o r) 0
-accessTick m t x (PUT b o r) (copied v k) = turn (setStored m (at 0 (t .copies) k) o (at 0 (t .registers) r)) (goesOn t (t .registers) x)
+accessTick m t x (PUT b o r) (copied v k) =
+    turn (setStored m (at 0 (t .copies) k) o (at 0 (t .job .registers) r)) (goesOn t (t .job .registers) x) nothingDone
+
+-- the block PUT first has its copy: the next slot
+abbrev pub putFirst : Transaction → ℕ → Transaction
+putFirst x b = touch x b (copied (rememberedOf (touchedOf x b)) (x .used)) (suc (x .used))
 
 -- the version read again is the remembered one; a stale version restarts the transaction
 unfoldable pub checkBy : Bool → Memory → Task → Transaction → Access → ℕ → Turn
 unfolding at replace
-checkBy true m t x (GET r b o) v = turn m (goesOn t (loaded (t .registers) r v) x)
-checkBy true m t x (PUT b o r) v = turn m (stays t (touch x b (copied (rememberedOf (touchedOf x b)) (x .used)) (suc (x .used))) between)
-checkBy false m t x a v = turn m (restarted t x)
+checkBy true m t x (GET r b o) v = turn m (goesOn t (loaded (t .job .registers) r v) x) (getGave v)
+checkBy true m t x (PUT b o r) v = turn m (stays t (putFirst x b) between) nothingDone
+checkBy false m t x a v = turn m (restarted t x) passLost
 
 unfoldable pub againRead : Memory → Task → Transaction → Access → ℕ → Read → Turn
 unfolding at checkBy
-againRead m t x a v (reads r) = turn m (stays t x (again a v r))
+againRead m t x a v (reads r) = turn m (stays t x (again a v r)) nothingDone
 againRead m t x a v (gives w) = checkBy (eqb (versionOf w) (versionOf (rememberedOf (touchedOf x (blockOf a))))) m t x a v
 
 -- COMMIT
@@ -135,40 +144,45 @@ takenBack copies (remembered v ∷ l) = takenBack copies l
 takenBack copies (copied v k ∷ l) = takenBack (replace copies k (storeOf v)) l
 
 -- by: nothing was touched; a PUT block is at the last version
-unfoldable pub commitBy : Bool → Bool → Memory → Task → Transaction → Turn
+unfoldable pub commitCommandBy : Bool → Bool → Memory → Task → Transaction → Turn
 unfolding doneBy gather
-commitBy true s m t x = turn m (done t (t .registers) [] (t .copies))
-commitBy false true m t x = turn m (ended t)
-commitBy false false m t x = turn m (stays t x (committing (exchangeOf (gather (t .copies) 0 (x .blocks)))))
+commitCommandBy true s m t x = turn m (done t (t .job .registers) [] (t .copies)) endedUntouched
+commitCommandBy false true m t x = turn m (ended t) endedSpent
+commitCommandBy false false m t x = turn m (stays t x (committing (exchangeOf (gather (t .copies) 0 (x .blocks))))) nothingDone
 
-unfoldable pub committed : Task → Transaction → Exchanged → Turn
+-- a tick of the exchange, whose Commit may have said yes in it
+abbrev pub committedIf : Bool → Deed
+committedIf true = transactionCommitted
+committedIf false = nothingDone
+
+unfoldable pub committingBy : Task → Transaction → Exchange → Exchanged → Turn
 unfolding doneBy takenBack
-committed t x (goes m e) = turn m (stays t x (committing e))
-committed t x (ends m true) = turn m (done t (t .registers) [] (takenBack (t .copies) (x .blocks)))
-committed t x (ends m false) = turn m (rejected (restarted t x))
+committingBy t x e (goes m e′) = turn m (stays t x (committing e′)) (committedIf (commitSaidYes e e′))
+committingBy t x e (ends m true) = turn m (done t (t .job .registers) [] (takenBack (t .copies) (x .blocks))) transactionEnded
+committingBy t x e (ends m false) = turn m (counting rejected (restarted t x)) passLost
 
 -- the command at work, between its inner steps; the sheet check lets no other command stand inside a transaction
 unfoldable pub commandTick : Memory → Task → Transaction → List Command → Turn
-unfolding at replace accessTick commitBy nothing? spent?
-commandTick m t x [] = turn m t
-commandTick m t x (LOAD r v ∷ l) = turn m (goesOn t (loaded (t .registers) r v) x)
-commandTick m t x (ADD r q ∷ l) = turn m (goesOn t (added (t .registers) r q) x)
+unfolding at replace accessTick commitCommandBy nothing? spent?
+commandTick m t x [] = turn m t nothingDone
+commandTick m t x (LOAD r v ∷ l) = turn m (goesOn t (loaded (t .job .registers) r v) x) nothingDone
+commandTick m t x (ADD r q ∷ l) = turn m (goesOn t (added (t .job .registers) r q) x) nothingDone
 commandTick m t x (access a ∷ l) = accessTick m t x a (touchedOf x (blockOf a))
-commandTick m t x (COMMIT ∷ l) = commitBy (nothing? (x .blocks)) (spent? (x .blocks)) m t x
-commandTick m t x (READ r w ∷ l) = turn m t
-commandTick m t x (PAIR w o n ∷ l) = turn m t
-commandTick m t x (SWAP r ∷ l) = turn m t
-commandTick m t x (BEGIN ∷ l) = turn m t
-commandTick m t x (WORD v ∷ l) = turn m t
-commandTick m t x (BLOCK b ∷ l) = turn m t
-commandTick m t x (TASK ∷ l) = turn m t
-commandTick m t x (RELEASE r ∷ l) = turn m t
-commandTick m t x (END ∷ l) = turn m t
+commandTick m t x (COMMIT ∷ l) = commitCommandBy (nothing? (x .blocks)) (spent? (x .blocks)) m t x
+commandTick m t x (READ r w ∷ l) = turn m t nothingDone
+commandTick m t x (PAIR w o n ∷ l) = turn m t nothingDone
+commandTick m t x (SWAP r ∷ l) = turn m t nothingDone
+commandTick m t x (BEGIN ∷ l) = turn m t nothingDone
+commandTick m t x (WORD v ∷ l) = turn m t nothingDone
+commandTick m t x (BLOCK b ∷ l) = turn m t nothingDone
+commandTick m t x (TASK ∷ l) = turn m t nothingDone
+commandTick m t x (RELEASE r ∷ l) = turn m t nothingDone
+commandTick m t x (END ∷ l) = turn m t nothingDone
 
 unfoldable pub transactionTick : ℕ → Memory → Task → Transaction → Inner → Turn
-unfolding commandTick readTick firstRead copyTick againRead exchangeTick committed
-transactionTick p m t x between = commandTick m t x (t .commands)
+unfolding commandTick readTick firstRead copyTick againRead exchangeTick committingBy
+transactionTick p m t x between = commandTick m t x (t .job .commands)
 transactionTick p m t x (first a r) = firstRead m t x a (readTick m (bank (blockOf a)) r)
 transactionTick p m t x (copying a n) = copyTick m t x a n
 transactionTick p m t x (again a v r) = againRead m t x a v (readTick m (bank (blockOf a)) r)
-transactionTick p m t x (committing e) = committed t x (exchangeTick p m e (e .step))
+transactionTick p m t x (committing e) = committingBy t x e (exchangeTick p m e (e .step))

@@ -12,8 +12,8 @@ pub record Word : Type 0 where
   pub task : ℕ
 
 -- a word starts valid, with count 0 and task 0
-abbrev pub fresh : ℕ → Word
-fresh v = record { value = v; count = 0; valid = true; task = 0 }
+abbrev pub freshWord : ℕ → Word
+freshWord v = record { value = v; count = 0; valid = true; task = 0 }
 
 abbrev pub sameMark : Bool → Bool → Bool
 sameMark true b = b
@@ -34,7 +34,7 @@ abbrev pub memory : List Word → List ℕ → List (List ℕ) → List (List �
 memory c s v b = record { cells = c; status = s; saves = v; stores = b }
 
 abbrev pub cellOf : Memory → ℕ → Word
-cellOf m c = at (fresh 0) (m .cells) c
+cellOf m c = at (freshWord 0) (m .cells) c
 
 abbrev pub statusOf : Memory → ℕ → ℕ
 statusOf m p = at 0 (m .status) p
@@ -87,12 +87,12 @@ pub data Read : Type 0 where
   reads : Reading → Read
   gives : ℕ → Read
 
-unfoldable pub lookBy : Bool → Word → Read
-lookBy true w = gives (w .value)
-lookBy false w = reads (fetching w)
+unfoldable pub lookingBy : Bool → Word → Read
+lookingBy true w = gives (w .value)
+lookingBy false w = reads (fetching w)
 
 unfoldable pub readTick : Memory → ℕ → Reading → Read
-unfolding at own lookBy
+unfolding at own lookingBy
 readTick m c loading = reads (looking (cellOf m c))
-readTick m c (looking w) = lookBy (own (m .status) w) w
+readTick m c (looking w) = lookingBy (own (m .status) w) w
 readTick m c (fetching w) = gives (saved (m .saves) (w .task) (w .count))

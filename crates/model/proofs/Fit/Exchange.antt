@@ -8,8 +8,8 @@ use lib.ListN.{length}
 use lib.Dec.{eqb}
 use borrow.Author.Tests.{eqb-false}
 use Rattle.model.specs.Lists.{at, replace}
-use Rattle.model.specs.Word.{fresh, Word, sameWord, Memory, cellOf, statusOf, own}
-use Rattle.model.specs.Exchange.{Entry, entry, Step, start, test, load, look, fetch, fail, mark, install, commit, save, clean, cleanMark, Exchange, Exchanged, goes, ends, exchangeOf, entryAt, changing, installed, cleaned, to, loaded, noted, onward, testBy, lookBy, afterSave, installBy, cleanBy, commitBy, nextBy, next, cleanWordBy, exchangeTick}
+use Rattle.model.specs.Word.{Word, sameWord, Memory, cellOf, statusOf, own, freshWord}
+use Rattle.model.specs.Exchange.{Entry, entry, Step, start, test, load, look, fetch, fail, mark, install, commit, save, clean, cleanMark, Exchange, Exchanged, goes, ends, exchangeOf, entryAt, changing, installed, cleaned, to, onward, testBy, lookBy, afterSave, installBy, cleanBy, commitBy, nextBy, next, cleanWordBy, exchangeTick, withInit, initLoaded}
 use Rattle.model.proofs.Lists.{length-replace}
 use Rattle.model.proofs.Fit.Elements.{or-none, replace-part}
 use Rattle.model.proofs.Fit.Memory.{MemoryFit, cell-fit, status-fit, save-fit}
@@ -25,9 +25,9 @@ pub record EntriesFit (low high : ℕ) (es : List Entry) : Type 0 where
   pub below : (i : ℕ) → i < length es → entryOf es i .cell < high
   pub different : (i j : ℕ) → i < length es → j < length es → entryOf es i .cell ≡ entryOf es j .cell → i ≡ j
 
--- nothing loaded yet
+-- nothing withInit yet
 pub record Unloaded (es : List Entry) : Type 0 where
-  pub init : (i : ℕ) → entryOf es i .init ≡ fresh 0
+  pub init : (i : ℕ) → entryOf es i .init ≡ freshWord 0
   pub overlapped : (i : ℕ) → entryOf es i .overlapped ≡ false
 
 -- the same cells, old and new values, in order
@@ -86,9 +86,9 @@ same-entries {low} {high} {es} {ps} s f =
       different = λ i j hi hj e. f .different i j (rw (s .size) at hi) (rw (s .size) at hj) (rw (s .cell i, s .cell j) at e);
     }
 
-noted-same : {es ps : List Entry} → SamePairs es ps → (i : ℕ) (w : Word) (o : Bool) → SamePairs (replace es i (loaded (entryOf es i) w o)) ps
+noted-same : {es ps : List Entry} → SamePairs es ps → (i : ℕ) (w : Word) (o : Bool) → SamePairs (replace es i (withInit (entryOf es i) w o)) ps
 noted-same {es} {ps} s i w o =
-    let e : Entry = loaded (entryOf es i) w o in
+    let e : Entry = withInit (entryOf es i) w o in
     record {
       size = length-replace es i e ∙ s .size;
       cell = λ j. replace-part (entry 0 0 0) (λ (a : Entry). a .cell) es i e refl j ∙ s .cell j;
@@ -108,11 +108,11 @@ module _ {low high : ℕ} {ps : List Entry} (some : 1 ≤ length ps) (fits : Ent
     on : {m : Memory} {s′ : Step} → MemoryFit m → StepFit (length (x .entries)) (x .i) s′ → ExchangedFit low high ps (goes m (to x s′))
     on g h = record { memory = g; exchange = exchange-of s h }
 
-    load-on : {m : Memory} (w : Word) (o : Bool) {s′ : Step} → MemoryFit m → StepFit (length (x .entries)) (x .i) s′ → ExchangedFit low high ps (goes m (noted x w o s′))
+    load-on : {m : Memory} (w : Word) (o : Bool) {s′ : Step} → MemoryFit m → StepFit (length (x .entries)) (x .i) s′ → ExchangedFit low high ps (goes m (initLoaded x w o s′))
     load-on w o {s′} g h =
         record {
           memory = g;
-          exchange = exchange-of (noted-same s (x .i) w o) (subst (λ (n : ℕ). StepFit n (x .i) s′) (sym (length-replace (x .entries) (x .i) (loaded (entryOf (x .entries) (x .i)) w o))) h);
+          exchange = exchange-of (noted-same s (x .i) w o) (subst (λ (n : ℕ). StepFit n (x .i) s′) (sym (length-replace (x .entries) (x .i) (withInit (entryOf (x .entries) (x .i)) w o))) h);
         }
 
     onward-on : {m : Memory} {s′ : Step} → MemoryFit m → StepFit (length (x .entries)) (suc (x .i)) s′ → ExchangedFit low high ps (goes m (onward x s′))

@@ -66,11 +66,11 @@ PhaseFit words blocks copies l ps (transacting x s) = TransactionFit words block
 -- a declared task with that body, after `now` ticks
 pub record TaskFit (words blocks : ℕ) (text : List Command) (now : ℕ) (t : Task) : Type 0 where
   pub body : t .body ≡ text
-  pub registers : length (t .registers) ≡ 8
+  pub registers : length (t .job .registers) ≡ 8
   pub copies : length (t .copies) ≡ 4
-  pub counts : t .finished + t .spent + t .rejected ≤ t .ticks
-  pub ticks : t .ticks ≤ now
-  pub phase : PhaseFit words blocks (t .copies) (t .commands) (t .pairs) (t .phase)
+  pub counts : t .counts .finished + t .counts .spent + t .counts .rejected ≤ t .counts .ticks
+  pub ticks : t .counts .ticks ≤ now
+  pub phase : PhaseFit words blocks (t .copies) (t .job .commands) (t .job .pairs) (t .job .phase)
 
 -- task p of the sheet
 abbrev pub DeclaredFit : Sheet → ℕ → ℕ → Task → Type 0

@@ -10,12 +10,13 @@ use lib.Seq.{getD-append-seam}
 use borrow.Author.Tests.{eq-eqb}
 use Rattle.model.specs.Lists.{at, replace}
 use Rattle.model.specs.Fault.{among, Body, Known, mayEnd, none?}
-use Rattle.model.specs.Word.{fresh, Memory, Read, reads, gives}
-use Rattle.model.specs.Exchange.{Entry, entry, Exchanged, goes, ends}
+use Rattle.model.specs.Word.{Memory, Read, reads, gives, freshWord}
+use Rattle.model.specs.Exchange.{Entry, entry, Exchanged, goes, ends, Exchange}
 use Rattle.model.specs.Command.{Command, LOAD, ADD, READ, PAIR, SWAP}
 use Rattle.model.specs.Sheet.{after, inBody, waiting}
-use Rattle.model.specs.Job.{Phase, reading, exchanging, Task, Turn, turn, rest, done, doneBy, inPhase}
-use Rattle.model.specs.Machine.{answer, readBy, swapBy}
+use Rattle.model.specs.Job.{Phase, reading, exchanging, Task, Turn, turn, rest, done, doneBy, inPhase, Deed}
+use Rattle.model.specs.Machine.{answer, readBy, swapBy, beginning}
+use Rattle.model.specs.Arguments.{Arguments}
 use Rattle.model.proofs.Lists.{at-append, same?, length-replace}
 use Rattle.model.proofs.Fit.Elements.{or-left, or-right, and-left, and-right, append-all}
 use Rattle.model.proofs.Fit.Exchange.{entryOf, EntriesFit, Unloaded, ExchangedFit}
@@ -80,7 +81,7 @@ module _ {low high : ℕ} {ps : List Entry} (f : EntriesFit low high ps) (c o n 
 pub unloaded-more : {ps : List Entry} → Unloaded ps → (c o n : ℕ) → Unloaded (ps ++ (entry c o n ∷ []))
 unloaded-more {ps} u c o n =
     record {
-      init = append-all (entry 0 0 0) (λ (e : Entry). e .init ≡ fresh 0) ps (entry c o n) refl refl (u .init);
+      init = append-all (entry 0 0 0) (λ (e : Entry). e .init ≡ freshWord 0) ps (entry c o n) refl refl (u .init);
       overlapped = append-all (entry 0 0 0) (λ (e : Entry). e .overlapped ≡ false) ps (entry c o n) refl refl (u .overlapped);
     }
 
@@ -89,14 +90,20 @@ unloaded-more {ps} u c o n =
 pub record TurnFit (words blocks : ℕ) (t : Task) (u : Turn) : Type 0 where
   pub memory : MemoryFit (u .memory)
   pub body : u .task .body ≡ t .body
-  pub registers : length (u .task .registers) ≡ 8
+  pub registers : length (u .task .job .registers) ≡ 8
   pub copies : length (u .task .copies) ≡ 4
-  pub counts : u .task .finished + u .task .spent + u .task .rejected ≤ suc (t .finished + t .spent + t .rejected)
-  pub ticks : u .task .ticks ≡ t .ticks
-  pub phase : PhaseFit words blocks (u .task .copies) (u .task .commands) (u .task .pairs) (u .task .phase)
+  pub counts : u .task .counts .finished + u .task .counts .spent + u .task .counts .rejected ≤ suc (t .counts .finished + t .counts .spent + t .counts .rejected)
+  pub ticks : u .task .counts .ticks ≡ t .counts .ticks
+  pub phase : PhaseFit words blocks (u .task .copies) (u .task .job .commands) (u .task .job .pairs) (u .task .job .phase)
+
+-- the same turn as the first of an operation
+pub first-turn-fit : {words blocks : ℕ} {t : Task} {u : Turn} {a : Arguments} → TurnFit words blocks t u → TurnFit words blocks t (beginning a u)
+first-turn-fit f =
+    record { memory = f .memory; body = f .body; registers = f .registers; copies = f .copies; counts = f .counts; ticks = f .ticks; phase = f .phase }
 
 -- the task as it was, in another phase
-pub phase-fit : {words blocks : ℕ} {m : Memory} (t : Task) (f : Phase) → MemoryFit m → length (t .registers) ≡ 8 → length (t .copies) ≡ 4 → PhaseFit words blocks (t .copies) (t .commands) (t .pairs) f → TurnFit words blocks t (turn m (inPhase t f))
+pub phase-fit : {words blocks : ℕ} {m : Memory} {d : Deed} (t : Task) (f : Phase) → MemoryFit m → length (t .job .registers) ≡ 8 → length (t .copies) ≡ 4
+    → PhaseFit words blocks (t .copies) (t .job .commands) (t .job .pairs) f → TurnFit words blocks t (turn m (inPhase t f) d)
 phase-fit t f g rs cs p = record { memory = g; body = refl; registers = rs; copies = cs; counts = omega arith; ticks = refl; phase = p }
 
 -- no PAIR waits where a body may end
@@ -107,11 +114,13 @@ none-waiting (x ∷ ps) b e q =
     absurd (false≢true (rw e at z))
 
 -- the command is done, and the job is outside a transaction
-pub done-fit : {words blocks : ℕ} {m : Memory} (t : Task) (l : List Command) (rs : List ℕ) (ps : List Entry) (cs : List ℕ) → rest (t .commands) ≡ l → MemoryFit m → length rs ≡ 8 → length cs ≡ 4 → OutsideFit words blocks l ps → TurnFit words blocks t (turn m (done t rs ps cs))
+pub done-fit : {words blocks : ℕ} {m : Memory} {d : Deed} (t : Task) (l : List Command) (rs : List ℕ) (ps : List Entry) (cs : List ℕ) → rest (t .job .commands) ≡ l
+    → MemoryFit m → length rs ≡ 8 → length cs ≡ 4 → OutsideFit words blocks l ps → TurnFit words blocks t (turn m (done t rs ps cs) d)
 unfolding doneBy
-done-fit {words} {blocks} {m} t l rs ps cs e g hr hc o = subst (λ (z : List Command). TurnFit words blocks t (turn m (doneBy z t rs ps cs))) (sym e) (go l o)
+done-fit {words} {blocks} {m} {d} t l rs ps cs e g hr hc o =
+    subst (λ (z : List Command). TurnFit words blocks t (turn m (doneBy z t rs ps cs) d)) (sym e) (go l o)
   where
-    go : (l : List Command) → OutsideFit words blocks l ps → TurnFit words blocks t (turn m (doneBy l t rs ps cs))
+    go : (l : List Command) → OutsideFit words blocks l ps → TurnFit words blocks t (turn m (doneBy l t rs ps cs) d)
     go [] o = record { memory = g; body = refl; registers = hr; copies = hc; counts = omega arith; ticks = refl; phase = record { commands = refl; noPairs = none-waiting ps (o .known .body) (o .waiting) (o .faultless) } }
     go (c ∷ l) o = record { memory = g; body = refl; registers = hr; copies = hc; counts = omega arith; ticks = refl; phase = record { command = c; others = l; commands = refl; outside = o } }
 
@@ -187,12 +196,12 @@ some-pairs ps b e q = go ps (rw e at q)
     go (x ∷ l) q = omega arith
 
 -- READ AND SWAP AT WORK
-pub read-fit : {words blocks : ℕ} {m : Memory} → MemoryFit m → (t : Task) → length (t .registers) ≡ 8 → length (t .copies) ≡ 4 → (r w : ℕ) → ReadingFit words blocks (t .commands) (t .pairs) r w → (o : Read) → TurnFit words blocks t (readBy m t r w o)
+pub read-fit : {words blocks : ℕ} {m : Memory} → MemoryFit m → (t : Task) → length (t .job .registers) ≡ 8 → length (t .copies) ≡ 4 → (r w : ℕ) → ReadingFit words blocks (t .job .commands) (t .job .pairs) r w → (o : Read) → TurnFit words blocks t (readBy m t r w o)
 unfolding readBy
 read-fit g t hr hc r w f (reads s) = phase-fit t (reading r w s) g hr hc f
 read-fit {words} {blocks} g t hr hc r w f (gives v) =
-    done-fit t (f .others) (replace (t .registers) r v) (t .pairs) (t .copies) (ap rest (f .commands)) g (length-replace (t .registers) r v ∙ hr) hc
-    (after-read (subst (λ (z : List Command). OutsideFit words blocks z (t .pairs)) (f .commands) (f .outside)))
+    done-fit t (f .others) (replace (t .job .registers) r v) (t .job .pairs) (t .copies) (ap rest (f .commands)) g (length-replace (t .job .registers) r v ∙ hr) hc
+    (after-read (subst (λ (z : List Command). OutsideFit words blocks z (t .job .pairs)) (f .commands) (f .outside)))
 
 -- what an exchange needs of its task, besides the exchange itself
 pub record SwapAt (words blocks : ℕ) (l : List Command) (ps : List Entry) (r : ℕ) : Type 0 where
@@ -201,9 +210,10 @@ pub record SwapAt (words blocks : ℕ) (l : List Command) (ps : List Entry) (r :
   pub register : r < 8
   pub outside : OutsideFit words blocks l ps
 
-pub swap-fit : {words blocks : ℕ} (t : Task) (hr : length (t .registers) ≡ 8) (hc : length (t .copies) ≡ 4) (r : ℕ) → SwapAt words blocks (t .commands) (t .pairs) r → (o : Exchanged) → ExchangedFit 0 words (t .pairs) o → TurnFit words blocks t (swapBy t r o)
+pub swap-fit : {words blocks : ℕ} (t : Task) (hr : length (t .job .registers) ≡ 8) (hc : length (t .copies) ≡ 4) (r : ℕ) → SwapAt words blocks (t .job .commands) (t .job .pairs) r
+    → (x : Exchange) (o : Exchanged) → ExchangedFit 0 words (t .job .pairs) o → TurnFit words blocks t (swapBy t r x o)
 unfolding swapBy
-swap-fit t hr hc r f (goes m x) e = phase-fit t (exchanging r x) (e .memory) hr hc (record { others = f .others; commands = f .commands; register = f .register; exchange = e .exchange; outside = f .outside })
-swap-fit {words} {blocks} t hr hc r f (ends m yes?) e =
-    done-fit t (f .others) (replace (t .registers) r (answer yes?)) [] (t .copies) (ap rest (f .commands)) e (length-replace (t .registers) r (answer yes?) ∙ hr) hc
-    (after-swap (subst (λ (z : List Command). OutsideFit words blocks z (t .pairs)) (f .commands) (f .outside)))
+swap-fit t hr hc r f y (goes m x) e = phase-fit t (exchanging r x) (e .memory) hr hc (record { others = f .others; commands = f .commands; register = f .register; exchange = e .exchange; outside = f .outside })
+swap-fit {words} {blocks} t hr hc r f y (ends m yes?) e =
+    done-fit t (f .others) (replace (t .job .registers) r (answer yes?)) [] (t .copies) (ap rest (f .commands)) e (length-replace (t .job .registers) r (answer yes?) ∙ hr) hc
+    (after-swap (subst (λ (z : List Command). OutsideFit words blocks z (t .job .pairs)) (f .commands) (f .outside)))

@@ -10,7 +10,7 @@ use Rattle.model.specs.Fault.{Body, Known, among, none?}
 use Rattle.model.specs.Sheet.{after, inBody, waiting, named}
 use Rattle.model.specs.Exchange.{Entry}
 use Rattle.model.specs.Job.{Touched, Transaction, Inner}
-use Rattle.model.specs.Transaction.{fresh}
+use Rattle.model.specs.Transaction.{freshTransaction}
 use Rattle.model.proofs.Fit.Elements.{and-right, include-more, include-size}
 use Rattle.model.proofs.Fit.Body.{Faultless, CommandFits, command-fits}
 use Rattle.model.proofs.Fit.Transaction.{touched?, copied?, namedBy, namedSoFar, BlocksFit, Inside, BegunFit, InnerFit, TransactionFit}
@@ -151,5 +151,5 @@ pub pass-of : {words blocks : ℕ} {copies : List ℕ} {l : List Command} {ps : 
 pass-of f = record { kept = f .kept; begun = f .begun; known = f .known; inside = f .inside; faultless = f .faultless; touched = f .touched }
 
 -- a pass begins with nothing touched
-pub pass-start : {words blocks : ℕ} {l : List Command} {kept : List ℕ} → BegunFit words blocks l → length kept ≡ 8 → PassFit words blocks l (fresh kept l)
+pub pass-start : {words blocks : ℕ} {l : List Command} {kept : List ℕ} → BegunFit words blocks l → length kept ≡ 8 → PassFit words blocks l (freshTransaction kept l)
 pass-start {blocks = blocks} {l} f h = record { kept = h; begun = f; known = f .known; inside = f .inside; faultless = f .faultless; touched = blocks-none blocks (namedSoFar l (f .known .body)) }

@@ -113,11 +113,11 @@ PhaseRange (transacting x s) = TransactionRange x s
 
 pub record TaskRange (t : Task) : Type 0 where
   pub body : CommandsRange (t .body)
-  pub commands : CommandsRange (t .commands)
-  pub register : (r : ℕ) → Value (at 0 (t .registers) r)
-  pub pair : (i : ℕ) → EntryRange (entryOf (t .pairs) i)
+  pub commands : CommandsRange (t .job .commands)
+  pub register : (r : ℕ) → Value (at 0 (t .job .registers) r)
+  pub pair : (i : ℕ) → EntryRange (entryOf (t .job .pairs) i)
   pub copy : (k : ℕ) → at 0 (t .copies) k < 256
-  pub phase : PhaseRange (t .phase)
+  pub phase : PhaseRange (t .job .phase)
 
 pub record Ranges (m : Machine) : Type 0 where
   pub memory : MemoryRange (m .memory)

@@ -6,8 +6,8 @@ use native.Mathlib.Omega.{arith}
 use lib.Dec.{eqb}
 use lib.ListN.{length}
 use Rattle.model.specs.Lists.{at, replace}
-use Rattle.model.specs.Word.{Word, fresh, sameWord, Memory, cellOf, statusOf, own, setCell, setStatus, setSave, setStored, Reading, loading, looking, fetching, lookBy, readTick}
-use Rattle.model.specs.Exchange.{Entry, entry, Step, start, test, load, look, fetch, fail, mark, install, commit, save, clean, cleanMark, Exchange, Exchanged, goes, ends, entryAt, changing, installed, cleaned, to, loaded, noted, onward, testBy, afterSave, installBy, cleanBy, commitBy, nextBy, next, cleanWordBy, exchangeTick}
+use Rattle.model.specs.Word.{Word, sameWord, Memory, cellOf, statusOf, own, setCell, setStatus, setSave, setStored, Reading, loading, looking, fetching, readTick, freshWord, lookingBy}
+use Rattle.model.specs.Exchange.{Entry, entry, Step, start, test, load, look, fetch, fail, mark, install, commit, save, clean, cleanMark, Exchange, Exchanged, goes, ends, entryAt, changing, installed, cleaned, to, onward, testBy, afterSave, installBy, cleanBy, commitBy, nextBy, next, cleanWordBy, exchangeTick, withInit, initLoaded}
 use Rattle.model.specs.Exchange.{lookBy as lookAtBy}
 use Rattle.model.proofs.Fit.Elements.{replace-all}
 use Rattle.model.proofs.Fit.Exchange.{entryOf, StepFit}
@@ -16,7 +16,7 @@ use Rattle.model.proofs.Fit.Ranges.{Value, WordRange, MemoryRange, Read
 -- MEMORY
 module _ {m : Memory} (f : MemoryRange m) where
   pub cell-range : (c : ℕ) (w : Word) → WordRange w → MemoryRange (setCell m c w)
-  cell-range c w h = record { cell = replace-all (fresh 0) WordRange (m .cells) c w h (f .cell); status = f .status; save = f .save; store = f .store }
+  cell-range c w h = record { cell = replace-all (freshWord 0) WordRange (m .cells) c w h (f .cell); status = f .status; save = f .save; store = f .store }
 
   pub status-range : (p v : ℕ) → v ≤ 2 → MemoryRange (setStatus m p v)
   status-range p v h = record { cell = f .cell; status = replace-all 0 (λ (n : ℕ). n ≤ 2) (m .status) p v h (f .status); save = f .save; store = f .store }
@@ -32,8 +32,8 @@ module _ {m : Memory} (f : MemoryRange m) where
   stored-range s n v h = record { cell = f .cell; status = f .status; save = f .save; store = row-range (m .stores) (f .store) s n v h }
 
   -- READ
-  look-range : (b : Bool) (w : Word) → WordRange w → ReadRange (lookBy b w)
-  unfolding lookBy
+  look-range : (b : Bool) (w : Word) → WordRange w → ReadRange (lookingBy b w)
+  unfolding lookingBy
   look-range true w h = h .value
   look-range false w h = h
 
@@ -56,11 +56,11 @@ module _ (p : ℕ) (hp : p < 8) {m : Memory} (f : MemoryRange m) (x : Exchange) 
   on : {n : Memory} {s : Step} → MemoryRange n → StepRange s → ExchangedRange (goes n (to x s))
   on g h = record { memory = g; exchange = record { entry = es; step = h } }
 
-  noted-range : (w : Word) (o : Bool) {s : Step} → WordRange w → StepRange s → ExchangedRange (goes m (noted x w o s))
+  noted-range : (w : Word) (o : Bool) {s : Step} → WordRange w → StepRange s → ExchangedRange (goes m (initLoaded x w o s))
   noted-range w o h g =
       let e : Entry = entryAt x (x .i) in
       let r = es (x .i) in
-      record { memory = f; exchange = record { entry = replace-all (entry 0 0 0) EntryRange (x .entries) (x .i) (loaded e w o) (record { old = r .old; new = r .new; init = h }) es; step = g } }
+      record { memory = f; exchange = record { entry = replace-all (entry 0 0 0) EntryRange (x .entries) (x .i) (withInit e w o) (record { old = r .old; new = r .new; init = h }) es; step = g } }
 
   onward-range : {n : Memory} {s : Step} → MemoryRange n → StepRange s → ExchangedRange (goes n (onward x s))
   onward-range g h = record { memory = g; exchange = record { entry = es; step = h } }

@@ -7,10 +7,10 @@ use lib.ListN.{length, replicate, getD}
 use Rattle.model.specs.Lists.{at}
 use Rattle.model.specs.Command.{Block, Command, Release, blockOf, WORD, BLOCK, TASK, RELEASE, END, LOAD, ADD, READ, PAIR, SWAP, BEGIN, access, COMMIT, Row, table, operand, bigEndian}
 use Rattle.model.specs.Sheet.{Sheet, Declared, declares, inOpenBody, declare, declared, accepted, verdict, sheetOf}
-use Rattle.model.specs.Word.{fresh as freshWord}
 use Rattle.model.specs.Transaction.{bankValue}
-use Rattle.model.specs.Machine.{noTask, taskAt, filled, zeros, copiesOf, banksFrom, valuesOf, tasksFrom, startMemory, startMachine, run}
+use Rattle.model.specs.Machine.{noTask, taskAt, filled, zeros, copiesOf, banksFrom, tasksFrom, startMemory, startMachine, run, startValues}
 use Rattle.model.specs.Fault.{Known}
+use Rattle.model.specs.Word.{freshWord}
 use Rattle.model.proofs.Lists.{at-map}
 use Rattle.model.proofs.Fit.Elements.{append-every, replicate-every, first-every}
 use Rattle.model.proofs.Fit.Sheet.{releaseAt, noBlock, blockAt, SheetFit, noRelease}
@@ -63,10 +63,10 @@ module _ {s : Sheet} (c : SheetFit s) (f : SheetRange s) where
             (filled-every (freshWord 0) WordRange 16 (freshWord 0) (banksFrom (4 * length (s .bodies)) (s .blocks)) no-word no-word (banks-range (4 * length (s .bodies)) (s .blocks) (omega (arith, c .bodies, c .blocks)) (c .version)));
         status = λ p. replicate-every 0 (λ (n : ℕ). n ≤ 2) 8 0 (omega arith) (omega arith) p;
         save = replicate-every [] RowRange 8 (zeros 8) (zeros-range 8) none-range;
-        store = filled-every [] RowRange 48 (zeros 8) (replicate (4 * length (s .bodies)) (zeros 8) ++ map valuesOf (s .blocks)) (zeros-range 8) none-range
-            (append-every [] RowRange (replicate (4 * length (s .bodies)) (zeros 8)) (map valuesOf (s .blocks))
+        store = filled-every [] RowRange 48 (zeros 8) (replicate (4 * length (s .bodies)) (zeros 8) ++ map startValues (s .blocks)) (zeros-range 8) none-range
+            (append-every [] RowRange (replicate (4 * length (s .bodies)) (zeros 8)) (map startValues (s .blocks))
             (replicate-every [] RowRange (4 * length (s .bodies)) (zeros 8) (zeros-range 8) none-range)
-            (λ b. subst RowRange (sym (at-map valuesOf noBlock (s .blocks) b)) (f .value b)));
+            (λ b. subst RowRange (sym (at-map startValues noBlock (s .blocks) b)) (f .value b)));
       }
 
   copies-range : (p : ℕ) → p < 8 → (k : ℕ) → at 0 (copiesOf p) k < 256

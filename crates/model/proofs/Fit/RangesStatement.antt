@@ -10,10 +10,11 @@ use Rattle.model.specs.Lists.{at, replace}
 use Rattle.model.specs.Command.{Release, Command, WORD, BLOCK, TASK, RELEASE, END, LOAD, ADD, READ, PAIR, SWAP, BEGIN, access, COMMIT}
 use Rattle.model.specs.Word.{Memory, loading, Read, reads, gives, readTick}
 use Rattle.model.specs.Sheet.{Sheet}
-use Rattle.model.specs.Exchange.{Entry, entry, Exchanged, goes, ends, exchangeOf, start, exchangeTick}
-use Rattle.model.specs.Job.{between, Phase, idle, plain, reading, exchanging, transacting, Task, turn, started, ticked}
-use Rattle.model.specs.Transaction.{fresh, loaded, added}
-use Rattle.model.specs.Machine.{answer, readBy, swapBy, plainTick, statement, Machine, machine, noTask, taskAt, unfinished, Running, nobody, running, runningOf, releaseBy, arriveBy, arrive, move, moveAny, tick}
+use Rattle.model.specs.Exchange.{Entry, entry, Exchanged, goes, ends, exchangeOf, start, exchangeTick, Exchange}
+use Rattle.model.specs.Job.{between, Phase, idle, plain, reading, exchanging, transacting, Task, turn, started, counting, ticks, Deed, Turn}
+use Rattle.model.specs.Transaction.{loaded, added, freshTransaction}
+use Rattle.model.specs.Machine.{answer, readBy, swapBy, plainTick, statement, Machine, machine, noTask, taskAt, unfinished, Running, nobody, running, runningOf, releaseBy, arriveBy, move, moveAny, tick, arrive, enter, beginning}
+use Rattle.model.specs.Arguments.{Arguments}
 use Rattle.model.proofs.Fit.Elements.{replace-all, append-all, replicate-every}
 use Rattle.model.proofs.Fit.Sheet.{SheetFit}
 use Rattle.model.proofs.Fit.Machine.{PhaseFit, TaskFit, Fit}
@@ -28,31 +29,37 @@ module _ {m : Memory} (g : MemoryRange m) {t : Task} (f : TaskRange t) where
   read-by-range : (r w : ℕ) (o : Read) → ReadRange o → TurnRange (readBy m t r w o)
   unfolding readBy
   read-by-range r w (reads s) k = record { memory = g; task = in-phase-range f (reading r w s) k }
-  read-by-range r w (gives v) k = record { memory = g; task = done-range f (replace (t .registers) r v) (t .pairs) (t .copies) (loaded-range f r v k) (f .pair) (f .copy) }
+  read-by-range r w (gives v) k = record { memory = g; task = done-range f (replace (t .job .registers) r v) (t .job .pairs) (t .copies) (loaded-range f r v k) (f .pair) (f .copy) }
 
   answer-range : (yes? : Bool) → Value (answer yes?)
   answer-range true = omega arith
   answer-range false = omega arith
 
-  swap-by-range : (r : ℕ) (o : Exchanged) → ExchangedRange o → TurnRange (swapBy t r o)
+  swap-by-range : (r : ℕ) (v : Exchange) (o : Exchanged) → ExchangedRange o → TurnRange (swapBy t r v o)
   unfolding swapBy
-  swap-by-range r (goes n x) k = record { memory = k .memory; task = in-phase-range f (exchanging r x) (k .exchange) }
-  swap-by-range r (ends n yes?) k = record { memory = k; task = done-range f (replace (t .registers) r (answer yes?)) [] (t .copies) (loaded-range f r (answer yes?) (answer-range yes?)) no-entry-range (f .copy) }
+  swap-by-range r v (goes n x) k = record { memory = k .memory; task = in-phase-range f (exchanging r x) (k .exchange) }
+  swap-by-range r v (ends n yes?) k = record { memory = k; task = done-range f (replace (t .job .registers) r (answer yes?)) [] (t .copies) (loaded-range f r (answer yes?) (answer-range yes?)) no-entry-range (f .copy) }
 
-  same-range : TurnRange (turn m t)
+  -- the same turn as the first of an operation
+  first-range : {u : Turn} {a : Arguments} → TurnRange u → TurnRange (beginning a u)
+  first-range k = record { memory = k .memory; task = k .task }
+
+  same-range : {d : Deed} → TurnRange (turn m t d)
   same-range = record { memory = g; task = f }
 
   plain-range : (p : ℕ) → p < 8 → (l : List Command) → CommandsRange l → TurnRange (plainTick p m t l)
   unfolding plainTick
   plain-range p hp [] k = same-range
-  plain-range p hp (LOAD r v ∷ l) k = record { memory = g; task = done-range f (loaded (t .registers) r v) (t .pairs) (t .copies) (loaded-range f r v (k .command)) (f .pair) (f .copy) }
-  plain-range p hp (ADD r q ∷ l) k = record { memory = g; task = done-range f (added (t .registers) r q) (t .pairs) (t .copies) (added-range f r q) (f .pair) (f .copy) }
-  plain-range p hp (READ r w ∷ l) k = read-by-range r w (readTick m w loading) (read-range g w loading tt)
+  plain-range p hp (LOAD r v ∷ l) k = record { memory = g; task = done-range f (loaded (t .job .registers) r v) (t .job .pairs) (t .copies) (loaded-range f r v (k .command)) (f .pair) (f .copy) }
+  plain-range p hp (ADD r q ∷ l) k = record { memory = g; task = done-range f (added (t .job .registers) r q) (t .job .pairs) (t .copies) (added-range f r q) (f .pair) (f .copy) }
+  plain-range p hp (READ r w ∷ l) k = first-range (read-by-range r w (readTick m w loading) (read-range g w loading tt))
   plain-range p hp (PAIR w o n ∷ l) k =
-      let e : Entry = entry w (at 0 (t .registers) o) (at 0 (t .registers) n) in
-      record { memory = g; task = done-range f (t .registers) (t .pairs ++ (e ∷ [])) (t .copies) (f .register) (append-all (entry 0 0 0) EntryRange (t .pairs) e no-entry (record { old = f .register o; new = f .register n; init = no-entry .init }) (f .pair)) (f .copy) }
-  plain-range p hp (SWAP r ∷ l) k = swap-by-range r (exchangeTick p m (exchangeOf (t .pairs)) start) (exchange-range p hp g (exchangeOf (t .pairs)) (f .pair) 8 (omega arith) start refl tt)
-  plain-range p hp (BEGIN ∷ l) k = record { memory = g; task = within-range f l (t .registers) (fresh (t .registers) l) between (k .others) (f .register) (fresh-range (t .registers) l (f .register) (k .others)) }
+      let e : Entry = entry w (at 0 (t .job .registers) o) (at 0 (t .job .registers) n) in
+      record { memory = g; task = done-range f (t .job .registers) (t .job .pairs ++ (e ∷ [])) (t .copies) (f .register) (append-all (entry 0 0 0) EntryRange (t .job .pairs) e no-entry (record { old = f .register o; new = f .register n; init = no-entry .init }) (f .pair)) (f .copy) }
+  plain-range p hp (SWAP r ∷ l) k =
+      let x = exchangeOf (t .job .pairs) in
+      first-range (swap-by-range r x (exchangeTick p m x start) (exchange-range p hp g x (f .pair) 8 (omega arith) start refl tt))
+  plain-range p hp (BEGIN ∷ l) k = record { memory = g; task = within-range f l (t .job .registers) (freshTransaction (t .job .registers) l) between (k .others) (f .register) (fresh-range (t .job .registers) l (f .register) (k .others)) }
   plain-range p hp (access a ∷ l) k = same-range
   plain-range p hp (COMMIT ∷ l) k = same-range
   plain-range p hp (WORD v ∷ l) k = same-range
@@ -61,18 +68,18 @@ module _ {m : Memory} (g : MemoryRange m) {t : Task} (f : TaskRange t) where
   plain-range p hp (RELEASE r ∷ l) k = same-range
   plain-range p hp (END ∷ l) k = same-range
 
-  phase-range : (words blocks p : ℕ) → p < 8 → (s : Phase) → PhaseFit words blocks (t .copies) (t .commands) (t .pairs) s → PhaseRange s → TurnRange (statement p m t s)
+  phase-range : (words blocks p : ℕ) → p < 8 → (s : Phase) → PhaseFit words blocks (t .copies) (t .job .commands) (t .job .pairs) s → PhaseRange s → TurnRange (statement p m t s)
   unfolding statement
   phase-range words blocks p hp idle h k = same-range
-  phase-range words blocks p hp plain h k = plain-range p hp (t .commands) (f .commands)
+  phase-range words blocks p hp plain h k = plain-range p hp (t .job .commands) (f .commands)
   phase-range words blocks p hp (reading r w s) h k = read-by-range r w (readTick m w s) (read-range g w s k)
   phase-range words blocks p hp (exchanging r x) h k =
       let e = h .exchange in
-      swap-by-range r (exchangeTick p m x (x .step)) (exchange-range p hp g x (k .entry) (length (x .entries)) (e .entries .most) (x .step) (e .step) (k .step))
+      swap-by-range r x (exchangeTick p m x (x .step)) (exchange-range p hp g x (k .entry) (length (x .entries)) (e .entries .most) (x .step) (e .step) (k .step))
   phase-range words blocks p hp (transacting x s) h k = transaction-range p hp g f s h k
 
-  pub statement-range : {words blocks now : ℕ} {text : List Command} (p : ℕ) → p < 8 → TaskFit words blocks text now t → TurnRange (statement p m t (t .phase))
-  statement-range {words} {blocks} p hp h = phase-range words blocks p hp (t .phase) (h .phase) (f .phase)
+  pub statement-range : {words blocks now : ℕ} {text : List Command} (p : ℕ) → p < 8 → TaskFit words blocks text now t → TurnRange (statement p m t (t .job .phase))
+  statement-range {words} {blocks} p hp h = phase-range words blocks p hp (t .job .phase) (h .phase) (f .phase)
 
 -- RELEASES
 pub zeros-range : (n r : ℕ) → Value (at 0 (replicate n 0) r)
@@ -81,7 +88,7 @@ zeros-range n r = replicate-every 0 Value n 0 (omega arith) (omega arith) r
 started-range : {t : Task} → TaskRange t → TaskRange (started t)
 started-range f = record { body = f .body; commands = f .body; register = zeros-range 8; pair = no-entry-range; copy = f .copy; phase = tt }
 
-ticked-range : {t : Task} → TaskRange t → TaskRange (ticked t)
+ticked-range : {t : Task} → TaskRange t → TaskRange (counting ticks t)
 ticked-range f = record { body = f .body; commands = f .commands; register = f .register; pair = f .pair; copy = f .copy; phase = f .phase }
 
 arrive-range : (l : List Release) (m : Machine) → Ranges m → Ranges (arrive l m)
@@ -99,12 +106,12 @@ arrive-range (r ∷ l) m f = go (eqb (r .tick) (m .now)) (arrive-range l)
         on (machine (m .memory) (replace (m .tasks) p t) (m .releases) (m .now) (m .dropped)) (record { memory = f .memory; task = replace-all noTask TaskRange (m .tasks) p t (started-range (f .task p)) (f .task) })
 
     go : (b : Bool) → ((m : Machine) → Ranges m → Ranges (arrive l m)) → Ranges (arriveBy b (arrive l) r l m)
-    go true on = released (unfinished (taskAt (m .tasks) p .phase)) on
+    go true on = released (unfinished (taskAt (m .tasks) p .job .phase)) on
     go false on = record { memory = f .memory; task = f .task }
 
 -- TICKS
 module _ {s : Sheet} (c : SheetFit s) where
-  move-range : {m : Machine} → Fit s m → Ranges m → (r : Running) → RunningFit (m .tasks) r → Ranges (move m r)
+  move-range : {m : Machine} → Fit s m → Ranges m → (r : Running) → RunningFit m r → Ranges (move m r)
   unfolding move
   move-range f k nobody r = record { memory = k .memory; task = k .task }
   move-range {m} f k (running p) r =
@@ -113,10 +120,10 @@ module _ {s : Sheet} (c : SheetFit s) where
       record { memory = u .memory; task = replace-all noTask TaskRange (m .tasks) p _ (ticked-range (u .task)) (k .task) }
 
   pub tick-range : {m : Machine} → Fit s m → Ranges m → Ranges (tick m)
-  unfolding tick moveAny
+  unfolding tick moveAny enter
   tick-range {m} f k =
-      let n : Machine = arrive (m .releases) m in
-      move-range (arrived-fit (arrive-fit c f)) (arrive-range (m .releases) m k) (runningOf (n .tasks)) (running-fit (n .tasks))
+      let n : Machine = enter m in
+      move-range (arrived-fit (arrive-fit c f)) (arrive-range (m .releases) m k) (runningOf n) (running-fit n)
 
   pub after-ticks-range : (n : ℕ) {m : Machine} → Fit s m → Ranges m → Ranges (stateAfter m n)
   unfolding stateAfter

@@ -10,9 +10,9 @@ use borrow.Author.Tests.{eqb-false}
 use Rattle.model.specs.Lists.{at, replace}
 use Rattle.model.specs.Command.{Access, GET, PUT, Command, WORD, BLOCK, TASK, RELEASE, END, LOAD, ADD, READ, PAIR, SWAP, BEGIN, access, COMMIT}
 use Rattle.model.specs.Word.{Memory, stored, loading, Read, reads, gives, readTick, setStored}
-use Rattle.model.specs.Exchange.{Entry, entry, Exchanged, goes, ends, exchangeOf, exchangeTick}
-use Rattle.model.specs.Job.{Touched, untouched, remembered, copied, Transaction, Inner, between, first, copying, again, committing, Phase, reading, Task, Turn, turn, rest, done, doneBy, inPhase}
-use Rattle.model.specs.Transaction.{bank, bankValue, versionOf, storeOf, blockOf, rememberedOf, touchedOf, fresh, touch, within, stays, goesOn, restarted, loaded, added, firstRead, copyBy, copyTick, accessTick, checkBy, againRead, nothing?, spent?, gather, takenBack, commitBy, committed, commandTick, transactionTick}
+use Rattle.model.specs.Exchange.{Entry, entry, Exchanged, goes, ends, exchangeOf, exchangeTick, Exchange}
+use Rattle.model.specs.Job.{Touched, untouched, remembered, copied, Transaction, Inner, between, first, copying, again, committing, Phase, reading, Task, Turn, turn, rest, done, doneBy, inPhase, Deed}
+use Rattle.model.specs.Transaction.{bank, bankValue, versionOf, storeOf, blockOf, rememberedOf, touchedOf, touch, within, stays, goesOn, restarted, loaded, added, firstRead, copyBy, copyTick, accessTick, checkBy, againRead, nothing?, spent?, gather, takenBack, commandTick, transactionTick, freshTransaction, commitCommandBy, committingBy}
 use Rattle.model.proofs.Fit.Elements.{or-none, or-none-right, replace-all, first-every}
 use Rattle.model.proofs.Fit.Exchange.{entryOf}
 use Rattle.model.proofs.Fit.Transaction.{TransactionFit}
@@ -70,7 +70,7 @@ taken-back-range copies (copied v k ∷ ts) h = taken-back-range (replace copies
 module _ {t : Task} (f : TaskRange t) where
   pub done-range : (rs : List ℕ) (ps : List Entry) (cs : List ℕ) → ((r : ℕ) → Value (at 0 rs r)) → ((i : ℕ) → EntryRange (entryOf ps i)) → ((k : ℕ) → at 0 cs k < 256) → TaskRange (done t rs ps cs)
   unfolding doneBy
-  done-range rs ps cs hr hp hc = go (rest (t .commands)) (rest-range (t .commands) (f .commands))
+  done-range rs ps cs hr hp hc = go (rest (t .job .commands)) (rest-range (t .job .commands) (f .commands))
     where
       go : (l : List Command) → CommandsRange l → TaskRange (doneBy l t rs ps cs)
       go [] h = record { body = f .body; commands = tt; register = hr; pair = hp; copy = hc; phase = tt }
@@ -82,15 +82,15 @@ module _ {t : Task} (f : TaskRange t) where
   pub within-range : (l : List Command) (rs : List ℕ) (x : Transaction) (s : Inner) → CommandsRange l → ((r : ℕ) → Value (at 0 rs r)) → TransactionRange x s → TaskRange (within t l rs x s)
   within-range l rs x s hl hr h = record { body = f .body; commands = hl; register = hr; pair = no-entry-range; copy = f .copy; phase = h }
 
-  pub loaded-range : (r v : ℕ) → Value v → (q : ℕ) → Value (at 0 (loaded (t .registers) r v) q)
-  loaded-range r v h = replace-all 0 Value (t .registers) r v h (f .register)
+  pub loaded-range : (r v : ℕ) → Value v → (q : ℕ) → Value (at 0 (loaded (t .job .registers) r v) q)
+  loaded-range r v h = replace-all 0 Value (t .job .registers) r v h (f .register)
 
-  pub added-range : (r q : ℕ) (i : ℕ) → Value (at 0 (added (t .registers) r q) i)
-  added-range r q = replace-all 0 Value (t .registers) r _ (omega arith) (f .register)
+  pub added-range : (r q : ℕ) (i : ℕ) → Value (at 0 (added (t .job .registers) r q) i)
+  added-range r q = replace-all 0 Value (t .job .registers) r _ (omega arith) (f .register)
 
 -- TRANSACTIONS
 -- nothing touched
-pub fresh-range : (kept : List ℕ) (l : List Command) → ((r : ℕ) → Value (at 0 kept r)) → CommandsRange l → TransactionRange (fresh kept l) between
+pub fresh-range : (kept : List ℕ) (l : List Command) → ((r : ℕ) → Value (at 0 kept r)) → CommandsRange l → TransactionRange (freshTransaction kept l) between
 fresh-range kept l k h = record { kept = k; commands = h; block = λ b. subst TouchedRange (sym (at-none b)) tt; inner = tt }
 
 module _ {m : Memory} (g : MemoryRange m) {t : Task} (f : TaskRange t) {x : Transaction} {s : Inner} (h : TransactionRange x s) where
@@ -101,19 +101,19 @@ module _ {m : Memory} (g : MemoryRange m) {t : Task} (f : TaskRange t) {x : Tran
   touch-range : (b : ℕ) (u : Touched) (n : ℕ) → TouchedRange u → TransactionRange (touch x b u n) between
   touch-range b u n r = record { kept = h .kept; commands = h .commands; block = replace-all untouched TouchedRange (x .blocks) b u r (h .block); inner = tt }
 
-  stays-range : {n : Memory} (s′ : Inner) → MemoryRange n → InnerRange s′ → TurnRange (turn n (stays t x s′))
-  stays-range s′ k i = record { memory = k; task = within-range f (t .commands) (t .registers) x s′ (f .commands) (f .register) (inner-range s′ i) }
+  stays-range : {n : Memory} {d : Deed} (s′ : Inner) → MemoryRange n → InnerRange s′ → TurnRange (turn n (stays t x s′) d)
+  stays-range s′ k i = record { memory = k; task = within-range f (t .job .commands) (t .job .registers) x s′ (f .commands) (f .register) (inner-range s′ i) }
 
-  goes-on-range : {n : Memory} (rs : List ℕ) → MemoryRange n → ((r : ℕ) → Value (at 0 rs r)) → TurnRange (turn n (goesOn t rs x))
-  goes-on-range rs k r = record { memory = k; task = within-range f (rest (t .commands)) rs x between (rest-range (t .commands) (f .commands)) r (inner-range between tt) }
+  goes-on-range : {n : Memory} {d : Deed} (rs : List ℕ) → MemoryRange n → ((r : ℕ) → Value (at 0 rs r)) → TurnRange (turn n (goesOn t rs x) d)
+  goes-on-range rs k r = record { memory = k; task = within-range f (rest (t .job .commands)) rs x between (rest-range (t .job .commands) (f .commands)) r (inner-range between tt) }
 
   restarted-range : TaskRange (restarted t x)
-  restarted-range = within-range f (x .commands) (x .kept) (fresh (x .kept) (x .commands)) between (h .commands) (h .kept) (fresh-range (x .kept) (x .commands) (h .kept) (h .commands))
+  restarted-range = within-range f (x .commands) (x .kept) (freshTransaction (x .kept) (x .commands)) between (h .commands) (h .kept) (fresh-range (x .kept) (x .commands) (h .kept) (h .commands))
 
   first-read-range : (a : Access) (o : Read) → ReadRange o → TurnRange (firstRead m t x a o)
   unfolding firstRead
   first-read-range a (reads r) k = stays-range (first a r) g k
-  first-read-range a (gives v) k = record { memory = g; task = within-range f (t .commands) (t .registers) _ between (f .commands) (f .register) (touch-range (blockOf a) (remembered v) (x .used) k) }
+  first-read-range a (gives v) k = record { memory = g; task = within-range f (t .job .commands) (t .job .registers) _ between (f .commands) (f .register) (touch-range (blockOf a) (remembered v) (x .used) k) }
 
   copy-range : (a : Access) (n : ℕ) → TurnRange (copyTick m t x a n)
   unfolding copyTick copyBy
@@ -139,14 +139,14 @@ module _ {m : Memory} (g : MemoryRange m) {t : Task} (f : TaskRange t) {x : Tran
   access-range (GET r b o) (copied v k) = stays-range (again (GET r b o) (stored (m .stores) (at 0 (t .copies) k) o) loading) g (record { value = g .store (at 0 (t .copies) k) o; reading = tt })
   access-range (PUT b o r) untouched = first-read-range (PUT b o r) (readTick m (bank b) loading) (read-range g (bank b) loading tt)
   access-range (PUT b o r) (remembered v) = copy-range (PUT b o r) 0
-  access-range (PUT b o r) (copied v k) = goes-on-range (t .registers) (stored-range g (at 0 (t .copies) k) o (at 0 (t .registers) r) (f .register r)) (f .register)
+  access-range (PUT b o r) (copied v k) = goes-on-range (t .job .registers) (stored-range g (at 0 (t .copies) k) o (at 0 (t .job .registers) r) (f .register r)) (f .register)
 
   check-range : (b : Bool) (a : Access) (v : ℕ) → Value v → TurnRange (checkBy b m t x a v)
   unfolding checkBy
-  check-range true (GET r b o) v k = goes-on-range (loaded (t .registers) r v) g (loaded-range f r v k)
+  check-range true (GET r b o) v k = goes-on-range (loaded (t .job .registers) r v) g (loaded-range f r v k)
   check-range true (PUT b o r) v k =
       let u : Touched = copied (rememberedOf (touchedOf x b)) (x .used) in
-      record { memory = g; task = within-range f (t .commands) (t .registers) _ between (f .commands) (f .register) (touch-range b u (suc (x .used)) (remembered-range (touchedOf x b) (h .block b))) }
+      record { memory = g; task = within-range f (t .job .commands) (t .job .registers) _ between (f .commands) (f .register) (touch-range b u (suc (x .used)) (remembered-range (touchedOf x b) (h .block b))) }
   check-range false a v k = record { memory = g; task = restarted-range }
 
   again-range : (a : Access) (v : ℕ) → Value v → (o : Read) → ReadRange o → TurnRange (againRead m t x a v o)
@@ -154,26 +154,26 @@ module _ {m : Memory} (g : MemoryRange m) {t : Task} (f : TaskRange t) {x : Tran
   again-range a v k (reads r) i = stays-range (again a v r) g (record { value = k; reading = i })
   again-range a v k (gives w) i = check-range (eqb (versionOf w) (versionOf (rememberedOf (touchedOf x (blockOf a))))) a v k
 
-  commit-range : (nothing spent : Bool) → spent? (x .blocks) ≡ spent → TurnRange (commitBy nothing spent m t x)
-  unfolding commitBy
-  commit-range true spent e = record { memory = g; task = done-range f (t .registers) [] (t .copies) (f .register) no-entry-range (f .copy) }
+  commit-range : (nothing spent : Bool) → spent? (x .blocks) ≡ spent → TurnRange (commitCommandBy nothing spent m t x)
+  unfolding commitCommandBy
+  commit-range true spent e = record { memory = g; task = done-range f (t .job .registers) [] (t .copies) (f .register) no-entry-range (f .copy) }
   commit-range false true e = record { memory = g; task = record { body = f .body; commands = tt; register = f .register; pair = no-entry-range; copy = f .copy; phase = tt } }
   commit-range false false e = stays-range (committing (exchangeOf (gather (t .copies) 0 (x .blocks)))) g (record { entry = gather-range (t .copies) (f .copy) 0 (x .blocks) (h .block) e; step = tt })
 
-  committed-range : (o : Exchanged) → ExchangedRange o → TurnRange (committed t x o)
-  unfolding committed
-  committed-range (goes n e) k = stays-range (committing e) (k .memory) (k .exchange)
-  committed-range (ends n true) k = record { memory = k; task = done-range f (t .registers) [] (takenBack (t .copies) (x .blocks)) (f .register) no-entry-range (taken-back-range (t .copies) (x .blocks) (f .copy)) }
-  committed-range (ends n false) k = let r = restarted-range in record { memory = k; task = record { body = r .body; commands = r .commands; register = r .register; pair = r .pair; copy = r .copy; phase = r .phase } }
+  committed-range : (v : Exchange) (o : Exchanged) → ExchangedRange o → TurnRange (committingBy t x v o)
+  unfolding committingBy
+  committed-range v (goes n e) k = stays-range (committing e) (k .memory) (k .exchange)
+  committed-range v (ends n true) k = record { memory = k; task = done-range f (t .job .registers) [] (takenBack (t .copies) (x .blocks)) (f .register) no-entry-range (taken-back-range (t .copies) (x .blocks) (f .copy)) }
+  committed-range v (ends n false) k = let r = restarted-range in record { memory = k; task = record { body = r .body; commands = r .commands; register = r .register; pair = r .pair; copy = r .copy; phase = r .phase } }
 
-  same-range : TurnRange (turn m t)
+  same-range : {d : Deed} → TurnRange (turn m t d)
   same-range = record { memory = g; task = f }
 
   command-range : (l : List Command) → CommandsRange l → TurnRange (commandTick m t x l)
   unfolding commandTick
   command-range [] k = same-range
-  command-range (LOAD r v ∷ l) k = goes-on-range (loaded (t .registers) r v) g (loaded-range f r v (k .command))
-  command-range (ADD r q ∷ l) k = goes-on-range (added (t .registers) r q) g (added-range f r q)
+  command-range (LOAD r v ∷ l) k = goes-on-range (loaded (t .job .registers) r v) g (loaded-range f r v (k .command))
+  command-range (ADD r q ∷ l) k = goes-on-range (added (t .job .registers) r q) g (added-range f r q)
   command-range (access a ∷ l) k = access-range a (touchedOf x (blockOf a))
   command-range (COMMIT ∷ l) k = commit-range (nothing? (x .blocks)) (spent? (x .blocks)) refl
   command-range (READ r w ∷ l) k = same-range
@@ -188,10 +188,10 @@ module _ {m : Memory} (g : MemoryRange m) {t : Task} (f : TaskRange t) {x : Tran
 
 pub transaction-range : {words blocks : ℕ} {copies : List ℕ} {l : List Command} {ps : List Entry} (p : ℕ) → p < 8 → {m : Memory} → MemoryRange m → {t : Task} → TaskRange t → {x : Transaction} (s : Inner) → TransactionFit words blocks copies l ps x s → TransactionRange x s → TurnRange (transactionTick p m t x s)
 unfolding transactionTick
-transaction-range p hp {m} g {t} f between k h = command-range g f h (t .commands) (f .commands)
+transaction-range p hp {m} g {t} f between k h = command-range g f h (t .job .commands) (f .commands)
 transaction-range p hp {m} g f (first a r) k h = first-read-range g f h a (readTick m (bank (blockOf a)) r) (read-range g (bank (blockOf a)) r (h .inner))
 transaction-range p hp {m} g f (copying a n) k h = copy-range g f h a n
 transaction-range p hp {m} g f (again a v r) k h = again-range g f h a v (h .inner .value) (readTick m (bank (blockOf a)) r) (read-range g (bank (blockOf a)) r (h .inner .reading))
 transaction-range p hp {m} g f (committing e) k h =
     let x = k .inner .exchange in
-    committed-range g f h (exchangeTick p m e (e .step)) (exchange-range p hp g e (h .inner .entry) (length (e .entries)) (x .entries .most) (e .step) (x .step) (h .inner .step))
+    committed-range g f h e (exchangeTick p m e (e .step)) (exchange-range p hp g e (h .inner .entry) (length (e .entries)) (x .entries .most) (e .step) (x .step) (h .inner .step))

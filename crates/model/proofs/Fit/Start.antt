@@ -8,10 +8,9 @@ use Rattle.model.specs.Ceilings.{registers}
 use Rattle.model.specs.Lists.{at}
 use Rattle.model.specs.Command.{Block, Command}
 use Rattle.model.specs.Sheet.{Sheet}
-use Rattle.model.specs.Word.{Word}
-use Rattle.model.specs.Word.{fresh as freshWord}
-use Rattle.model.specs.Job.{idle, Task}
-use Rattle.model.specs.Machine.{noTask, taskAt, filled, zeros, copiesOf, banksFrom, valuesOf, tasksFrom, startMemory, startMachine}
+use Rattle.model.specs.Word.{Word, freshWord}
+use Rattle.model.specs.Job.{idle, Task, task, noCounts, noJob}
+use Rattle.model.specs.Machine.{noTask, taskAt, filled, zeros, copiesOf, banksFrom, tasksFrom, startMemory, startMachine, startValues}
 use Rattle.model.proofs.Lists.{at-append, at-map, at-replicate}
 use Rattle.model.proofs.Fit.Elements.{append-each, replicate-each, at-filled}
 use Rattle.model.proofs.Fit.Sheet.{noBlock, SheetFit}
@@ -30,21 +29,21 @@ banks-size store (b ∷ bs) = ap suc (banks-size (suc store) bs)
 -- MEMORY
 module _ {s : Sheet} (c : SheetFit s) where
   own-stores : List (List ℕ)
-  own-stores = replicate (4 * length (s .bodies)) (zeros 8) ++ map valuesOf (s .blocks)
+  own-stores = replicate (4 * length (s .bodies)) (zeros 8) ++ map startValues (s .blocks)
 
   own-stores-size : length own-stores ≤ 48
   unfolding own-stores
   own-stores-size =
-      omega (arith, length-append (replicate (4 * length (s .bodies)) (zeros 8)) (map valuesOf (s .blocks)), length-replicate (4 * length (s .bodies)) (zeros 8), length-map (s .blocks) valuesOf, c .bodies, c .blocks)
+      omega (arith, length-append (replicate (4 * length (s .bodies)) (zeros 8)) (map startValues (s .blocks)), length-replicate (4 * length (s .bodies)) (zeros 8), length-map (s .blocks) startValues, c .bodies, c .blocks)
 
   -- every store has eight values
   store-size : (i : ℕ) → i < length (filled 48 (zeros 8) own-stores) → length (at [] (filled 48 (zeros 8) own-stores) i) ≡ 8
   unfolding own-stores filled
   store-size =
       append-each [] (λ (l : List ℕ). length l ≡ 8) own-stores (replicate (48 - length own-stores) (zeros 8))
-      (append-each [] (λ (l : List ℕ). length l ≡ 8) (replicate (4 * length (s .bodies)) (zeros 8)) (map valuesOf (s .blocks))
+      (append-each [] (λ (l : List ℕ). length l ≡ 8) (replicate (4 * length (s .bodies)) (zeros 8)) (map startValues (s .blocks))
       (replicate-each [] (λ (l : List ℕ). length l ≡ 8) (4 * length (s .bodies)) (zeros 8) refl)
-      (λ i h. ap length (at-map valuesOf noBlock (s .blocks) i) ∙ c .values i (rw (length-map (s .blocks) valuesOf) at h)))
+      (λ i h. ap length (at-map startValues noBlock (s .blocks) i) ∙ c .values i (rw (length-map (s .blocks) startValues) at h)))
       (replicate-each [] (λ (l : List ℕ). length l ≡ 8) (48 - length own-stores) (zeros 8) refl)
 
   pub start-memory-fit : MemoryFit (startMemory s)
@@ -65,7 +64,7 @@ module _ {s : Sheet} (c : SheetFit s) where
 -- TASKS
 -- a task with that body and number before its first job
 abbrev pub startTask : List Command → ℕ → Task
-startTask body p = record { body = body; commands = []; phase = idle; registers = replicate registers 0; pairs = []; copies = copiesOf p; finished = 0; spent = 0; rejected = 0; ticks = 0 }
+startTask body p = task body (copiesOf p) noCounts noJob
 
 pub tasks-size : (p : ℕ) (bodies : List (List Command)) → length (tasksFrom p bodies) ≡ length bodies
 unfolding tasksFrom

@@ -19,7 +19,7 @@ use Rattle.model.proofs.Fit.Memory.{MemoryFit}
 use Rattle.model.proofs.Fit.Exchange.{ExchangeFit, exchange-start, exchange-fit}
 use Rattle.model.proofs.Fit.Transaction.{BegunFit}
 use Rattle.model.proofs.Fit.Machine.{OutsideFit, PhaseFit}
-use Rattle.model.proofs.Fit.Outside.{open-next, first-fits, after-load, after-add, after-pair, some-pairs, read-fit, swap-fit, TurnFit, done-fit}
+use Rattle.model.proofs.Fit.Outside.{open-next, first-fits, after-load, after-add, after-pair, some-pairs, read-fit, swap-fit, TurnFit, first-turn-fit, done-fit}
 use Rattle.model.proofs.Fit.Pass.{pass-start}
 use Rattle.model.proofs.Fit.TransactionTick.{within-fit, transaction-tick-fit}
 
@@ -36,31 +36,32 @@ begun o =
       faultless = o .faultless .others;
     }
 
-module _ {words blocks : ℕ} (most : blocks ≤ 16) {m : Memory} (g : MemoryFit m) (t : Task) (hr : length (t .registers) ≡ 8) (hc : length (t .copies) ≡ 4) where
+module _ {words blocks : ℕ} (most : blocks ≤ 16) {m : Memory} (g : MemoryFit m) (t : Task) (hr : length (t .job .registers) ≡ 8) (hc : length (t .copies) ≡ 4) where
   -- a command that stands only in a transaction
   misplaced : {P : Type 0} {l : List Command} {ps : List Entry} (o : OutsideFit words blocks l ps) → o .known .body .inside ≡ true → P
   misplaced o e = absurd (true≢false (sym e ∙ o .outside))
 
-  plain-fit : (p : ℕ) (c : Command) (l : List Command) → t .commands ≡ c ∷ l → OutsideFit words blocks (c ∷ l) (t .pairs) → TurnFit words blocks t (plainTick p m t (c ∷ l))
+  plain-fit : (p : ℕ) (c : Command) (l : List Command) → t .job .commands ≡ c ∷ l → OutsideFit words blocks (c ∷ l) (t .job .pairs) → TurnFit words blocks t (plainTick p m t (c ∷ l))
   unfolding plainTick
-  plain-fit p (LOAD r v) l e o = done-fit t l (loaded (t .registers) r v) (t .pairs) (t .copies) (ap rest e) g (length-replace (t .registers) r v ∙ hr) hc (after-load o)
-  plain-fit p (ADD r q) l e o = done-fit t l (added (t .registers) r q) (t .pairs) (t .copies) (ap rest e) g (length-replace (t .registers) r _ ∙ hr) hc (after-add o)
+  plain-fit p (LOAD r v) l e o = done-fit t l (loaded (t .job .registers) r v) (t .job .pairs) (t .copies) (ap rest e) g (length-replace (t .job .registers) r v ∙ hr) hc (after-load o)
+  plain-fit p (ADD r q) l e o = done-fit t l (added (t .job .registers) r q) (t .job .pairs) (t .copies) (ap rest e) g (length-replace (t .job .registers) r _ ∙ hr) hc (after-add o)
   plain-fit p (READ r w) l e o =
       let f = first-fits o in
-      read-fit g t hr hc r w
-      (record { others = l; commands = e; register = f .register; word = f .word; outside = subst (λ (z : List Command). OutsideFit words blocks z (t .pairs)) (sym e) o })
-      (readTick m w loading)
+      first-turn-fit (read-fit g t hr hc r w
+      (record { others = l; commands = e; register = f .register; word = f .word; outside = subst (λ (z : List Command). OutsideFit words blocks z (t .job .pairs)) (sym e) o })
+      (readTick m w loading))
   plain-fit p (PAIR w old new) l e o =
-      let a : ℕ = at 0 (t .registers) old in
-      let b : ℕ = at 0 (t .registers) new in
-      done-fit t l (t .registers) (t .pairs ++ (entry w a b ∷ [])) (t .copies) (ap rest e) g hr hc (after-pair a b o)
+      let a : ℕ = at 0 (t .job .registers) old in
+      let b : ℕ = at 0 (t .job .registers) new in
+      done-fit t l (t .job .registers) (t .job .pairs ++ (entry w a b ∷ [])) (t .copies) (ap rest e) g hr hc (after-pair a b o)
   plain-fit p (SWAP r) l e o =
       let f = first-fits o in
-      let begins : ExchangeFit 0 words (t .pairs) (exchangeOf (t .pairs)) = exchange-start (some-pairs (t .pairs) (o .known .body) (o .waiting) (f .some)) (o .pairs) in
-      swap-fit t hr hc r
-      (record { others = l; commands = e; register = f .register; outside = subst (λ (z : List Command). OutsideFit words blocks z (t .pairs)) (sym e) o })
-      (exchangeTick p m (exchangeOf (t .pairs)) start)
-      (exchange-fit p g begins (o .pairs))
+      let begins : ExchangeFit 0 words (t .job .pairs) (exchangeOf (t .job .pairs)) = exchange-start (some-pairs (t .job .pairs) (o .known .body) (o .waiting) (f .some)) (o .pairs) in
+      first-turn-fit (swap-fit t hr hc r
+      (record { others = l; commands = e; register = f .register; outside = subst (λ (z : List Command). OutsideFit words blocks z (t .job .pairs)) (sym e) o })
+      (exchangeOf (t .job .pairs))
+      (exchangeTick p m (exchangeOf (t .job .pairs)) start)
+      (exchange-fit p g begins (o .pairs)))
   plain-fit p BEGIN l e o = within-fit t hr hc g hr (pass-start (begun o) hr) tt
   plain-fit p (access (GET r b s)) l e o = misplaced o (first-fits o .inside)
   plain-fit p (access (PUT b s r)) l e o = misplaced o (first-fits o .inside)
@@ -71,21 +72,22 @@ module _ {words blocks : ℕ} (most : blocks ≤ 16) {m : Memory} (g : MemoryFit
   plain-fit p (RELEASE r) l e o = absurd (o .faultless .command)
   plain-fit p END l e o = absurd (o .faultless .command)
 
-  phase-statement-fit : (p : ℕ) (f : Phase) → t .phase ≡ f → PhaseFit words blocks (t .copies) (t .commands) (t .pairs) f → TurnFit words blocks t (statement p m t f)
+  phase-statement-fit : (p : ℕ) (f : Phase) → t .job .phase ≡ f → PhaseFit words blocks (t .copies) (t .job .commands) (t .job .pairs) f → TurnFit words blocks t (statement p m t f)
   unfolding statement
-  phase-statement-fit p idle e h = record { memory = g; body = refl; registers = hr; copies = hc; counts = omega arith; ticks = refl; phase = subst (λ (z : Phase). PhaseFit words blocks (t .copies) (t .commands) (t .pairs) z) (sym e) h }
+  phase-statement-fit p idle e h = record { memory = g; body = refl; registers = hr; copies = hc; counts = omega arith; ticks = refl; phase = subst (λ (z : Phase). PhaseFit words blocks (t .copies) (t .job .commands) (t .job .pairs) z) (sym e) h }
   phase-statement-fit p plain e h =
       let q = h .commands in
       subst (λ (z : List Command). TurnFit words blocks t (plainTick p m t z)) (sym q)
-      (plain-fit p (h .command) (h .others) q (subst (λ (z : List Command). OutsideFit words blocks z (t .pairs)) q (h .outside)))
+      (plain-fit p (h .command) (h .others) q (subst (λ (z : List Command). OutsideFit words blocks z (t .job .pairs)) q (h .outside)))
   phase-statement-fit p (reading r w s) e h = read-fit g t hr hc r w h (readTick m w s)
   phase-statement-fit p (exchanging r x) e h =
       swap-fit t hr hc r
       (record { others = h .others; commands = h .commands; register = h .register; outside = h .outside })
+      x
       (exchangeTick p m x (x .step))
       (exchange-fit p g (h .exchange) (h .outside .pairs))
   phase-statement-fit p (transacting x s) e h = transaction-tick-fit most g t hr hc p s h
 
   -- one statement of the task
-  pub statement-fit : (p : ℕ) → PhaseFit words blocks (t .copies) (t .commands) (t .pairs) (t .phase) → TurnFit words blocks t (statement p m t (t .phase))
-  statement-fit p h = phase-statement-fit p (t .phase) refl h
+  pub statement-fit : (p : ℕ) → PhaseFit words blocks (t .copies) (t .job .commands) (t .job .pairs) (t .job .phase) → TurnFit words blocks t (statement p m t (t .job .phase))
+  statement-fit p h = phase-statement-fit p (t .job .phase) refl h

@@ -11,8 +11,8 @@ use Rattle.model.specs.Lists.{at, replace}
 use Rattle.model.specs.Command.{Command, Release}
 use Rattle.model.specs.Fault.{Body}
 use Rattle.model.specs.Sheet.{Sheet}
-use Rattle.model.specs.Job.{Task, Turn, started, ticked}
-use Rattle.model.specs.Machine.{noTask, taskAt, Machine, machine, unfinished, releaseBy, arriveBy, arrive, Running, nobody, running, runningOf, move, moveAny, tick, run}
+use Rattle.model.specs.Job.{Task, Turn, started, counting, ticks}
+use Rattle.model.specs.Machine.{noTask, taskAt, Machine, machine, unfinished, releaseBy, arriveBy, Running, nobody, running, runningOf, move, moveAny, tick, run, arrive, enter}
 use Rattle.model.proofs.Lists.{replace-same, replace-other, length-replace, same?}
 use Rattle.model.proofs.Fit.Body.{Faultless}
 use Rattle.model.proofs.Fit.Sheet.{BodyFit, SheetFit, ReleasesFit, releaseAt}
@@ -52,7 +52,7 @@ started-fit {words} {blocks} {t = t} b f =
 pub waited-fit : {words blocks now : ℕ} {text : List Command} {t : Task} → TaskFit words blocks text now t → TaskFit words blocks text (suc now) t
 waited-fit f = record { body = f .body; registers = f .registers; copies = f .copies; counts = f .counts; ticks = omega (arith, f .ticks); phase = f .phase }
 
-pub turned-fit : {words blocks now : ℕ} {text : List Command} {t : Task} {u : Turn} → TaskFit words blocks text now t → TurnFit words blocks t u → TaskFit words blocks text (suc now) (ticked (u .task))
+pub turned-fit : {words blocks now : ℕ} {text : List Command} {t : Task} {u : Turn} → TaskFit words blocks text now t → TurnFit words blocks t u → TaskFit words blocks text (suc now) (counting ticks (u .task))
 turned-fit f g =
     record {
       body = g .body ∙ f .body;
@@ -145,10 +145,11 @@ module _ {s : Sheet} (c : SheetFit s) where
           (omega arith)
 
       go : (b : Bool) → eqb (r .tick) (m .now) ≡ b → Goes → ArrivedFit s (m .now) (arriveBy b (arrive l) r l m)
-      go true e on = released (unfinished (taskAt (m .tasks) p .phase)) on
+      go true e on = released (unfinished (taskAt (m .tasks) p .job .phase)) on
       go false e on = record { memory = g; tasks = f; time = refl; releases = none-now e rs; dropped = d }
 
-  pub arrive-fit : {m : Machine} → Fit s m → ArrivedFit s (m .now) (arrive (m .releases) m)
+  pub arrive-fit : {m : Machine} → Fit s m → ArrivedFit s (m .now) (enter m)
+  unfolding enter
   arrive-fit {m} f = arrive-on (m .releases) m (f .memory) (tasks-of f) (f .releases) (f .dropped)
 
 -- the machine between the arrival and the statement
@@ -175,7 +176,7 @@ arrive-now (r ∷ l) m = go (eqb (r .tick) (m .now)) (arrive-now l)
     released false on = on (releaseBy false (r .task) m)
 
     go : (b : Bool) → ((m : Machine) → arrive l m .now ≡ m .now) → arriveBy b (arrive l) r l m .now ≡ m .now
-    go true on = released (unfinished (taskAt (m .tasks) (r .task) .phase)) on
+    go true on = released (unfinished (taskAt (m .tasks) (r .task) .job .phase)) on
     go false on = refl
 
 pub move-now : (m : Machine) (r : Running) → move m r .now ≡ suc (m .now)
@@ -184,8 +185,8 @@ move-now m nobody = refl
 move-now m (running p) = refl
 
 pub tick-now : (m : Machine) → tick m .now ≡ suc (m .now)
-unfolding tick moveAny
-tick-now m = move-now (arrive (m .releases) m) (runningOf (arrive (m .releases) m .tasks)) ∙ ap suc (arrive-now (m .releases) m)
+unfolding tick moveAny enter
+tick-now m = move-now (enter m) (runningOf (enter m)) ∙ ap suc (arrive-now (m .releases) m)
 
 -- ONE TICK
 module _ {s : Sheet} (c : SheetFit s) where
@@ -196,9 +197,9 @@ module _ {s : Sheet} (c : SheetFit s) where
   pub declared : {now : ℕ} {ts : List Task} → TasksFit s now ts → (p : ℕ) → busy ts p ≡ true → p < length (s .bodies)
   declared {ts = ts} f p h =
       below? p (length (s .bodies)) (λ l. l)
-      (λ l. absurd (false≢true (ap (λ (t : Task). unfinished (t .phase)) (sym (f .undeclared p l)) ∙ h)))
+      (λ l. absurd (false≢true (ap (λ (t : Task). unfinished (t .job .phase)) (sym (f .undeclared p l)) ∙ h)))
 
-  move-fit : {m : Machine} → ArrivedFit s (m .now) m → (r : Running) → RunningFit (m .tasks) r → Fit s (move m r)
+  move-fit : {m : Machine} → ArrivedFit s (m .now) m → (r : Running) → RunningFit m r → Fit s (move m r)
   unfolding move
   move-fit {m} a nobody r = record { memory = a .memory; tasks = a .tasks .size; task = waited (a .tasks); undeclared = a .tasks .undeclared; releases = a .releases; dropped = a .dropped }
   move-fit {m} a (running p) r =
@@ -213,8 +214,8 @@ module _ {s : Sheet} (c : SheetFit s) where
   unfolding tick moveAny
   tick-fit {m} f =
       let a = arrive-fit c f in
-      let n : Machine = arrive (m .releases) m in
-      move-fit (subst (λ (z : ℕ). ArrivedFit s z n) (sym (a .time)) a) (runningOf (n .tasks)) (running-fit (n .tasks))
+      let n : Machine = enter m in
+      move-fit (subst (λ (z : ℕ). ArrivedFit s z n) (sym (a .time)) a) (runningOf n) (running-fit n)
 
 -- MANY TICKS
 pub after-ticks-fit : {s : Sheet} → SheetFit s → (n : ℕ) {m : Machine} → Fit s m → Fit s (stateAfter m n)

@@ -12,9 +12,9 @@ use Rattle.model.specs.Command.{Access, GET, PUT, Command, access, COMMI
 use Rattle.model.specs.Fault.{Body, among}
 use Rattle.model.specs.Sheet.{named, after, inBody, transaction}
 use Rattle.model.specs.Word.{Memory, stored, setStored, loading, Read, reads, gives, readTick}
-use Rattle.model.specs.Job.{Touched, untouched, remembered, copied, Transaction, Inner, between, Task, turn, rest, ended, done, first, copying, again, committing}
-use Rattle.model.specs.Transaction.{bank, versionOf, storeOf, blockOf, rememberedOf, touchedOf, touch, within, stays, goesOn, restarted, rejected, firstRead, copyBy, copyTick, accessTick, checkBy, againRead, nothing?, spent?, gather, takenBack, commitBy, committed, commandTick, transactionTick}
-use Rattle.model.specs.Exchange.{Exchanged, goes, ends, exchangeTick}
+use Rattle.model.specs.Job.{Touched, untouched, remembered, copied, Transaction, Inner, between, Task, turn, rest, ended, done, first, copying, again, committing, counting, rejected, Deed}
+use Rattle.model.specs.Transaction.{bank, versionOf, storeOf, blockOf, rememberedOf, touchedOf, touch, within, stays, goesOn, restarted, firstRead, copyBy, copyTick, accessTick, checkBy, againRead, nothing?, spent?, gather, takenBack, commandTick, transactionTick, commitCommandBy, committingBy}
+use Rattle.model.specs.Exchange.{Exchanged, goes, ends, exchangeTick, Exchange}
 use Rattle.model.proofs.Lists.{length-replace}
 use Rattle.model.proofs.Fit.Elements.{include-same}
 use Rattle.model.proofs.Fit.Memory.{MemoryFit, stored-fit}
@@ -46,28 +46,28 @@ pass-touch : {words blocks : ℕ} {l : List Command} {x : Transaction} (f : Pass
 pass-touch f b s n t = record { kept = f .kept; begun = f .begun; known = f .known; inside = f .inside; faultless = f .faultless; touched = t }
 
 -- WHAT A TICK LEAVES OF THE TASK
-module _ {words blocks : ℕ} (t : Task) (hr : length (t .registers) ≡ 8) (hc : length (t .copies) ≡ 4) where
-  pub within-fit : {m : Memory} {l : List Command} {rs : List ℕ} {x : Transaction} {s : Inner} → MemoryFit m → length rs ≡ 8 → PassFit words blocks l x → InnerFit blocks (t .copies) l x s → TurnFit words blocks t (turn m (within t l rs x s))
+module _ {words blocks : ℕ} (t : Task) (hr : length (t .job .registers) ≡ 8) (hc : length (t .copies) ≡ 4) where
+  pub within-fit : {m : Memory} {d : Deed} {l : List Command} {rs : List ℕ} {x : Transaction} {s : Inner} → MemoryFit m → length rs ≡ 8 → PassFit words blocks l x → InnerFit blocks (t .copies) l x s → TurnFit words blocks t (turn m (within t l rs x s) d)
   within-fit g h f i = record { memory = g; body = refl; registers = h; copies = hc; counts = omega arith; ticks = refl; phase = transaction-fit f i }
 
-  pub stays-fit : {m : Memory} (l : List Command) {x : Transaction} {s : Inner} → t .commands ≡ l → MemoryFit m → PassFit words blocks l x → InnerFit blocks (t .copies) l x s → TurnFit words blocks t (turn m (stays t x s))
-  stays-fit {m} l {x} {s} e g f i = subst (λ (z : List Command). TurnFit words blocks t (turn m (within t z (t .registers) x s))) (sym e) (within-fit g hr f i)
+  pub stays-fit : {m : Memory} {d : Deed} (l : List Command) {x : Transaction} {s : Inner} → t .job .commands ≡ l → MemoryFit m → PassFit words blocks l x → InnerFit blocks (t .copies) l x s → TurnFit words blocks t (turn m (stays t x s) d)
+  stays-fit {m} {d} l {x} {s} e g f i = subst (λ (z : List Command). TurnFit words blocks t (turn m (within t z (t .job .registers) x s) d)) (sym e) (within-fit g hr f i)
 
-  pub goes-on-fit : {m : Memory} {c : Command} (l : List Command) {rs : List ℕ} {x : Transaction} → t .commands ≡ c ∷ l → MemoryFit m → length rs ≡ 8 → PassFit words blocks l x → TurnFit words blocks t (turn m (goesOn t rs x))
-  goes-on-fit {m} l {rs} {x} e g h f = subst (λ (z : List Command). TurnFit words blocks t (turn m (within t z rs x between))) (sym (ap rest e)) (within-fit g h f tt)
+  pub goes-on-fit : {m : Memory} {d : Deed} {c : Command} (l : List Command) {rs : List ℕ} {x : Transaction} → t .job .commands ≡ c ∷ l → MemoryFit m → length rs ≡ 8 → PassFit words blocks l x → TurnFit words blocks t (turn m (goesOn t rs x) d)
+  goes-on-fit {m} {d} l {rs} {x} e g h f = subst (λ (z : List Command). TurnFit words blocks t (turn m (within t z rs x between) d)) (sym (ap rest e)) (within-fit g h f tt)
 
-  pub restarted-fit : {m : Memory} {l : List Command} {x : Transaction} → MemoryFit m → PassFit words blocks l x → TurnFit words blocks t (turn m (restarted t x))
+  pub restarted-fit : {m : Memory} {d : Deed} {l : List Command} {x : Transaction} → MemoryFit m → PassFit words blocks l x → TurnFit words blocks t (turn m (restarted t x) d)
   restarted-fit g f = within-fit g (f .kept) (pass-start (f .begun) (f .kept)) tt
 
-  pub rejected-fit : {m : Memory} {l : List Command} {x : Transaction} → MemoryFit m → PassFit words blocks l x → TurnFit words blocks t (turn m (rejected (restarted t x)))
+  pub rejected-fit : {m : Memory} {d : Deed} {l : List Command} {x : Transaction} → MemoryFit m → PassFit words blocks l x → TurnFit words blocks t (turn m (counting rejected (restarted t x)) d)
   rejected-fit g f = record { memory = g; body = refl; registers = f .kept; copies = hc; counts = omega arith; ticks = refl; phase = transaction-fit (pass-start (f .begun) (f .kept)) tt }
 
-  pub ended-fit : {m : Memory} → MemoryFit m → TurnFit words blocks t (turn m (ended t))
+  pub ended-fit : {m : Memory} {d : Deed} → MemoryFit m → TurnFit words blocks t (turn m (ended t) d)
   ended-fit g = record { memory = g; body = refl; registers = hr; copies = hc; counts = omega arith; ticks = refl; phase = record { commands = refl; noPairs = refl } }
 
   -- GET AND PUT
   module _ (most : blocks ≤ 16) {m : Memory} (g : MemoryFit m) {x : Transaction} {l : List Command} where
-    pub first-read-fit : (a : Access) → t .commands ≡ access a ∷ l → PassFit words blocks (access a ∷ l) x → touchedOf x (blockOf a) ≡ untouched → (o : Read) → TurnFit words blocks t (firstRead m t x a o)
+    pub first-read-fit : (a : Access) → t .job .commands ≡ access a ∷ l → PassFit words blocks (access a ∷ l) x → touchedOf x (blockOf a) ≡ untouched → (o : Read) → TurnFit words blocks t (firstRead m t x a o)
     unfolding firstRead
     first-read-fit a e f u (reads r) = stays-fit (access a ∷ l) e g f (record { atWork = at-work a f; notYet = u })
     first-read-fit a e f u (gives v) =
@@ -75,7 +75,7 @@ module _ {words blocks : ℕ} (t : Task) (hr : length (t .registers) ≡ 8) (hc 
         (pass-touch f (blockOf a) (remembered v) (x .used) (blocks-read (f .touched) most (blockOf a) (at-work a f .block) (named-touched a (f .known .body)) v u))
         tt
 
-    pub copy-fit : (n o r : ℕ) → t .commands ≡ access (PUT n o r) ∷ l → PassFit words blocks (access (PUT n o r) ∷ l) x → PutFirst (PUT n o r) x → (i : ℕ) → i < 8 → TurnFit words blocks t (copyTick m t x (PUT n o r) i)
+    pub copy-fit : (n o r : ℕ) → t .job .commands ≡ access (PUT n o r) ∷ l → PassFit words blocks (access (PUT n o r) ∷ l) x → PutFirst (PUT n o r) x → (i : ℕ) → i < 8 → TurnFit words blocks t (copyTick m t x (PUT n o r) i)
     unfolding copyTick copyBy
     copy-fit n o r e f p i h = go (eqb (suc i) 8) refl
       where
@@ -89,19 +89,19 @@ module _ {words blocks : ℕ} (t : Task) (hr : length (t .registers) ≡ 8) (hc 
         go true q = stays-fit (access (PUT n o r) ∷ l) e (stored-fit g s i v) f (record { atWork = at-work (PUT n o r) f; again = p })
         go false q = let d = eqb-false (suc i) 8 q in stays-fit (access (PUT n o r) ∷ l) e (stored-fit g s i v) f (record { atWork = at-work (PUT n o r) f; put = refl; some = omega arith; most = omega arith; first = p })
 
-    pub access-fit : (a : Access) → t .commands ≡ access a ∷ l → PassFit words blocks (access a ∷ l) x → (s : Touched) → touchedOf x (blockOf a) ≡ s → TurnFit words blocks t (accessTick m t x a s)
+    pub access-fit : (a : Access) → t .job .commands ≡ access a ∷ l → PassFit words blocks (access a ∷ l) x → (s : Touched) → touchedOf x (blockOf a) ≡ s → TurnFit words blocks t (accessTick m t x a s)
     unfolding accessTick
     access-fit (GET r n o) e f untouched q = first-read-fit (GET r n o) e f q (readTick m (bank n) loading)
     access-fit (GET r n o) e f (remembered v) q = stays-fit (access (GET r n o) ∷ l) e g f (record { atWork = at-work (GET r n o) f; again = rw q })
     access-fit (GET r n o) e f (copied v k) q = stays-fit (access (GET r n o) ∷ l) e g f (record { atWork = at-work (GET r n o) f; again = rw q })
     access-fit (PUT n o r) e f untouched q = first-read-fit (PUT n o r) e f q (readTick m (bank n) loading)
     access-fit (PUT n o r) e f (remembered v) q = copy-fit n o r e f (put-first f q) 0 (omega arith)
-    access-fit (PUT n o r) e f (copied v k) q = goes-on-fit l e (stored-fit g (at 0 (t .copies) k) o (at 0 (t .registers) r)) hr (pass-access f)
+    access-fit (PUT n o r) e f (copied v k) q = goes-on-fit l e (stored-fit g (at 0 (t .copies) k) o (at 0 (t .job .registers) r)) hr (pass-access f)
 
     -- the version read again
-    check-fit : (b : Bool) (a : Access) (v : ℕ) → t .commands ≡ access a ∷ l → PassFit words blocks (access a ∷ l) x → AgainFit a x → TurnFit words blocks t (checkBy b m t x a v)
+    check-fit : (b : Bool) (a : Access) (v : ℕ) → t .job .commands ≡ access a ∷ l → PassFit words blocks (access a ∷ l) x → AgainFit a x → TurnFit words blocks t (checkBy b m t x a v)
     unfolding checkBy
-    check-fit true (GET r n o) v e f h = goes-on-fit l e g (length-replace (t .registers) r v ∙ hr) (pass-access f)
+    check-fit true (GET r n o) v e f h = goes-on-fit l e g (length-replace (t .job .registers) r v ∙ hr) (pass-access f)
     check-fit true (PUT n o r) v e f h =
         let w : ℕ = rememberedOf (touchedOf x n) in
         let read : touchedOf x n ≡ remembered w = h .read ∙ ap (λ (s : Touched). remembered (rememberedOf s)) (sym (h .read)) in
@@ -110,7 +110,7 @@ module _ {words blocks : ℕ} (t : Task) (hr : length (t .registers) ≡ 8) (hc 
         tt
     check-fit false a v e f h = restarted-fit g f
 
-    pub again-fit : (a : Access) (v : ℕ) → t .commands ≡ access a ∷ l → PassFit words blocks (access a ∷ l) x → AgainFit a x → (o : Read) → TurnFit words blocks t (againRead m t x a v o)
+    pub again-fit : (a : Access) (v : ℕ) → t .job .commands ≡ access a ∷ l → PassFit words blocks (access a ∷ l) x → AgainFit a x → (o : Read) → TurnFit words blocks t (againRead m t x a v o)
     unfolding againRead
     again-fit a v e f h (reads r) = stays-fit (access a ∷ l) e g f (record { atWork = at-work a f; again = h })
     again-fit a v e f h (gives w) = check-fit (eqb (versionOf w) (versionOf (rememberedOf (touchedOf x (blockOf a))))) a v e f h
@@ -124,7 +124,7 @@ taken-back-size copies (untouched ∷ ts) = taken-back-size copies ts
 taken-back-size copies (remembered v ∷ ts) = taken-back-size copies ts
 taken-back-size copies (copied v k ∷ ts) = taken-back-size (replace copies k (storeOf v)) ts ∙ length-replace copies k (storeOf v)
 
-module _ {words blocks : ℕ} (t : Task) (hr : length (t .registers) ≡ 8) (hc : length (t .copies) ≡ 4) {x : Transaction} {l : List Command} (e : t .commands ≡ COMMIT ∷ l) (f : PassFit words blocks (COMMIT ∷ l) x) where
+module _ {words blocks : ℕ} (t : Task) (hr : length (t .job .registers) ≡ 8) (hc : length (t .copies) ≡ 4) {x : Transaction} {l : List Command} (e : t .job .commands ≡ COMMIT ∷ l) (f : PassFit words blocks (COMMIT ∷ l) x) where
   -- outside again, no PAIR waiting
   after-commit : OutsideFit words blocks l []
   unfolding after
@@ -140,14 +140,14 @@ module _ {words blocks : ℕ} (t : Task) (hr : length (t .registers) ≡ 8) (hc 
         unloaded = no-unloaded;
       }
 
-  commit-done : {m : Memory} → MemoryFit m → (cs : List ℕ) → length cs ≡ 4 → TurnFit words blocks t (turn m (done t (t .registers) [] cs))
-  commit-done g cs h = done-fit t l (t .registers) [] cs (ap rest e) g hr h after-commit
+  commit-done : {m : Memory} {d : Deed} → MemoryFit m → (cs : List ℕ) → length cs ≡ 4 → TurnFit words blocks t (turn m (done t (t .job .registers) [] cs) d)
+  commit-done g cs h = done-fit t l (t .job .registers) [] cs (ap rest e) g hr h after-commit
 
   pub entries : EntriesFit 32 (32 + blocks) (gather (t .copies) 0 (x .blocks))
   entries = gather-entries (t .copies) (f .touched) (transaction-fit {copies = t .copies} {s = between} f tt .most)
 
-  pub commit-fit : {m : Memory} → MemoryFit m → (nothing spent : Bool) → nothing? (x .blocks) ≡ nothing → spent? (x .blocks) ≡ spent → TurnFit words blocks t (commitBy nothing spent m t x)
-  unfolding commitBy
+  pub commit-fit : {m : Memory} → MemoryFit m → (nothing spent : Bool) → nothing? (x .blocks) ≡ nothing → spent? (x .blocks) ≡ spent → TurnFit words blocks t (commitCommandBy nothing spent m t x)
+  unfolding commitCommandBy
   commit-fit g true s n q = commit-done g (t .copies) hc
   commit-fit g false true n q = ended-fit t hr hc g
   commit-fit g false false n q =
@@ -155,23 +155,23 @@ module _ {words blocks : ℕ} (t : Task) (hr : length (t .registers) ≡ 8) (hc 
       (record { others = l; commands = refl; notSpent = q; exchange = exchange-start (gather-some (t .copies) 0 (x .blocks) n) entries })
 
   -- in its exchange
-  pub committed-fit : spent? (x .blocks) ≡ false → (o : Exchanged) → ExchangedFit 32 (32 + blocks) (gather (t .copies) 0 (x .blocks)) o → TurnFit words blocks t (committed t x o)
-  unfolding committed
-  committed-fit q (goes m y) h = stays-fit t hr hc (COMMIT ∷ l) e (h .memory) f (record { others = l; commands = refl; notSpent = q; exchange = h .exchange })
-  committed-fit q (ends m true) h = commit-done h (takenBack (t .copies) (x .blocks)) (taken-back-size (t .copies) (x .blocks) ∙ hc)
-  committed-fit q (ends m false) h = rejected-fit t hr hc h f
+  pub committed-fit : spent? (x .blocks) ≡ false → (v : Exchange) (o : Exchanged) → ExchangedFit 32 (32 + blocks) (gather (t .copies) 0 (x .blocks)) o → TurnFit words blocks t (committingBy t x v o)
+  unfolding committingBy
+  committed-fit q v (goes m y) h = stays-fit t hr hc (COMMIT ∷ l) e (h .memory) f (record { others = l; commands = refl; notSpent = q; exchange = h .exchange })
+  committed-fit q v (ends m true) h = commit-done h (takenBack (t .copies) (x .blocks)) (taken-back-size (t .copies) (x .blocks) ∙ hc)
+  committed-fit q v (ends m false) h = rejected-fit t hr hc h f
 
 -- EVERY INNER STEP
-module _ {words blocks : ℕ} (most : blocks ≤ 16) {m : Memory} (g : MemoryFit m) (t : Task) (hr : length (t .registers) ≡ 8) (hc : length (t .copies) ≡ 4) {x : Transaction} where
+module _ {words blocks : ℕ} (most : blocks ≤ 16) {m : Memory} (g : MemoryFit m) (t : Task) (hr : length (t .job .registers) ≡ 8) (hc : length (t .copies) ≡ 4) {x : Transaction} where
   -- a command that stands only outside a transaction
   misplaced : {P : Type 0} {l : List Command} (f : PassFit words blocks l x) → f .known .body .inside ≡ false → P
   misplaced f e = absurd (true≢false (sym (f .inside .inside) ∙ e))
 
-  command-fit : (l : List Command) → t .commands ≡ l → PassFit words blocks l x → TurnFit words blocks t (commandTick m t x l)
+  command-fit : (l : List Command) → t .job .commands ≡ l → PassFit words blocks l x → TurnFit words blocks t (commandTick m t x l)
   unfolding commandTick
   command-fit [] e f = absurd (not-over (f .inside) (f .faultless))
-  command-fit (LOAD r v ∷ l) e f = goes-on-fit t hr hc l e g (length-replace (t .registers) r v ∙ hr) (pass-load f)
-  command-fit (ADD r q ∷ l) e f = goes-on-fit t hr hc l e g (length-replace (t .registers) r _ ∙ hr) (pass-add f)
+  command-fit (LOAD r v ∷ l) e f = goes-on-fit t hr hc l e g (length-replace (t .job .registers) r v ∙ hr) (pass-load f)
+  command-fit (ADD r q ∷ l) e f = goes-on-fit t hr hc l e g (length-replace (t .job .registers) r _ ∙ hr) (pass-add f)
   command-fit (access a ∷ l) e f = access-fit t hr hc most g a e f (touchedOf x (blockOf a)) refl
   command-fit (COMMIT ∷ l) e f = commit-fit t hr hc e f g (nothing? (x .blocks)) (spent? (x .blocks)) refl refl
   command-fit (READ r w ∷ l) e f = misplaced f (first-command (f .inside) (READ r w) l (f .faultless) .outside)
@@ -185,21 +185,21 @@ module _ {words blocks : ℕ} (most : blocks ≤ 16) {m : Memory} (g : MemoryFit
   command-fit (END ∷ l) e f = absurd (f .faultless .command)
 
   -- the pass, where the first command is known
-  pass-at : {s : Inner} {l : List Command} → t .commands ≡ l → TransactionFit words blocks (t .copies) (t .commands) (t .pairs) x s → PassFit words blocks l x
+  pass-at : {s : Inner} {l : List Command} → t .job .commands ≡ l → TransactionFit words blocks (t .copies) (t .job .commands) (t .job .pairs) x s → PassFit words blocks l x
   pass-at e f = subst (λ (z : List Command). PassFit words blocks z x) e (pass-of f)
 
-  copying-fit : (a : Access) (n : ℕ) → TransactionFit words blocks (t .copies) (t .commands) (t .pairs) x (copying a n) → TurnFit words blocks t (transactionTick 0 m t x (copying a n))
+  copying-fit : (a : Access) (n : ℕ) → TransactionFit words blocks (t .copies) (t .job .commands) (t .job .pairs) x (copying a n) → TurnFit words blocks t (transactionTick 0 m t x (copying a n))
   unfolding transactionTick
   copying-fit (PUT b o r) n f = let w = f .inner .atWork in copy-fit t hr hc most g b o r (w .commands) (pass-at (w .commands) f) (f .inner .first) n (f .inner .most)
   copying-fit (GET r b o) n f = absurd (false≢true (f .inner .put))
 
-  pub transaction-tick-fit : (p : ℕ) (s : Inner) → TransactionFit words blocks (t .copies) (t .commands) (t .pairs) x s → TurnFit words blocks t (transactionTick p m t x s)
+  pub transaction-tick-fit : (p : ℕ) (s : Inner) → TransactionFit words blocks (t .copies) (t .job .commands) (t .job .pairs) x s → TurnFit words blocks t (transactionTick p m t x s)
   unfolding transactionTick
-  transaction-tick-fit p between f = command-fit (t .commands) refl (pass-of f)
+  transaction-tick-fit p between f = command-fit (t .job .commands) refl (pass-of f)
   transaction-tick-fit p (first a r) f = let w = f .inner .atWork in first-read-fit t hr hc most g a (w .commands) (pass-at (w .commands) f) (f .inner .notYet) (readTick m (bank (blockOf a)) r)
   transaction-tick-fit p (copying a n) f = copying-fit a n f
   transaction-tick-fit p (again a v r) f = let w = f .inner .atWork in again-fit t hr hc most g a v (w .commands) (pass-at (w .commands) f) (f .inner .again) (readTick m (bank (blockOf a)) r)
   transaction-tick-fit p (committing y) f =
       let e = f .inner .commands in
       let d = pass-at e f in
-      committed-fit t hr hc e d (f .inner .notSpent) (exchangeTick p m y (y .step)) (exchange-fit p g (f .inner .exchange) (entries t hr hc e d))
+      committed-fit t hr hc e d (f .inner .notSpent) y (exchangeTick p m y (y .step)) (exchange-fit p g (f .inner .exchange) (entries t hr hc e d))

@@ -11,9 +11,10 @@ use Rattle.model.specs.Lists.{at, replace}
 use Rattle.model.specs.Sheet.{sheetOf}
 use Rattle.model.specs.Word.{current}
 use Rattle.model.specs.Machine.{run, startMachine}
-use Rattle.model.specs.Plain.{Contents, Pair, readOf, swapOf, result, plainly}
+use Rattle.model.specs.Plain.{Contents, result, plainly}
 use Rattle.model.specs.History.{Operation, History, historyOf}
 use Rattle.model.specs.Claim.{Counts, each, Interfered, Replays, plain, freely, over, then, In, EndedBefore, WholeOperations}
+use Rattle.model.specs.Arguments.{Pair, readOf, swapOf}
 use Rattle.model.proofs.WholeCases.{listedBy, counted}
 use Rattle.model.proofs.Sheets.{body₁, bodyTwoWords, against}
 use Rattle.model.proofs.Bytes.{word, task, release, end, read}

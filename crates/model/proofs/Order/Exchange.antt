@@ -1,6 +1,6 @@
 -- What a tick of an exchange means for its operation: the pairs stay, and it has said yes from the Commit on that turned status 0 into 2.
 use Prim.Native.Nat.{ℕ, suc}
-use mathlib.Core.Bool.{Bool, true, false, _&&_, _||_, true≢false}
+use mathlib.Core.Bool.{Bool, true, false, not, _&&_, _||_, true≢false}
 use mathlib.Core.Path.{_≡_, refl, sym, subst}
 use mathlib.Core.Logic.{_≢_}
 use mathlib.Core.List.{List, map}
@@ -10,25 +10,9 @@ use lib.Seq.{map-set-same}
 use borrow.Author.Tests.{eqb-true, eqb-false}
 use Rattle.model.specs.Lists.{at, replace}
 use Rattle.model.specs.Word.{Word, sameWord, Memory, cellOf, statusOf, setCell, setStatus, own}
-use Rattle.model.specs.Exchange.{Entry, entry, Step, start, test, load, look, fetch, save, fail, mark, install, commit, clean, cleanMark, Exchange, Exchanged, goes, ends, entryAt, changing, installed, cleaned, loaded, testBy, lookBy, afterSave, installBy, cleanBy, commitBy, nextBy, next, cleanWordBy, exchangeTick}
-use Rattle.model.specs.Plain.{Pair}
-use Rattle.model.specs.History.{Operation, pairOf, stepEvent}
-use Rattle.model.specs.History.{commitBy as eventBy}
-
--- the exchange has said yes before this step
-abbrev pub saidYes : Step → Bool
-saidYes (clean j yes?) = yes?
-saidYes (cleanMark j yes?) = yes?
-saidYes start = false
-saidYes test = false
-saidYes load = false
-saidYes look = false
-saidYes fetch = false
-saidYes fail = false
-saidYes mark = false
-saidYes install = false
-saidYes commit = false
-saidYes (save v) = false
+use Rattle.model.specs.Exchange.{Entry, entry, Step, start, test, load, look, fetch, save, fail, mark, install, commit, clean, cleanMark, Exchange, Exchanged, goes, ends, saidYes, commitSaidYes, entryAt, changing, installed, cleaned, testBy, lookBy, afterSave, installBy, cleanBy, commitBy, nextBy, next, cleanWordBy, exchangeTick, withInit}
+use Rattle.model.specs.Arguments.{Pair}
+use Rattle.model.specs.Machine.{pairOf}
 
 -- this step is the Commit that says yes
 abbrev pub saysYes : ℕ → Memory → Step → Bool
@@ -44,21 +28,6 @@ saysYes p m install = false
 saysYes p m (save v) = false
 saysYes p m (clean j yes?) = false
 saysYes p m (cleanMark j yes?) = false
-
-pub step-event : (p : ℕ) (m : Memory) (s : Step) (f : Operation → Operation) → stepEvent p m s f ≡ eventBy (saysYes p m s) f
-unfolding stepEvent eventBy
-step-event p m commit f = refl
-step-event p m start f = refl
-step-event p m test f = refl
-step-event p m load f = refl
-step-event p m look f = refl
-step-event p m fetch f = refl
-step-event p m fail f = refl
-step-event p m mark f = refl
-step-event p m install f = refl
-step-event p m (save v) f = refl
-step-event p m (clean j yes?) f = refl
-step-event p m (cleanMark j yes?) f = refl
 
 pub says-commit : (p : ℕ) (m : Memory) (s : Step) → saysYes p m s ≡ true → (s ≡ commit) × (statusOf m p ≡ 0)
 says-commit p m commit e = (refl, eqb-true _ _ e)
@@ -99,13 +68,23 @@ pub record Goes (p : ℕ) (m : Memory) (x : Exchange) (s : Step) (x′ : Exchang
   pub pairs : pairsOf x′ ≡ pairsOf x
   pub yes : saidYes (x′ .step) ≡ (saidYes s || saysYes p m s)
 
+-- a yes is said in this tick: seen from the test of Commit, and from before and after
+says-now : (said says after : Bool) → after ≡ (said || says) → (says ≡ true → said ≡ false) → (not said && after) ≡ says
+says-now false false after e n = rw e refl
+says-now false true after e n = rw e refl
+says-now true false after e n = refl
+says-now true true after e n = absurd (true≢false (n refl))
+
+pub said-now : (p : ℕ) (m : Memory) (x x′ : Exchange) → Goes p m x (x .step) x′ → commitSaidYes x x′ ≡ saysYes p m (x .step)
+said-now p m x x′ g = says-now (saidYes (x .step)) (saysYes p m (x .step)) (saidYes (x′ .step)) (g .yes) (yes-once p m (x .step))
+
 abbrev pub Follows : ℕ → Memory → Exchange → Step → Exchanged → Type 0
 Follows p m x s (goes m′ x′) = Goes p m x s x′
 Follows p m x s (ends m′ yes?) = yes? ≡ (saidYes s || saysYes p m s)
 
-pairs-noted : (x : Exchange) (w : Word) (o : Bool) → map pairOf (replace (x .entries) (x .i) (loaded (entryAt x (x .i)) w o)) ≡ pairsOf x
+pairs-noted : (x : Exchange) (w : Word) (o : Bool) → map pairOf (replace (x .entries) (x .i) (withInit (entryAt x (x .i)) w o)) ≡ pairsOf x
 unfolding at replace
-pairs-noted x w o = map-set-same pairOf (x .entries) (x .i) (loaded (entryAt x (x .i)) w o) (entry 0 0 0) refl
+pairs-noted x w o = map-set-same pairOf (x .entries) (x .i) (withInit (entryAt x (x .i)) w o) (entry 0 0 0) refl
 
 module _ (p : ℕ) (m : Memory) (x : Exchange) where
   test-follows : (b : Bool) → Follows p m x test (testBy b m x)

@@ -7,9 +7,9 @@ use mathlib.Core.List.{List}
 use mathlib.Core.Option.{some}
 use native.Mathlib.Omega.{arith}
 use Rattle.model.specs.Job.{Task}
-use Rattle.model.specs.Plain.{Pair, swapOf}
 use Rattle.model.specs.History.{Operation, History, operationAt}
 use Rattle.model.specs.Claim.{Among}
+use Rattle.model.specs.Arguments.{Pair, swapOf}
 use Rattle.model.proofs.Order.Advance.{Advance, Carried, kept, amended, carried}
 use Rattle.model.proofs.Order.Noted.{latestOf}
 use Rattle.model.proofs.Order.Linked.{Open, Inside, givenTo, Linked}

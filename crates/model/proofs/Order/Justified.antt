@@ -10,9 +10,10 @@ use lib.Dec.{eqb}
 use lib.ListN.{length}
 use borrow.Author.Tests.{ne-eqb}
 use Rattle.model.specs.Lists.{at}
-use Rattle.model.specs.Plain.{Contents, Pair, Arguments, readOf, swapOf, transactionOf, result, allOld, swapBy, plainly}
+use Rattle.model.specs.Plain.{Contents, result, allOld, plainly, plainSwapBy}
 use Rattle.model.specs.History.{Operation, History, operationAt, Event, nothing, begins, amends, answering, ending, noted}
 use Rattle.model.specs.Claim.{countedBy, Counts, Among, Interfered, plain, freely}
+use Rattle.model.specs.Arguments.{Pair, Arguments, readOf, swapOf, transactionOf}
 use Rattle.model.proofs.Lists.{same?}
 use Rattle.model.proofs.Order.Advance.{Changed}
 use Rattle.model.proofs.Order.Growth.{Settled, commits, finds, Settles}
@@ -62,7 +63,7 @@ module _ (contents : ℕ → Contents) where
       and-false false e = refl
 
   says-no : (c : Contents) (ps : List Pair) (named : Pair) → Among named ps → at 0 (c .words) (named .word) ≢ named .old → plainly (swapOf ps) c ≡ result c (0 ∷ [])
-  unfolding plainly swapBy
+  unfolding plainly plainSwapBy
   says-no c ps named i ne = rw (not-old (c .words) ps named i ne) refl
 
   gives-value : (c : Contents) (w v : ℕ) → at 0 (c .words) w ≡ v → plainly (readOf w) c ≡ result c (v ∷ [])

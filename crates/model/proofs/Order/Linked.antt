@@ -8,11 +8,11 @@ use mathlib.Core.List.{List, [], _∷_}
 use mathlib.Core.Option.{Option, none, some}
 use native.Mathlib.Omega.{arith}
 use lib.ListN.{length}
-use Rattle.model.specs.Plain.{Pair, Arguments, swapOf}
 use Rattle.model.specs.History.{Operation, History, operationAt, Event, nothing, begins, amends, answering, ending, noted}
 use Rattle.model.specs.Claim.{countedBy}
 use Rattle.model.specs.Job.{Task}
 use Rattle.model.specs.Machine.{taskAt}
+use Rattle.model.specs.Arguments.{Pair, Arguments, swapOf}
 use Rattle.model.proofs.Lists.{at-past, impossible}
 use Rattle.model.proofs.Order.Advance.{Amended, Changed, Advance}
 use Rattle.model.proofs.Order.Advance.{same as advanceSame, begins as advanceBegins, amends as advanceAmends}
@@ -40,14 +40,14 @@ Inside none = ⊥
 Inside (some a) = Unit {0}
 
 abbrev pub givenTo : List Task → ℕ → Option Arguments
-givenTo ts p = given (taskAt ts p .phase)
+givenTo ts p = given (taskAt ts p .job .phase)
 
 -- after u ticks
 pub record Linked (u : ℕ) (ts : List Task) (h : History) : Type 0 where
   pub size : length (h .began) ≡ u
   pub latest : length (h .latest) ≡ 8
   pub past : (p : ℕ) → latestOf h p ≤ u
-  pub opened : (p : ℕ) → OpenBy h p (givenTo ts p) (hasCommitted (taskAt ts p .phase))
+  pub opened : (p : ℕ) → OpenBy h p (givenTo ts p) (hasCommitted (taskAt ts p .job .phase))
   pub apart : (p q : ℕ) → p ≢ q → Inside (givenTo ts p) → Inside (givenTo ts q) → latestOf h p ≢ latestOf h q
   pub rising : (p q : ℕ) → Inside (givenTo ts p) → Inside (givenTo ts q) → latestOf h p < latestOf h q → p < q
 

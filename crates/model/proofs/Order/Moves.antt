@@ -5,13 +5,12 @@ use mathlib.Core.List.{List, [], _∷_}
 use mathlib.Core.Option.{Option, none, some}
 use Rattle.model.specs.Command.{Command, WORD, BLOCK, TASK, RELEASE, END, LOAD, ADD, READ, PAIR, SWAP, BEGIN, access, COMMIT}
 use Rattle.model.specs.Word.{Memory, Read, reads, gives, readTick}
-use Rattle.model.specs.Exchange.{Exchanged, goes, ends, exchangeTick}
+use Rattle.model.specs.Exchange.{Exchanged, goes, ends, exchangeTick, saidYes}
 use Rattle.model.specs.Job.{Transaction, Inner, between, first, copying, again, committing, Phase, idle, plain, reading, exchanging, transacting}
 use Rattle.model.specs.Transaction.{nothing?}
-use Rattle.model.specs.Plain.{Pair, Arguments, readOf, swapOf, transactionOf}
-use Rattle.model.specs.History.{Event, nothing, begins, amends, answering, ending, untilCommit}
-use Rattle.model.specs.History.{committed as asCommitted, spent as asSpent}
-use Rattle.model.proofs.Order.Exchange.{saidYes, saysYes, pairsOf}
+use Rattle.model.specs.History.{Event, nothing, begins, amends, answering, ending, asCommitted, asSpent}
+use Rattle.model.specs.Arguments.{Pair, Arguments, readOf, swapOf, transactionOf, untilCommit}
+use Rattle.model.proofs.Order.Exchange.{saysYes, pairsOf}
 
 -- WHERE A TASK STANDS: the arguments of the operation that it is in, and whether that has committed
 abbrev pub given : Phase → Option Arguments

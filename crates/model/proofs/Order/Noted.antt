@@ -8,8 +8,8 @@ use mathlib.Core.Option.{Option, none, some}
 use native.Mathlib.Omega.{arith}
 use lib.ListN.{length, length-append}
 use Rattle.model.specs.Lists.{at, replace}
-use Rattle.model.specs.Plain.{Arguments}
 use Rattle.model.specs.History.{Operation, History, operationAt, Event, nothing, begins, amends, amendBy, noted}
+use Rattle.model.specs.Arguments.{Arguments}
 use Rattle.model.proofs.Lists.{same?, replace-same, replace-other, length-replace, at-below, at-past, impossible}
 use Rattle.model.proofs.Order.Advance.{Changed}
 

@@ -7,11 +7,10 @@ use lib.ListN.{length, replicate, length-append, length-replicate, length-map}
 use Rattle.model.specs.Lists.{at}
 use Rattle.model.specs.Command.{Block, Command}
 use Rattle.model.specs.Sheet.{Sheet}
-use Rattle.model.specs.Word.{Word, own, currentBy, current, currentOf, cellOf}
-use Rattle.model.specs.Word.{fresh as freshWord}
+use Rattle.model.specs.Word.{Word, own, currentBy, current, currentOf, cellOf, freshWord}
 use Rattle.model.specs.Job.{idle}
 use Rattle.model.specs.Transaction.{bank, bankValue, versionOf, storeOf}
-use Rattle.model.specs.Machine.{noTask, taskAt, filled, zeros, banksFrom, valuesOf, tasksFrom, startMemory, startMachine}
+use Rattle.model.specs.Machine.{noTask, taskAt, filled, zeros, banksFrom, tasksFrom, startMemory, startMachine, startValues}
 use Rattle.model.specs.Claim.{each, blockIn, contentsOf, declaredContents}
 use Rattle.model.proofs.Lists.{at-append, at-behind, at-map}
 use Rattle.model.proofs.Fit.Sheet.{noBlock, SheetFit}
@@ -32,13 +31,13 @@ unfolding filled
 at-filled e n d l i h = at-append e l (replicate (n - length l) d) i h
 
 -- TASKS
-idle-behind : (n p : ℕ) → taskAt (replicate n noTask) p .phase ≡ idle
+idle-behind : (n p : ℕ) → taskAt (replicate n noTask) p .job .phase ≡ idle
 unfolding at
 idle-behind zero p = refl
 idle-behind (suc n) zero = refl
 idle-behind (suc n) (suc p) = idle-behind n p
 
-idle-all : (q : ℕ) (l : List (List Command)) (n p : ℕ) → taskAt (tasksFrom q l ++ replicate n noTask) p .phase ≡ idle
+idle-all : (q : ℕ) (l : List (List Command)) (n p : ℕ) → taskAt (tasksFrom q l ++ replicate n noTask) p .job .phase ≡ idle
 unfolding at tasksFrom
 idle-all q [] n p = idle-behind n p
 idle-all q (b ∷ l) n zero = refl
@@ -74,7 +73,7 @@ abbrev pub bankCells : Sheet → List Word
 bankCells s = filled 16 (freshWord 0) (banksFrom (firstStore s) (s .blocks))
 
 abbrev ownStores : Sheet → List (List ℕ)
-ownStores s = replicate (firstStore s) (zeros 8) ++ map valuesOf (s .blocks)
+ownStores s = replicate (firstStore s) (zeros 8) ++ map startValues (s .blocks)
 
 pub start-cells : (s : Sheet) → startMemory s .cells ≡ wordCells s ++ bankCells s
 unfolding startMemory
@@ -106,10 +105,10 @@ module _ {s : Sheet} (c : SheetFit s) where
 
   block-store : (b : ℕ) → b < length (s .blocks) → at [] (startMemory s .stores) (firstStore s + b) ≡ at noBlock (s .blocks) b .values
   block-store b h =
-      let n = length-append (replicate (firstStore s) (zeros 8)) (map valuesOf (s .blocks)) in
+      let n = length-append (replicate (firstStore s) (zeros 8)) (map startValues (s .blocks)) in
       let k = length-replicate (firstStore s) (zeros 8) in
-      let l : firstStore s + b < length (ownStores s) = omega (arith, length-map (s .blocks) valuesOf) in
-      rw (start-stores s) (at-filled [] 48 (zeros 8) (ownStores s) (firstStore s + b) l ∙ at-behind [] (replicate (firstStore s) (zeros 8)) (map valuesOf (s .blocks)) (firstStore s) b k ∙ at-map valuesOf noBlock (s .blocks) b)
+      let l : firstStore s + b < length (ownStores s) = omega (arith, length-map (s .blocks) startValues) in
+      rw (start-stores s) (at-filled [] 48 (zeros 8) (ownStores s) (firstStore s + b) l ∙ at-behind [] (replicate (firstStore s) (zeros 8)) (map startValues (s .blocks)) (firstStore s) b k ∙ at-map startValues noBlock (s .blocks) b)
 
   word-start : (w : ℕ) → w < length (s .words) → currentOf (startMemory s) w ≡ at 0 (s .words) w
   word-start w h = rw (word-cell w h) (current-fresh (startMemory s .status) (startMemory s .saves) (at 0 (s .words) w))

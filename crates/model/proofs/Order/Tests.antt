@@ -10,9 +10,10 @@ use lib.Dec.{eqb, ltb}
 use borrow.Author.Tests.{eqb-true, eqb-false, eq-eqb, ne-eqb, ltb-true, lt-ltb, not-true}
 use Rattle.model.specs.Lists.{at}
 use Rattle.model.specs.Command.{Block}
-use Rattle.model.specs.Plain.{Contents, Pair, Arguments, swapOf}
+use Rattle.model.specs.Plain.{Contents}
 use Rattle.model.specs.History.{Operation, History, operationAt}
 use Rattle.model.specs.Claim.{Among, Interfered, In, EndedBefore}
+use Rattle.model.specs.Arguments.{Pair, Arguments, swapOf}
 use Rattle.model.proofs.Fit.Elements.{and-left, and-right, or-cases, or-left, or-right}
 use Rattle.model.proofs.WholeCases.{sameNumbers, sameBlocks, sameContents, lastBefore, endedBefore, timely, names, changesNamed, pairsOf, interferes, interferedFrom, interfered}
 

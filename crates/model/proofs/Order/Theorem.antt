@@ -22,7 +22,7 @@ use Rattle.model.proofs.Order.Justified.{Justified, settles}
 
 -- what the statement of task p settles
 abbrev pub settledBy : Machine → ℕ → Settling
-settledBy m p = settling p (m .memory) (taskAt (m .tasks) p .commands) (taskAt (m .tasks) p .phase)
+settledBy m p = settling p (m .memory) (taskAt (m .tasks) p .job .commands) (taskAt (m .tasks) p .job .phase)
 
 -- of tick u, the releases having arrived; an idle tick leaves the contents
 abbrev JustifiedIn : (ℕ → Contents) → ℕ → Machine → History → Running → Type 0
@@ -32,7 +32,7 @@ JustifiedIn contents u m h (running p) = Justified contents u p h (settledBy m p
 machine-settles : (contents : ℕ → Contents) {m : Machine} {h : History} → MachineLinked m h → (r : Running) → JustifiedIn contents (m .now) m h r → Settles contents (m .now) h (observed m r h)
 unfolding observed
 machine-settles contents {m} {h} g nobody w = settles contents (m .now) 0 h (g .linked .size) (outside {b = false} {c = false}) tt w
-machine-settles contents {m} {h} g (running p) w = settles contents (m .now) p h (g .linked .size) (moves (m .now) p (m .memory) (taskAt (m .tasks) p) (taskAt (m .tasks) p .phase) refl) (g .linked .opened p) w
+machine-settles contents {m} {h} g (running p) w = settles contents (m .now) p h (g .linked .size) (moves (m .now) p (m .memory) (taskAt (m .tasks) p) (taskAt (m .tasks) p .job .phase) refl) (g .linked .opened p) w
 
 idle-memory : (m : Machine) → move m nobody .memory ≡ m .memory
 unfolding move
@@ -44,21 +44,21 @@ contentsAfter s m t = contentsOf s (stateAfter m t .memory)
 
 -- EVERY TICK OF THE RUN IS JUSTIFIED
 pub record JustifiedRun (s : Sheet) (m : Machine) : Type 0 where
-  pub justified : (t p : ℕ) → runningOf (arrivedAt m t .tasks) ≡ running p → Justified (contentsAfter s m) t p (historyAfter m t) (settledBy (arrivedAt m t) p)
+  pub justified : (t p : ℕ) → runningOf (arrivedAt m t) ≡ running p → Justified (contentsAfter s m) t p (historyAfter m t) (settledBy (arrivedAt m t) p)
 
 module _ (s : Sheet) {m : Machine} (start : Started m) (just : JustifiedRun s m) where
-  still : (t : ℕ) → runningOf (arrivedAt m t .tasks) ≡ nobody → contentsAfter s m t ≡ contentsAfter s m (suc t)
+  still : (t : ℕ) → runningOf (arrivedAt m t) ≡ nobody → contentsAfter s m t ≡ contentsAfter s m (suc t)
   still t e = sym (ap (λ (n : Machine). contentsOf s (n .memory)) (state-next m t) ∙ rw e (ap (contentsOf s) (idle-memory (arrivedAt m t) ∙ arrived-at m t .memory)))
 
-  justified-in : (t : ℕ) (r : Running) → runningOf (arrivedAt m t .tasks) ≡ r → JustifiedIn (contentsAfter s m) t (arrivedAt m t) (historyAfter m t) r
+  justified-in : (t : ℕ) (r : Running) → runningOf (arrivedAt m t) ≡ r → JustifiedIn (contentsAfter s m) t (arrivedAt m t) (historyAfter m t) r
   justified-in t nobody e = still t e
   justified-in t (running p) e = just .justified t p e
 
   pub tick-settles : (t : ℕ) → Settles (contentsAfter s m) t (historyAfter m t) (historyAfter m (suc t))
-  tick-settles t = rw (history-next m t) (subst (λ (u : ℕ). Settles (contentsAfter s m) u (historyAfter m t) (observed (arrivedAt m t) (runningOf (arrivedAt m t .tasks)) (historyAfter m t))) (arrived-now start t) (machine-settles (contentsAfter s m) (arrived-linked start t) (runningOf (arrivedAt m t .tasks)) now))
+  tick-settles t = rw (history-next m t) (subst (λ (u : ℕ). Settles (contentsAfter s m) u (historyAfter m t) (observed (arrivedAt m t) (runningOf (arrivedAt m t)) (historyAfter m t))) (arrived-now start t) (machine-settles (contentsAfter s m) (arrived-linked start t) (runningOf (arrivedAt m t)) now))
     where
-      now : JustifiedIn (contentsAfter s m) (arrivedAt m t .now) (arrivedAt m t) (historyAfter m t) (runningOf (arrivedAt m t .tasks))
-      now = subst (λ (u : ℕ). JustifiedIn (contentsAfter s m) u (arrivedAt m t) (historyAfter m t) (runningOf (arrivedAt m t .tasks))) (sym (arrived-now start t)) (justified-in t (runningOf (arrivedAt m t .tasks)) refl)
+      now : JustifiedIn (contentsAfter s m) (arrivedAt m t .now) (arrivedAt m t) (historyAfter m t) (runningOf (arrivedAt m t))
+      now = subst (λ (u : ℕ). JustifiedIn (contentsAfter s m) u (arrivedAt m t) (historyAfter m t) (runningOf (arrivedAt m t))) (sym (arrived-now start t)) (justified-in t (runningOf (arrivedAt m t)) refl)
 
   none-yet : (a : ℕ) → operationAt (historyAfter m 0) a ≡ none
   unfolding at historyAfter

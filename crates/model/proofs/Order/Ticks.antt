@@ -1,6 +1,6 @@
 -- Every tick keeps history and machine linked, and advances the history by at most one operation.
 use Prim.Native.Nat.{ℕ, zero, suc, _<_, _≤_}
-use mathlib.Core.Bool.{Bool}
+use mathlib.Core.Bool.{Bool, true}
 use mathlib.Core.Path.{_≡_, refl, sym, _∙_, ap, subst}
 use mathlib.Core.Logic.{_≢_, _⊎_, inl, inr}
 use mathlib.Core.List.{List}
@@ -8,16 +8,17 @@ use mathlib.Core.Option.{Option, none, some}
 use native.Mathlib.Decide.{decLt}
 use native.Mathlib.Omega.{arith}
 use lib.ListN.{length, replicate}
+use borrow.Author.Tests.{lt-ltb}
 use Rattle.model.specs.Lists.{at, replace}
-use Rattle.model.specs.Job.{idle, Task, ticked}
-use Rattle.model.specs.Machine.{Machine, noTask, taskAt, Running, nobody, running, runningOf, move, statement}
-use Rattle.model.specs.Plain.{Arguments}
+use Rattle.model.specs.Job.{idle, Task, counting, ticks}
+use Rattle.model.specs.Machine.{Machine, noTask, taskAt, runsBefore, enter, Running, nobody, running, runningOf, move, statement}
 use Rattle.model.specs.History.{History, operationAt, nothing, observed}
+use Rattle.model.specs.Arguments.{Arguments}
 use Rattle.model.proofs.Lists.{same?, replace-same, replace-other, length-replace}
 use Rattle.model.proofs.Fit.Tick.{move-now}
 use Rattle.model.proofs.Order.Steps.{stateAfter, arrivedAt, historyAfter, state-next, history-next}
-use Rattle.model.proofs.Fit.Running.{Highest, running-highest}
-use Rattle.model.proofs.Order.Arrive.{above-idle, TaskArrived, waits, starts, Arrived, arrived, none-runs}
+use Rattle.model.proofs.Fit.Running.{Foremost, running-foremost}
+use Rattle.model.proofs.Order.Arrive.{before-idle, JobArrived, TaskArrived, waits, starts, Arrived, arrived, none-runs}
 use Rattle.model.proofs.Order.Advance.{Advance, same}
 use Rattle.model.proofs.Order.Moves.{given, hasCommitted}
 use Rattle.model.proofs.Order.Statement.{moves}
@@ -25,13 +26,19 @@ use Rattle.model.proofs.Order.Noted.{latestOf, number-below, noted-noth
 use Rattle.model.proofs.Order.Linked.{OpenBy, Inside, givenTo, Linked, Next, next}
 
 -- a task whose release has come stands where it stood: outside
-pub given-arrived : {t t′ : Task} → TaskArrived t t′ → given (t′ .phase) ≡ given (t .phase)
-given-arrived (waits e) = rw e refl
-given-arrived (starts i e) = rw (e, i) refl
+pub given-arrived : {t t′ : Task} → TaskArrived t t′ → given (t′ .job .phase) ≡ given (t .job .phase)
+given-arrived {t} {t′} a = go (a .job)
+  where
+    go : JobArrived t (t′ .job) → given (t′ .job .phase) ≡ given (t .job .phase)
+    go (waits e) = rw e refl
+    go (starts i e) = rw (e, i) refl
 
-committed-arrived : {t t′ : Task} → TaskArrived t t′ → hasCommitted (t′ .phase) ≡ hasCommitted (t .phase)
-committed-arrived (waits e) = rw e refl
-committed-arrived (starts i e) = rw (e, i) refl
+committed-arrived : {t t′ : Task} → TaskArrived t t′ → hasCommitted (t′ .job .phase) ≡ hasCommitted (t .job .phase)
+committed-arrived {t} {t′} a = go (a .job)
+  where
+    go : JobArrived t (t′ .job) → hasCommitted (t′ .job .phase) ≡ hasCommitted (t .job .phase)
+    go (waits e) = rw e refl
+    go (starts i e) = rw (e, i) refl
 
 pub linked-arrived : {u : ℕ} {m m′ : Machine} {h : History} → Arrived m m′ → Linked u (m .tasks) h → Linked u (m′ .tasks) h
 linked-arrived a l = record {
@@ -58,26 +65,29 @@ open-kept h h′ p (some a) b l e o = record {
 }
 
 pub latest-below : {u : ℕ} {ts : List Task} {h : History} → Linked u ts h → (p : ℕ) → Inside (givenTo ts p) → latestOf h p < u
-latest-below {u} {ts} {h} l p i = go (givenTo ts p) (hasCommitted (taskAt ts p .phase)) i (l .opened p)
+latest-below {u} {ts} {h} l p i = go (givenTo ts p) (hasCommitted (taskAt ts p .job .phase)) i (l .opened p)
   where
     go : (g : Option Arguments) (b : Bool) → Inside g → OpenBy h p g b → latestOf h p < u
     go none b i o = absurd i
     go (some a) b i o = omega (arith, number-below h (latestOf h p) (o .is), l .size)
 
 -- task p runs, and is t′ afterwards
-module _ {u p : ℕ} {ts : List Task} {h h′ : History} (r : Highest ts p) (l : Linked u ts h) (t′ : Task) (n : Next u p h h′ (givenTo ts p) (given (t′ .phase)) (hasCommitted (t′ .phase))) where
+module _ {u p : ℕ} {m : Machine} {h h′ : History} (r : Foremost m p) (l : Linked u (m .tasks) h) (t′ : Task) (n : Next u p h h′ (givenTo (m .tasks) p) (given (t′ .job .phase)) (hasCommitted (t′ .job .phase))) where
+  abbrev ts : List Task
+  ts = m .tasks
+
   abbrev ts′ : List Task
   ts′ = replace ts p t′
 
-  above-outside : (q : ℕ) → p < q → Inside (givenTo ts q) → ⊥
-  above-outside q lt i = rw (above-idle r q lt) at i
+  before-outside : (q : ℕ) → runsBefore m q p ≡ true → Inside (givenTo ts q) → ⊥
+  before-outside q b i = rw (before-idle r q b) at i
 
   -- of the open operations that of the task that runs began last
   pub last-begun : (q : ℕ) → q ≢ p → Inside (givenTo ts q) → Inside (givenTo ts p) → latestOf h q < latestOf h p
   last-begun q ne i j = go (decLt (latestOf h p) (latestOf h q))
     where
       go : Dec (latestOf h p < latestOf h q) → latestOf h q < latestOf h p
-      go (yes lt) = absurd (above-outside q (l .rising p q j i lt) i)
+      go (yes lt) = absurd (before-outside q (lt-ltb p q (l .rising p q j i lt)) i)
       go (no gt) = let d = l .apart q p ne i j in omega arith
 
   -- the others are other ones
@@ -87,13 +97,13 @@ module _ {u p : ℕ} {ts : List Task} {h h′ : History} (r : Highest ts p) (l :
   other-given : (q : ℕ) → q ≢ p → givenTo ts′ q ≡ givenTo ts q
   other-given q ne = rw (replace-other noTask ts p q t′ ne) refl
 
-  here-given : givenTo ts′ p ≡ given (t′ .phase)
+  here-given : givenTo ts′ p ≡ given (t′ .job .phase)
   here-given = rw (replace-same noTask ts p t′ (r .below)) refl
 
-  opened′ : (q : ℕ) → OpenBy h′ q (givenTo ts′ q) (hasCommitted (taskAt ts′ q .phase))
+  opened′ : (q : ℕ) → OpenBy h′ q (givenTo ts′ q) (hasCommitted (taskAt ts′ q .job .phase))
   opened′ q = same? q p
       (λ e. rw (e, replace-same noTask ts p t′ (r .below)) (n .mine))
-      (λ ne. rw (replace-other noTask ts p q t′ ne) (open-kept h h′ q (givenTo ts q) (hasCommitted (taskAt ts q .phase)) (n .other q ne)
+      (λ ne. rw (replace-other noTask ts p q t′ ne) (open-kept h h′ q (givenTo ts q) (hasCommitted (taskAt ts q .job .phase)) (n .other q ne)
       (λ i. n .else (latestOf h q) (let k = latest-below l q i in omega arith) (λ j. l .apart q p ne i j)) (l .opened q)))
 
   -- another task's operation began before p's
@@ -117,7 +127,7 @@ module _ {u p : ℕ} {ts : List Task} {h h′ : History} (r : Highest ts p) (l :
     where
       go : Dec (q < p) → q < p
       go (yes lt) = lt
-      go (no gt) = absurd (above-outside q (omega arith) i)
+      go (no gt) = absurd (before-outside q (lt-ltb p q (omega arith)) i)
 
   rising′ : (q s : ℕ) → Inside (givenTo ts′ q) → Inside (givenTo ts′ s) → latestOf h′ q < latestOf h′ s → q < s
   rising′ q s i j lt = same? s p
@@ -148,17 +158,17 @@ arrive-linked {m} {m′} {h} a g = record { size = a .size ∙ g .size; linked =
 
 -- what the running task p's tick does to the history
 module _ {m : Machine} {h : History} (g : MachineLinked m h) where
-  pub next-of : (p : ℕ) → Highest (m .tasks) p → Next (m .now) p h (observed m (running p) h) (givenTo (m .tasks) p) (given (statement p (m .memory) (taskAt (m .tasks) p) (taskAt (m .tasks) p .phase) .task .phase)) (hasCommitted (statement p (m .memory) (taskAt (m .tasks) p) (taskAt (m .tasks) p .phase) .task .phase))
+  pub next-of : (p : ℕ) → Foremost m p → Next (m .now) p h (observed m (running p) h) (givenTo (m .tasks) p) (given (statement p (m .memory) (taskAt (m .tasks) p) (taskAt (m .tasks) p .job .phase) .task .job .phase)) (hasCommitted (statement p (m .memory) (taskAt (m .tasks) p) (taskAt (m .tasks) p .job .phase) .task .job .phase))
   unfolding observed
   next-of p r = let below : p < 8 = omega (arith, r .below, g .size) in
-      next (m .now) p h (g .linked .size) (g .linked .latest) below (moves (m .now) p (m .memory) (taskAt (m .tasks) p) (taskAt (m .tasks) p .phase) refl) (g .linked .opened p)
+      next (m .now) p h (g .linked .size) (g .linked .latest) below (moves (m .now) p (m .memory) (taskAt (m .tasks) p) (taskAt (m .tasks) p .job .phase) refl) (g .linked .opened p)
 
-  pub move-advances : (r : Running) → runningOf (m .tasks) ≡ r → Advance (m .now) h (observed m r h)
+  pub move-advances : (r : Running) → runningOf m ≡ r → Advance (m .now) h (observed m r h)
   unfolding observed
   move-advances nobody e = same (noted-nothing (m .now) 0 h (g .linked .size))
-  move-advances (running p) e = next-of p (running-highest e) .advance
+  move-advances (running p) e = next-of p (running-foremost e) .advance
 
-  pub move-linked : (r : Running) → runningOf (m .tasks) ≡ r → MachineLinked (move m r) (observed m r h)
+  pub move-linked : (r : Running) → runningOf m ≡ r → MachineLinked (move m r) (observed m r h)
   unfolding observed move
   move-linked nobody e = record {
     size = g .size;
@@ -166,25 +176,25 @@ module _ {m : Machine} {h : History} (g : MachineLinked m h) where
       size = size-nothing (m .now) 0 h (g .linked .size);
       latest = latest-size (m .now) 0 h (g .linked .size) nothing ∙ g .linked .latest;
       past = λ q. rw (latest-nothing (m .now) 0 h (g .linked .size) q) (omega (arith, g .linked .past q));
-      opened = λ q. rw (none-runs (m .tasks) e q) tt;
-      apart = λ q s d i j. absurd (rw (none-runs (m .tasks) e q) at i);
-      rising = λ q s i j lt. absurd (rw (none-runs (m .tasks) e q) at i);
+      opened = λ q. rw (none-runs m e q) tt;
+      apart = λ q s d i j. absurd (rw (none-runs m e q) at i);
+      rising = λ q s i j lt. absurd (rw (none-runs m e q) at i);
     };
   }
   move-linked (running p) e =
-      let r = running-highest e in
+      let r = running-foremost e in
       let b = m .tasks in
-      let t = statement p (m .memory) (taskAt b p) (taskAt b p .phase) .task in
-      record { size = length-replace (m .tasks) p (ticked t) ∙ g .size; linked = linked-runs r (g .linked) (ticked t) (next-of p r) }
+      let t = statement p (m .memory) (taskAt b p) (taskAt b p .job .phase) .task in
+      record { size = length-replace (m .tasks) p (counting ticks t) ∙ g .size; linked = linked-runs r (g .linked) (counting ticks t) (next-of p r) }
 
 -- THE RUN
 pub record Started (m : Machine) : Type 0 where
   pub now : m .now ≡ 0
   pub size : length (m .tasks) ≡ 8
-  pub idle : (p : ℕ) → taskAt (m .tasks) p .phase ≡ idle
+  pub idle : (p : ℕ) → taskAt (m .tasks) p .job .phase ≡ idle
 
 pub arrived-at : (m : Machine) (t : ℕ) → Arrived (stateAfter m t) (arrivedAt m t)
-unfolding arrivedAt
+unfolding arrivedAt enter
 arrived-at m t = arrived (stateAfter m t .releases) (stateAfter m t)
 
 -- no operation has begun
@@ -198,7 +208,7 @@ module _ {m : Machine} (s : Started m) where
   pub now-is : (t : ℕ) → stateAfter m t .now ≡ t
   unfolding stateAfter
   now-is zero = s .now
-  now-is (suc t) = ap (λ (n : Machine). n .now) (state-next m t) ∙ move-now (arrivedAt m t) (runningOf (arrivedAt m t .tasks)) ∙ ap suc (arrived-at m t .now ∙ now-is t)
+  now-is (suc t) = ap (λ (n : Machine). n .now) (state-next m t) ∙ move-now (arrivedAt m t) (runningOf (arrivedAt m t)) ∙ ap suc (arrived-at m t .now ∙ now-is t)
 
   pub arrived-now : (t : ℕ) → arrivedAt m t .now ≡ t
   arrived-now t = arrived-at m t .now ∙ now-is t
@@ -216,11 +226,11 @@ module _ {m : Machine} (s : Started m) where
       rising = λ p q i j lt. absurd (rw (s .idle p) at i);
     };
   }
-  machine-linked (suc t) = rw (state-next m t, history-next m t) (move-linked (arrive-linked (arrived-at m t) (machine-linked t)) (runningOf (arrivedAt m t .tasks)) refl)
+  machine-linked (suc t) = rw (state-next m t, history-next m t) (move-linked (arrive-linked (arrived-at m t) (machine-linked t)) (runningOf (arrivedAt m t)) refl)
 
   -- the same, tick t's releases having arrived
   pub arrived-linked : (t : ℕ) → MachineLinked (arrivedAt m t) (historyAfter m t)
   arrived-linked t = arrive-linked (arrived-at m t) (machine-linked t)
 
   pub advance : (t : ℕ) → Advance t (historyAfter m t) (historyAfter m (suc t))
-  advance t = rw (history-next m t) (subst (λ (z : ℕ). Advance z (historyAfter m t) (observed (arrivedAt m t) (runningOf (arrivedAt m t .tasks)) (historyAfter m t))) (arrived-now t) (move-advances (arrived-linked t) (runningOf (arrivedAt m t .tasks)) refl))
+  advance t = rw (history-next m t) (subst (λ (z : ℕ). Advance z (historyAfter m t) (observed (arrivedAt m t) (runningOf (arrivedAt m t)) (historyAfter m t))) (arrived-now t) (move-advances (arrived-linked t) (runningOf (arrivedAt m t)) refl))

@@ -9,16 +9,16 @@ use lib.ListN.{length}
 use Rattle.model.specs.Sheet.{Sheet}
 use Rattle.model.specs.Word.{Memory, setStatus}
 use Rattle.model.specs.Exchange.{Entry, Exchange, exchangeOf, start, test, Exchanged, goes, ends, exchangeTick}
-use Rattle.model.specs.Job.{Transaction, committing, idle, transacting, ticked}
-use Rattle.model.specs.Transaction.{committed, transactionTick}
+use Rattle.model.specs.Job.{Transaction, committing, idle, transacting, counting, ticks}
+use Rattle.model.specs.Transaction.{transactionTick, committingBy}
 use Rattle.model.specs.Machine.{Machine, noTask, taskAt, Running, nobody, running, runningOf, move, statement, startMachine}
 use Rattle.model.specs.Rates.{ownBefore}
 use Rattle.model.proofs.Lists.{same?, replace-same, replace-other, impossible}
 use Rattle.model.proofs.Fit.Sheet.{SheetFit}
 use Rattle.model.proofs.Whole.Rates.{Ran, before-start, own-tick, others, exchange-rate, exchange-ends}
 use Rattle.model.proofs.Order.Steps.{stateAfter, arrivedAt, state-next}
-use Rattle.model.proofs.Fit.Running.{running-highest}
-use Rattle.model.proofs.Order.Arrive.{TaskArrived, waits, starts, Arrived, none-runs}
+use Rattle.model.proofs.Fit.Running.{running-foremost}
+use Rattle.model.proofs.Order.Arrive.{JobArrived, waits, starts, Arrived, none-runs}
 use Rattle.model.proofs.Order.Ticks.{arrived-at}
 use Rattle.model.proofs.Rates.Own.{other-task, own-none, own-runs, own-waits}
 use Rattle.model.proofs.Rates.Status.{status-stays}
@@ -27,7 +27,7 @@ use Rattle.model.proofs.Rates.Run.{who, below-status}
 -- task p is in the exchange x of a COMMIT
 pub record In (m : Machine) (p : ℕ) (x : Exchange) : Type 0 where
   pub transaction : Transaction
-  pub phase : taskAt (m .tasks) p .phase ≡ transacting transaction (committing x)
+  pub phase : taskAt (m .tasks) p .job .phase ≡ transacting transaction (committing x)
 
 -- under way: t ticks of its own done, begun with those entries
 pub record Underway (p : ℕ) (es : List Entry) (t : ℕ) (m : Machine) : Type 0 where
@@ -37,7 +37,7 @@ pub record Underway (p : ℕ) (es : List Entry) (t : ℕ) (m : Machine) : Type 0
 
 -- its statement ends it
 pub record Ending (p : ℕ) (m : Machine) : Type 0 where
-  pub runs : runningOf (m .tasks) ≡ running p
+  pub runs : runningOf m ≡ running p
   pub exchange : Exchange
   pub inside : In m p exchange
   pub memory : Memory
@@ -50,9 +50,9 @@ not-idle e = impossible (cc)
 module _ {p : ℕ} {es : List Entry} {t : ℕ} where
   -- RELEASES ARRIVE
   underway-arrived : {m m′ : Machine} → Arrived m m′ → Underway p es t m → Underway p es t m′
-  underway-arrived {m} {m′} a k = record { exchange = k .exchange; inside = record { transaction = k .inside .transaction; phase = go (a .task p) }; ran = rw (a .memory) (k .ran) }
+  underway-arrived {m} {m′} a k = record { exchange = k .exchange; inside = record { transaction = k .inside .transaction; phase = go (a .task p .job) }; ran = rw (a .memory) (k .ran) }
     where
-      go : TaskArrived (taskAt (m .tasks) p) (taskAt (m′ .tasks) p) → taskAt (m′ .tasks) p .phase ≡ transacting (k .inside .transaction) (committing (k .exchange))
+      go : JobArrived (taskAt (m .tasks) p) (taskAt (m′ .tasks) p .job) → taskAt (m′ .tasks) p .job .phase ≡ transacting (k .inside .transaction) (committing (k .exchange))
       go (waits e) = rw e (k .inside .phase)
       go (starts i e) = not-idle (sym i ∙ k .inside .phase)
 
@@ -62,17 +62,17 @@ module _ {p : ℕ} {es : List Entry} {t : ℕ} where
     unfolding move
     underway-others q ne k = record {
       exchange = k .exchange;
-      inside = record { transaction = k .inside .transaction; phase = rw (replace-other noTask (m .tasks) q p (ticked (statement q (m .memory) (taskAt (m .tasks) q) (taskAt (m .tasks) q .phase) .task)) ne) (k .inside .phase) };
+      inside = record { transaction = k .inside .transaction; phase = rw (replace-other noTask (m .tasks) q p (counting ticks (statement q (m .memory) (taskAt (m .tasks) q) (taskAt (m .tasks) q .job .phase) .task)) ne) (k .inside .phase) };
       ran = others (k .ran) (status-stays q p ne (m .memory) (taskAt (m .tasks) q));
     }
 
     -- TASK p RUNS, in exchange x
-    module _ (r : runningOf (m .tasks) ≡ running p) {x : Exchange} (i : In m p x) where
+    module _ (r : runningOf m ≡ running p) {x : Exchange} (i : In m p x) where
       committed-goes : {m′ : Memory} {x′ : Exchange} → exchangeTick p (m .memory) x (x .step) ≡ goes m′ x′ → Ran p es (suc t) m′ x′ → Underway p es (suc t) (move m (running p))
-      unfolding move statement transactionTick committed
+      unfolding move statement transactionTick committingBy
       committed-goes {m′} {x′} e n = record {
         exchange = x′;
-        inside = record { transaction = i .transaction; phase = rw (replace-same noTask (m .tasks) p (ticked (statement p (m .memory) (taskAt (m .tasks) p) (taskAt (m .tasks) p .phase) .task)) (running-highest r .below), i .phase, e) refl };
+        inside = record { transaction = i .transaction; phase = rw (replace-same noTask (m .tasks) p (counting ticks (statement p (m .memory) (taskAt (m .tasks) p) (taskAt (m .tasks) p .job .phase) .task)) (running-foremost r .below), i .phase, e) refl };
         ran = rw (i .phase, e) n;
       }
 
@@ -106,7 +106,7 @@ module _ {s : Sheet} (c : SheetFit s) (p a : ℕ) {x : Exchange} (runs-first : w
   started : Underway p (x .entries) (own (suc a)) (stateAfter (startMachine s) (suc a))
   started =
       let m = arrivedAt (startMachine s) a in
-      let k : Underway p (x .entries) 1 (move m (running p)) = committed-goes runs-first first (start-goes p (m .memory) x at-start) (own-tick (before-start (m .memory)) (below-status c a p (running-highest runs-first)) (start-goes p (m .memory) (exchangeOf (x .entries)) refl)) in
+      let k : Underway p (x .entries) 1 (move m (running p)) = committed-goes runs-first first (start-goes p (m .memory) x at-start) (own-tick (before-start (m .memory)) (below-status c a p (running-foremost runs-first)) (start-goes p (m .memory) (exchangeOf (x .entries)) refl)) in
       rw (own-runs (who c) p a a (omega arith) runs-first, own-none (who c) p a a (omega arith), state-next (startMachine s) a, runs-first) k
 
   step : (n : ℕ) → a ≤ n → Underway p (x .entries) (own n) (stateAfter (startMachine s) n) → Underway p (x .entries) (own (suc n)) (stateAfter (startMachine s) (suc n)) ⊎ Ending p (arrivedAt (startMachine s) n)
@@ -119,9 +119,9 @@ module _ {s : Sheet} (c : SheetFit s) (p a : ℕ) {x : Exchange} (runs-first : w
       now = underway-arrived (arrived-at (startMachine s) n) k
 
       go : (r : Running) → who c n ≡ r → Underway p (x .entries) (own (suc n)) (move m r) ⊎ Ending p m
-      go nobody e = not-idle (sym (none-runs (m .tasks) e p) ∙ now .inside .phase)
+      go nobody e = not-idle (sym (none-runs m e p) ∙ now .inside .phase)
       go (running q) e = same? p q
-          (λ z. rw (← z, own-runs (who c) p a n l (rw (← z) at e)) (let r : who c n ≡ running p = rw (← z) at e in committing-next r (now .inside) (exchangeTick p (m .memory) (now .exchange) (now .exchange .step)) refl (λ m′ x′ f. own-tick (now .ran) (below-status c n p (running-highest r)) f)))
+          (λ z. rw (← z, own-runs (who c) p a n l (rw (← z) at e)) (let r : who c n ≡ running p = rw (← z) at e in committing-next r (now .inside) (exchangeTick p (m .memory) (now .exchange) (now .exchange .step)) refl (λ m′ x′ f. own-tick (now .ran) (below-status c n p (running-foremost r)) f)))
           (λ ne. rw (own-waits (who c) p a n (other-task (who c n) ne e)) (inl (underway-others q ne now)))
 
   underway : (n : ℕ) → a < n → Underway p (x .entries) (own n) (stateAfter (startMachine s) n) ⊎ Ended n
@@ -155,5 +155,5 @@ module _ {s : Sheet} (c : SheetFit s) (p a : ℕ) {x : Exchange} (runs-first : w
       go : Underway p (x .entries) (own l) (stateAfter (startMachine s) l) ⊎ Ended l → own (suc l) ≤ 9 * length (x .entries) + 4
       go (inl w) =
           let now : Underway p (x .entries) (own l) (arrivedAt (startMachine s) l) = underway-arrived (arrived-at (startMachine s) l) w in
-          rw (own-runs (who c) p a l h (k .runs)) (exchange-rate (now .ran) (below-status c l p (running-highest (k .runs))) (rw (one-exchange (k .inside) (now .inside)) at (k .ends)))
+          rw (own-runs (who c) p a l h (k .runs)) (exchange-rate (now .ran) (below-status c l p (running-foremost (k .runs))) (rw (one-exchange (k .inside) (now .inside)) at (k .ends)))
       go (inr d) = absurd (none (d .tick) (d .after) (d .before) (d .ending))

@@ -5,9 +5,9 @@ use mathlib.Core.Path.{_≡_, refl, sym, _∙_}
 use mathlib.Core.Option.{Option, none, some}
 use lib.ListN.{length}
 use Rattle.model.specs.Machine.{Running}
-use Rattle.model.specs.Plain.{Arguments}
 use Rattle.model.specs.History.{Operation, History, operationAt, Event, nothing, begins, amends, noted}
 use Rattle.model.specs.Rates.{ownBefore}
+use Rattle.model.specs.Arguments.{Arguments}
 use Rattle.model.proofs.Lists.{same?, impossible}
 use Rattle.model.proofs.Order.Advance.{Changed}
 use Rattle.model.proofs.Order.Moves.{Settling, Moves, outside, begun, goesOn, answers, readEnds, swapCommits, swapEnds, swapCommitsAndEnds, swapRejected, transactionCommits, transactionEnds, transactionCommitsAndEnds, nothingTouched, endsSpent}

@@ -8,9 +8,9 @@ use Rattle.model.specs.Lists.{at}
 use Rattle.model.specs.Sheet.{sheetOf}
 use Rattle.model.specs.Exchange.{exchangeTick}
 use Rattle.model.specs.Machine.{run, startMachine}
-use Rattle.model.specs.Plain.{readOf, swapOf}
 use Rattle.model.specs.History.{Operation, operationAt, historyOf}
 use Rattle.model.specs.Rates.{inTick, ownBefore, ownTicks, Starts, Ends}
+use Rattle.model.specs.Arguments.{readOf, swapOf}
 use Rattle.model.proofs.Sheets.{exchanging, bodyRead, against, sheetU}
 use Rattle.model.proofs.Bytes.{word, task, release, end}
 

@@ -8,10 +8,12 @@ use native.Mathlib.Omega.{arith}
 use lib.Dec.{leb}
 use borrow.Author.Tests.{le-leb, lt-leb, eq-eqb, ne-eqb}
 use Rattle.model.specs.Command.{Release}
-use Rattle.model.specs.Machine.{Machine, Running, nobody, running, runningOf, arrive, moveAny, move, tick, over, noneToCome, nobody?, runBy, run}
-use Rattle.model.specs.Rates.{inTick, isTask, oneIf, ownBefore}
+use Rattle.model.specs.Job.{Task}
+use Rattle.model.specs.Machine.{Machine, Running, nobody, running, runningOf, moveAny, move, tick, over, noneToCome, nobody?, runBy, run, arrive, enter}
+use Rattle.model.specs.Rates.{inTick, runningIn, isTask, oneIf, ownBefore}
 use Rattle.model.proofs.Lists.{test?}
 use Rattle.model.proofs.Fit.Elements.{and-left, and-right}
+use Rattle.model.proofs.Fit.Running.{busy, running-foremost, nobody-none, none-nobody}
 use Rattle.model.proofs.Order.Steps.{stateAfter, arrivedAt}
 
 -- COUNTING
@@ -43,9 +45,21 @@ record Alike (m n : Machine) : Type 0 where
   tasks : m .tasks ≡ n .tasks
   releases : m .releases ≡ n .releases
 
+-- nobody runs just where no job is unfinished
+nobody-alike : (m n : Machine) → m .tasks ≡ n .tasks → nobody? (runningOf m) ≡ nobody? (runningOf n)
+nobody-alike m n e = go (runningOf m) refl
+  where
+    go : (r : Running) → runningOf m ≡ r → nobody? r ≡ nobody? (runningOf n)
+    go nobody k = rw (none-nobody n (λ q. rw (← e) (nobody-none m k q))) refl
+    go (running p) k = other (runningOf n) refl
+      where
+        other : (r : Running) → runningOf n ≡ r → false ≡ nobody? r
+        other nobody l = absurd (true≢false (sym (running-foremost k .unfinished) ∙ ap (λ (ts : List Task). busy ts p) e ∙ nobody-none n l p))
+        other (running q) l = refl
+
 over-alike : {m n : Machine} → Alike m n → over m ≡ over n
 unfolding over
-over-alike k = rw (k .tasks, k .releases) refl
+over-alike {m} {n} k = rw (nobody-alike m n (k .tasks), k .releases) refl
 
 -- a run that is over idles
 module _ (m : Machine) (e : over m ≡ true) where
@@ -59,19 +73,22 @@ module _ (m : Machine) (e : over m ≡ true) where
 
   over-releases : m .releases ≡ []
   unfolding over
-  over-releases = none-to-come (m .releases) (and-left (noneToCome (m .releases)) (nobody? (runningOf (m .tasks))) e)
+  over-releases = none-to-come (m .releases) (and-left (noneToCome (m .releases)) (nobody? (runningOf m)) e)
 
-  over-running : runningOf (m .tasks) ≡ nobody
+  over-running : runningOf m ≡ nobody
   unfolding over
-  over-running = nobody-runs (runningOf (m .tasks)) (and-right (noneToCome (m .releases)) (nobody? (runningOf (m .tasks))) e)
+  over-running = nobody-runs (runningOf m) (and-right (noneToCome (m .releases)) (nobody? (runningOf m)) e)
 
-  over-arrives : Alike (arrive (m .releases) m) m
-  unfolding arrive
+  over-arrives : Alike (enter m) m
+  unfolding enter arrive
   over-arrives = rw over-releases (record { memory = refl; tasks = refl; releases = refl })
 
+  over-enters : runningOf (enter m) ≡ nobody
+  over-enters = nobody-runs (runningOf (enter m)) (nobody-alike (enter m) m (over-arrives .tasks) ∙ ap nobody? over-running)
+
   over-tick : Alike (tick m) m
-  unfolding tick arrive moveAny move
-  over-tick = rw (over-releases, over-running) (record { memory = refl; tasks = refl; releases = refl })
+  unfolding tick moveAny move
+  over-tick = let a = over-arrives in rw over-enters (record { memory = a .memory; tasks = a .tasks; releases = a .releases })
 
 -- one tick more of the run, if it is not over
 run-last : (u : ℕ) (m : Machine) → run (suc u) m ≡ runBy (over (run u m)) (λ n. n) (run u m)
@@ -101,14 +118,24 @@ after m (suc u) = test? (over (run u m)) (λ e. inr (stays e (alike (after m u))
     goes e (inl k) = inl (rw (run-last u m, e) (ap tick k))
     goes e (inr k) = absurd (true≢false (sym (k .0) ∙ e))
 
--- so in tick u they have the same tasks and the same memory
-pub in-tick : (m : Machine) (u : ℕ) → (inTick m u .memory ≡ arrivedAt m u .memory) × (inTick m u .tasks ≡ arrivedAt m u .tasks)
+-- so in tick u they have the same tasks and the same memory, and the same task runs
+pub record InTick (m : Machine) (u : ℕ) : Type 0 where
+  pub memory : inTick m u .memory ≡ arrivedAt m u .memory
+  pub tasks : inTick m u .tasks ≡ arrivedAt m u .tasks
+  pub runs : runningIn m u ≡ runningOf (arrivedAt m u)
+
+pub in-tick : (m : Machine) (u : ℕ) → InTick m u
 unfolding inTick arrivedAt
 in-tick m u = go (after m u)
   where
-    go : After m u → (inTick m u .memory ≡ arrivedAt m u .memory) × (inTick m u .tasks ≡ arrivedAt m u .tasks)
-    go (inl e) = rw e (refl, refl)
+    go : After m u → InTick m u
+    go (inl e) = record { memory = rw e refl; tasks = rw e refl; runs = rw e refl }
     go (inr k) =
+        let over : over (stateAfter m u) ≡ true = sym (over-alike (k .1)) ∙ k .0 in
         let a = over-arrives (run u m) (k .0) in
-        let b = over-arrives (stateAfter m u) (sym (over-alike (k .1)) ∙ k .0) in
-        (a .memory ∙ k .1 .memory ∙ sym (b .memory), a .tasks ∙ k .1 .tasks ∙ sym (b .tasks))
+        let b = over-arrives (stateAfter m u) over in
+        record {
+          memory = a .memory ∙ k .1 .memory ∙ sym (b .memory);
+          tasks = a .tasks ∙ k .1 .tasks ∙ sym (b .tasks);
+          runs = over-enters (run u m) (k .0) ∙ sym (over-enters (stateAfter m u) over);
+        }

@@ -65,5 +65,5 @@ module _ (p q : ℕ) (ne : q ≢ p) where
   touched-stays (looks c r e) h = h
   touched-stays {m} (exchanges x i) h = outcome-stays (outcome p m x) h
 
-  pub status-stays : (m : Memory) (t : Task) → statusOf m q ≡ 1 → statusOf (statement p m t (t .phase) .memory) q ≡ 1
-  status-stays m t h = touched-stays (touches p m t (t .phase) refl) h
+  pub status-stays : (m : Memory) (t : Task) → statusOf m q ≡ 1 → statusOf (statement p m t (t .job .phase) .memory) q ≡ 1
+  status-stays m t h = touched-stays (touches p m t (t .job .phase) refl) h

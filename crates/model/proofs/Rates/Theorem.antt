@@ -5,9 +5,9 @@ use mathlib.Core.List.{List}
 use mathlib.Core.Option.{none, some}
 use Rattle.model.specs.Sheet.{Sheet, sheetOf, accepted, verdict}
 use Rattle.model.specs.Machine.{taskAt, Running, runningOf, run, startMachine}
-use Rattle.model.specs.Plain.{Arguments}
 use Rattle.model.specs.History.{Operation, operationAt, historyOf}
 use Rattle.model.specs.Rates.{runningIn, ownBefore, ownTicks, Committing, Starts, Ends, Rates}
+use Rattle.model.specs.Arguments.{Arguments}
 use Rattle.model.proofs.Fit.Sheet.{SheetFit}
 use Rattle.model.proofs.Fit.Accepted.{accepted-fit}
 use Rattle.model.proofs.Order.Steps.{stateAfter, arrivedAt, stopped}
@@ -21,13 +21,13 @@ use Rattle.model.proofs.Rates.Commit.{In, Ending, commit-rate, commit-f
 
 module _ {s : Sheet} (c : SheetFit s) where
   same-runs : (u : ℕ) → runningIn (startMachine s) u ≡ who c u
-  same-runs u = ap runningOf (in-tick (startMachine s) u .1)
+  same-runs u = in-tick (startMachine s) u .runs
 
   same-own : (p a n : ℕ) → ownBefore (runningIn (startMachine s)) p a n ≡ ownBefore (who c) p a n
   same-own p a n = ap (λ (w : ℕ → Running). ownBefore w p a n) (fun-ext same-runs)
 
   -- what the T line says
-  used : (limit p : ℕ) → taskAt (run limit (startMachine s) .tasks) p .ticks ≡ ownBefore (runningIn (startMachine s)) p 0 (run limit (startMachine s) .now)
+  used : (limit p : ℕ) → taskAt (run limit (startMachine s) .tasks) p .counts .ticks ≡ ownBefore (runningIn (startMachine s)) p 0 (run limit (startMachine s) .now)
   used limit p =
       let r = stopped limit (startMachine s) in
       rw (r .state, now-is (started c) (r .ticks), same-own p 0 (r .ticks)) (ticks-used c (r .ticks) p)
@@ -45,21 +45,21 @@ module _ {s : Sheet} (c : SheetFit s) where
       let k = rated c (r .ticks) in
       let stands = k .unended .stands a o (rw (r .history) at is) e in
       rw (r .state, now-is (started c) (r .ticks), same-own (o .task) a (r .ticks), ← stands .latest)
-      (timely-fewer _ (o .task) _ (taskAt (stateAfter (startMachine s) (r .ticks) .tasks) (o .task) .phase) (o .arguments) (stands .arguments) (k .timely (o .task)))
+      (timely-fewer _ (o .task) _ (taskAt (stateAfter (startMachine s) (r .ticks) .tasks) (o .task) .job .phase) (o .arguments) (stands .arguments) (k .timely (o .task)))
 
   -- the exchange of a COMMIT
   committing-in : {p u : ℕ} (d : Committing (startMachine s) p u) → In (arrivedAt (startMachine s) u) p (d .exchange)
-  committing-in {p} {u} d = record { transaction = d .transaction; phase = rw (in-tick (startMachine s) u .1) at (d .phase) }
+  committing-in {p} {u} d = record { transaction = d .transaction; phase = rw (in-tick (startMachine s) u .tasks) at (d .phase) }
 
   ending : {p u : ℕ} → Ends (startMachine s) p u → Ending p (arrivedAt (startMachine s) u)
-  ending {p} {u} k = record { runs = sym (same-runs u) ∙ k .does .runs; exchange = k .does .exchange; inside = committing-in (k .does); memory = k .memory; yes? = k .yes?; ends = rw (in-tick (startMachine s) u .0) at (k .ends) }
+  ending {p} {u} k = record { runs = sym (same-runs u) ∙ k .does .runs; exchange = k .does .exchange; inside = committing-in (k .does); memory = k .memory; yes? = k .yes?; ends = rw (in-tick (startMachine s) u .memory) at (k .ends) }
 
   ends-at : {p u : ℕ} → Ending p (arrivedAt (startMachine s) u) → Ends (startMachine s) p u
   ends-at {p} {u} k = record {
-    does = record { runs = same-runs u ∙ k .runs; transaction = k .inside .transaction; exchange = k .exchange; phase = rw (in-tick (startMachine s) u .1) (k .inside .phase) };
+    does = record { runs = same-runs u ∙ k .runs; transaction = k .inside .transaction; exchange = k .exchange; phase = rw (in-tick (startMachine s) u .tasks) (k .inside .phase) };
     memory = k .memory;
     yes? = k .yes?;
-    ends = rw (in-tick (startMachine s) u .0) (k .ends);
+    ends = rw (in-tick (startMachine s) u .memory) (k .ends);
   }
 
   module _ (p a k : ℕ) (first : Starts (startMachine s) p a k) where

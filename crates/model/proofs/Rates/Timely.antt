@@ -10,9 +10,9 @@ use Rattle.model.specs.Command.{Command, WORD, BLOCK, TASK, RELEASE, END
 use Rattle.model.specs.Word.{Memory, statusOf, Reading, Read, reads, gives, readTick}
 use Rattle.model.specs.Exchange.{Entry, Exchange, Exchanged, goes, ends, exchangeTick}
 use Rattle.model.specs.Job.{Phase, idle, plain, reading, exchanging, transacting, Task, rest, doneBy}
-use Rattle.model.specs.Machine.{readBy, swapBy, plainTick, statement}
-use Rattle.model.specs.Plain.{Arguments, readOf, swapOf, transactionOf}
-use Rattle.model.specs.History.{pairOf, Event, untilCommit}
+use Rattle.model.specs.Machine.{readBy, swapBy, plainTick, statement, pairOf}
+use Rattle.model.specs.History.{Event}
+use Rattle.model.specs.Arguments.{Arguments, readOf, swapOf, transactionOf, untilCommit}
 use Rattle.model.proofs.Lists.{impossible}
 use Rattle.model.proofs.Whole.Rates.{Reads, at-first, goes-on, reading-rate, reading-ends, Ran, before-start, own-tick, others, exchange-rate, exchange-ends}
 use Rattle.model.proofs.Order.Exchange.{pairsOf, Follows, follows}
@@ -81,7 +81,7 @@ pub record TimelyNext (g : Option Arguments) (t p : ℕ) (m : Memory) (f : Phase
   pub inside : Timely t p m f
   pub ended : given f ≡ none → RateBy g t
 
-done-timely : (l : List Command) (u : Task) (rs : List ℕ) (ps : List Entry) (cs : List ℕ) (t p : ℕ) (m : Memory) → Timely t p m (doneBy l u rs ps cs .phase)
+done-timely : (l : List Command) (u : Task) (rs : List ℕ) (ps : List Entry) (cs : List ℕ) (t p : ℕ) (m : Memory) → Timely t p m (doneBy l u rs ps cs .job .phase)
 unfolding doneBy
 done-timely [] u rs ps cs t p m = tt
 done-timely (c ∷ l) u rs ps cs t p m = tt
@@ -117,14 +117,14 @@ transaction-timely rs l t p m (transacting x s) e = tt
 
 module _ (p : ℕ) (m : Memory) (u : Task) (below : p < length (m .status)) where
   -- the first tick of an operation
-  plain-timely : u .phase ≡ plain → (l : List Command) → Timely 1 p (plainTick p m u l .memory) (plainTick p m u l .task .phase)
+  plain-timely : u .job .phase ≡ plain → (l : List Command) → Timely 1 p (plainTick p m u l .memory) (plainTick p m u l .task .job .phase)
   unfolding plainTick readTick readBy exchangeTick swapBy
   plain-timely e [] = rw e tt
-  plain-timely e (LOAD r v ∷ l) = done-timely (rest (u .commands)) u _ _ _ 1 p m
-  plain-timely e (ADD r q ∷ l) = done-timely (rest (u .commands)) u _ _ _ 1 p m
+  plain-timely e (LOAD r v ∷ l) = done-timely (rest (u .job .commands)) u _ _ _ 1 p m
+  plain-timely e (ADD r q ∷ l) = done-timely (rest (u .job .commands)) u _ _ _ 1 p m
   plain-timely e (READ r w ∷ l) = goes-on m at-first refl
-  plain-timely e (PAIR w o n ∷ l) = done-timely (rest (u .commands)) u _ _ _ 1 p m
-  plain-timely e (SWAP r ∷ l) = record { entries = u .pairs; pairs = refl; ran = own-tick (before-start m) below refl }
+  plain-timely e (PAIR w o n ∷ l) = done-timely (rest (u .job .commands)) u _ _ _ 1 p m
+  plain-timely e (SWAP r ∷ l) = record { entries = u .job .pairs; pairs = refl; ran = own-tick (before-start m) below refl }
   plain-timely e (BEGIN ∷ l) = tt
   plain-timely e (access a ∷ l) = rw e tt
   plain-timely e (COMMIT ∷ l) = rw e tt
@@ -135,33 +135,33 @@ module _ (p : ℕ) (m : Memory) (u : Task) (below : p < length (m .status)) wher
   plain-timely e (END ∷ l) = rw e tt
 
   module _ (t : ℕ) where
-    read-timely : (r w : ℕ) (s : Reading) (o : Read) → readTick m w s ≡ o → Reads w t s → TimelyNext (some (readOf w)) (suc t) p (readBy m u r w o .memory) (readBy m u r w o .task .phase)
+    read-timely : (r w : ℕ) (s : Reading) (o : Read) → readTick m w s ≡ o → Reads w t s → TimelyNext (some (readOf w)) (suc t) p (readBy m u r w o .memory) (readBy m u r w o .task .job .phase)
     unfolding readBy
     read-timely r w s (reads s′) e h = record { inside = goes-on m h e; ended = λ z. not-none z }
-    read-timely r w s (gives v) e h = record { inside = done-timely (rest (u .commands)) u _ _ _ (suc t) p m; ended = λ z. reading-rate h m v e }
+    read-timely r w s (gives v) e h = record { inside = done-timely (rest (u .job .commands)) u _ _ _ (suc t) p m; ended = λ z. reading-rate h m v e }
 
-    swap-timely : (r : ℕ) (x : Exchange) (o : Exchanged) → exchangeTick p m x (x .step) ≡ o → InExchange t p m x → TimelyNext (some (swapOf (pairsOf x))) (suc t) p (swapBy u r o .memory) (swapBy u r o .task .phase)
+    swap-timely : (r : ℕ) (x : Exchange) (o : Exchanged) → exchangeTick p m x (x .step) ≡ o → InExchange t p m x → TimelyNext (some (swapOf (pairsOf x))) (suc t) p (swapBy u r x o .memory) (swapBy u r x o .task .job .phase)
     unfolding swapBy
     swap-timely r x (goes m′ x′) e h =
         let k : Follows p m x (x .step) (goes m′ x′) = subst (λ (o : Exchanged). Follows p m x (x .step) o) e (follows p m x (x .step)) in
         record { inside = record { entries = h .entries; pairs = h .pairs ∙ sym (k .pairs); ran = own-tick (h .ran) below e }; ended = λ z. not-none z }
     swap-timely r x (ends m′ yes?) e h = record {
-      inside = done-timely (rest (u .commands)) u _ _ _ (suc t) p m′;
+      inside = done-timely (rest (u .job .commands)) u _ _ _ (suc t) p m′;
       ended = λ z. rw (← h .pairs, length-map (h .entries) pairOf) (exchange-rate (h .ran) below e);
     }
 
-    pub timely-next : (f : Phase) → u .phase ≡ f → Timely t p m f → Inside (given f) → TimelyNext (given f) (suc t) p (statement p m u f .memory) (statement p m u f .task .phase)
+    pub timely-next : (f : Phase) → u .job .phase ≡ f → Timely t p m f → Inside (given f) → TimelyNext (given f) (suc t) p (statement p m u f .memory) (statement p m u f .task .job .phase)
     unfolding statement
     timely-next idle e h i = absurd i
     timely-next plain e h i = absurd i
     timely-next (reading r w s) e h i = read-timely r w s (readTick m w s) refl h
     timely-next (exchanging r x) e h i = swap-timely r x (exchangeTick p m x (x .step)) refl h
-    timely-next (transacting x s) e h i = record { inside = transaction-timely (x .kept) (untilCommit (x .commands)) (suc t) p (statement p m u (transacting x s) .memory) (statement p m u (transacting x s) .task .phase) (moves-stay (moves 0 p m u (transacting x s) e)); ended = λ z. tt }
+    timely-next (transacting x s) e h i = record { inside = transaction-timely (x .kept) (untilCommit (x .commands)) (suc t) p (statement p m u (transacting x s) .memory) (statement p m u (transacting x s) .task .job .phase) (moves-stay (moves 0 p m u (transacting x s) e)); ended = λ z. tt }
 
-  pub timely-first : (f : Phase) → u .phase ≡ f → (Inside (given f) → ⊥) → Timely 1 p (statement p m u f .memory) (statement p m u f .task .phase)
+  pub timely-first : (f : Phase) → u .job .phase ≡ f → (Inside (given f) → ⊥) → Timely 1 p (statement p m u f .memory) (statement p m u f .task .job .phase)
   unfolding statement
   timely-first idle e n = rw e tt
-  timely-first plain e n = plain-timely e (u .commands)
+  timely-first plain e n = plain-timely e (u .job .commands)
   timely-first (reading r w s) e n = absurd (n tt)
   timely-first (exchanging r x) e n = absurd (n tt)
   timely-first (transacting x s) e n = absurd (n tt)

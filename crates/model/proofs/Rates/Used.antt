@@ -7,15 +7,14 @@ use lib.ListN.{length, replicate}
 use Rattle.model.specs.Lists.{at}
 use Rattle.model.specs.Command.{Command}
 use Rattle.model.specs.Sheet.{Sheet}
-use Rattle.model.specs.Job.{Task, ticked}
+use Rattle.model.specs.Job.{Task, counting, ticks}
 use Rattle.model.specs.Machine.{noTask, taskAt, Running, nobody, running, filled, tasksFrom, move, statement, startMachine}
 use Rattle.model.specs.Rates.{ownBefore}
 use Rattle.model.proofs.Lists.{same?, replace-same, replace-other}
 use Rattle.model.proofs.Fit.Sheet.{SheetFit}
 use Rattle.model.proofs.Fit.Statement.{statement-fit}
 use Rattle.model.proofs.Order.Steps.{stateAfter, arrivedAt, state-next}
-use Rattle.model.proofs.Fit.Running.{Highest, running-highest}
-use Rattle.model.proofs.Order.Arrive.{TaskArrived, waits, starts}
+use Rattle.model.proofs.Fit.Running.{Foremost, running-foremost}
 use Rattle.model.proofs.Order.Ticks.{arrived-at, arrived-linked}
 use Rattle.model.proofs.Order.Start.{started}
 use Rattle.model.proofs.Run.Always.{holds, holds-at, value-now}
@@ -24,29 +23,25 @@ use Rattle.model.proofs.Rates.Own.{other-task, own-runs, own-waits}
 use Rattle.model.proofs.Rates.Run.{who}
 
 -- none at first
-none-behind : (n p : ℕ) → taskAt (replicate n noTask) p .ticks ≡ 0
+none-behind : (n p : ℕ) → taskAt (replicate n noTask) p .counts .ticks ≡ 0
 unfolding at
 none-behind zero p = refl
 none-behind (suc n) zero = refl
 none-behind (suc n) (suc p) = none-behind n p
 
-none-at-first : (q : ℕ) (l : List (List Command)) (n p : ℕ) → taskAt (tasksFrom q l ++ replicate n noTask) p .ticks ≡ 0
+none-at-first : (q : ℕ) (l : List (List Command)) (n p : ℕ) → taskAt (tasksFrom q l ++ replicate n noTask) p .counts .ticks ≡ 0
 unfolding at tasksFrom
 none-at-first q [] n p = none-behind n p
 none-at-first q (b ∷ l) n zero = refl
 none-at-first q (b ∷ l) n (suc p) = none-at-first (suc q) l n p
 
-start-ticks : (s : Sheet) (p : ℕ) → taskAt (startMachine s .tasks) p .ticks ≡ 0
+start-ticks : (s : Sheet) (p : ℕ) → taskAt (startMachine s .tasks) p .counts .ticks ≡ 0
 unfolding startMachine filled
 start-ticks s p = none-at-first 0 (s .bodies) (8 - length (tasksFrom 0 (s .bodies))) p
 
-arrived-ticks : {t t′ : Task} → TaskArrived t t′ → t′ .ticks ≡ t .ticks
-arrived-ticks (waits e) = rw e refl
-arrived-ticks (starts i e) = rw e refl
-
 module _ {s : Sheet} (c : SheetFit s) where
   -- a statement uses one tick more
-  statement-ticks : (t p : ℕ) → Highest (arrivedAt (startMachine s) t .tasks) p → statement p (arrivedAt (startMachine s) t .memory) (taskAt (arrivedAt (startMachine s) t .tasks) p) (taskAt (arrivedAt (startMachine s) t .tasks) p .phase) .task .ticks ≡ taskAt (arrivedAt (startMachine s) t .tasks) p .ticks
+  statement-ticks : (t p : ℕ) → Foremost (arrivedAt (startMachine s) t) p → statement p (arrivedAt (startMachine s) t .memory) (taskAt (arrivedAt (startMachine s) t .tasks) p) (taskAt (arrivedAt (startMachine s) t .tasks) p .job .phase) .task .counts .ticks ≡ taskAt (arrivedAt (startMachine s) t .tasks) p .counts .ticks
   statement-ticks t p r =
       let k = holds-at c t (holds c t) in
       let l = arrived-linked (started c) t in
@@ -54,18 +49,18 @@ module _ {s : Sheet} (c : SheetFit s) where
       let f = k .fit .task p (declared-task c l k now p r) in
       statement-fit (c .blocks) (k .fit .memory) (taskAt (arrivedAt (startMachine s) t .tasks) p) (f .registers) (f .copies) p (ready c l k now p r .job) .ticks
 
-  next-ticks : (t p : ℕ) → taskAt (arrivedAt (startMachine s) t .tasks) p .ticks ≡ ownBefore (who c) p 0 t → (r : Running) → who c t ≡ r → taskAt (move (arrivedAt (startMachine s) t) r .tasks) p .ticks ≡ ownBefore (who c) p 0 (suc t)
+  next-ticks : (t p : ℕ) → taskAt (arrivedAt (startMachine s) t .tasks) p .counts .ticks ≡ ownBefore (who c) p 0 t → (r : Running) → who c t ≡ r → taskAt (move (arrivedAt (startMachine s) t) r .tasks) p .counts .ticks ≡ ownBefore (who c) p 0 (suc t)
   unfolding move
   next-ticks t p k nobody e = k ∙ sym (own-waits (who c) p 0 t (rw e refl))
   next-ticks t p k (running q) e =
       let m = arrivedAt (startMachine s) t in
-      let u = ticked (statement q (m .memory) (taskAt (m .tasks) q) (taskAt (m .tasks) q .phase) .task) in
-      let r = running-highest e in
+      let u = counting ticks (statement q (m .memory) (taskAt (m .tasks) q) (taskAt (m .tasks) q .job .phase) .task) in
+      let r = running-foremost e in
       same? p q
       (λ z. rw (z, replace-same noTask (m .tasks) q u (r .below)) (ap suc (statement-ticks t q r ∙ (rw z at k)) ∙ sym (own-runs (who c) q 0 t (omega arith) e)))
       (λ ne. rw (replace-other noTask (m .tasks) q p u ne) (k ∙ sym (own-waits (who c) p 0 t (other-task (who c t) ne e))))
 
-  pub ticks-used : (t p : ℕ) → taskAt (stateAfter (startMachine s) t .tasks) p .ticks ≡ ownBefore (who c) p 0 t
+  pub ticks-used : (t p : ℕ) → taskAt (stateAfter (startMachine s) t .tasks) p .counts .ticks ≡ ownBefore (who c) p 0 t
   unfolding stateAfter ownBefore
   ticks-used zero p = start-ticks s p
-  ticks-used (suc t) p = rw (state-next (startMachine s) t) (next-ticks t p (arrived-ticks (arrived-at (startMachine s) t .task p) ∙ ticks-used t p) (who c t) refl)
+  ticks-used (suc t) p = rw (state-next (startMachine s) t) (next-ticks t p (arrived-at (startMachine s) t .task p .ticks ∙ ticks-used t p) (who c t) refl)

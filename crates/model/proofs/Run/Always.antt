@@ -7,8 +7,7 @@ use lib.ListN.{length, replicate}
 use Rattle.model.specs.Lists.{at}
 use Rattle.model.specs.Command.{Block}
 use Rattle.model.specs.Sheet.{Sheet}
-use Rattle.model.specs.Word.{Word, Memory, cellOf, currentOf}
-use Rattle.model.specs.Word.{fresh as freshWord}
+use Rattle.model.specs.Word.{Word, Memory, cellOf, currentOf, freshWord}
 use Rattle.model.specs.Job.{idle}
 use Rattle.model.specs.Machine.{Machine, taskAt, Running, nobody, running, runningOf, move, filled, banksFrom, startMachine}
 use Rattle.model.specs.History.{History, noHistory, observed}
@@ -23,7 +22,7 @@ use Rattle.model.proofs.Whole.Preserve.{invariant-at-first}
 use Rattle.model.proofs.Whole.Ground.{past-at-first}
 use Rattle.model.proofs.Transactions.Start.{start-transactions}
 use Rattle.model.proofs.Order.Steps.{stateAfter, arrivedAt, historyAfter, state-next, history-next}
-use Rattle.model.proofs.Fit.Running.{running-highest}
+use Rattle.model.proofs.Fit.Running.{running-foremost}
 use Rattle.model.proofs.Order.Arrive.{none-runs}
 use Rattle.model.proofs.Order.Ticks.{arrived-at, arrived-now, arrived-linked}
 use Rattle.model.proofs.Order.Start.{started, firstStore, wordCells, bankCells, start-cells, start-memory}
@@ -32,7 +31,7 @@ use Rattle.model.proofs.Run.State.{Holds, invariant-again, holds-arrive
 use Rattle.model.proofs.Run.Latest.{latestOperation}
 
 -- AN IDLE TICK
-module _ {s : Sheet} {values : ℕ → ℕ → ℕ} {u : ℕ} {m : Machine} {h : History} (none : (p : ℕ) → taskAt (m .tasks) p .phase ≡ idle) (k : Holds s values u m h) where
+module _ {s : Sheet} {values : ℕ → ℕ → ℕ} {u : ℕ} {m : Machine} {h : History} (none : (p : ℕ) → taskAt (m .tasks) p .job .phase ≡ idle) (k : Holds s values u m h) where
   all-free : (p : ℕ) → actAt (actsOf (m .tasks)) p ≡ free
   all-free p = act-at (m .tasks) p ∙ rw (none p)
 
@@ -103,19 +102,19 @@ module _ {s : Sheet} (c : SheetFit s) where
         ap (λ (u : ℕ). valueAfter u a) (arrived-now (started c) t)
         ∙ ap (λ (n : Memory). currentOf n a) (sym (arrived-at (startMachine s) t .memory))
 
-    step : (r : Running) → runningOf (arrivedAt (startMachine s) t .tasks) ≡ r → Fit s (move (arrivedAt (startMachine s) t) r)
+    step : (r : Running) → runningOf (arrivedAt (startMachine s) t) ≡ r → Fit s (move (arrivedAt (startMachine s) t) r)
         → Holds s valueAfter (suc (arrivedAt (startMachine s) t .now)) (move (arrivedAt (startMachine s) t) r) (observed (arrivedAt (startMachine s) t) r (historyAfter (startMachine s) t))
-    step nobody e f = holds-idle (none-runs (arrivedAt (startMachine s) t .tasks) e) holds-at f
-    step (running p) e f = holds-runs c (arrived-linked (started c) t) holds-at value-now p (running-highest e) f
+    step nobody e f = holds-idle (none-runs (arrivedAt (startMachine s) t) e) holds-at f
+    step (running p) e f = holds-runs c (arrived-linked (started c) t) holds-at value-now p (running-foremost e) f
 
     holds-next : Holds s valueAfter (suc t) (stateAfter (startMachine s) (suc t)) (historyAfter (startMachine s) (suc t))
     holds-next =
         let n = arrivedAt (startMachine s) t in
-        let f : Fit s (move n (runningOf (n .tasks))) = subst (λ (z : Machine). Fit s z) (state-next (startMachine s) t) fit-next in
+        let f : Fit s (move n (runningOf n)) = subst (λ (z : Machine). Fit s z) (state-next (startMachine s) t) fit-next in
         subst (λ (z : Machine). Holds s valueAfter (suc t) z (historyAfter (startMachine s) (suc t))) (sym (state-next (startMachine s) t))
-        (subst (λ (z : History). Holds s valueAfter (suc t) (move n (runningOf (n .tasks))) z) (sym (history-next (startMachine s) t))
-        (subst (λ (u : ℕ). Holds s valueAfter (suc u) (move n (runningOf (n .tasks))) (observed n (runningOf (n .tasks)) (historyAfter (startMachine s) t))) (arrived-now (started c) t)
-        (step (runningOf (n .tasks)) refl f)))
+        (subst (λ (z : History). Holds s valueAfter (suc t) (move n (runningOf n)) z) (sym (history-next (startMachine s) t))
+        (subst (λ (u : ℕ). Holds s valueAfter (suc u) (move n (runningOf n)) (observed n (runningOf n) (historyAfter (startMachine s) t))) (arrived-now (started c) t)
+        (step (runningOf n) refl f)))
 
   pub holds : (t : ℕ) → Holds s valueAfter t (stateAfter (startMachine s) t) (historyAfter (startMachine s) t)
   unfolding stateAfter historyAfter

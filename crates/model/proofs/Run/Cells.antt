@@ -81,14 +81,14 @@ pub record Ready (words blocks : ℕ) (began : ℕ → ℕ) (m : Memory) (ts : L
   pub invariant : Invariant (below began) m (actsOf ts)
 
 module _ {words blocks : ℕ} {began : ℕ → ℕ} {m : Memory} {ts : List Task} {p : ℕ} (R : Ready words blocks began m ts p) where
-  pub job-as : (g : Phase) → taskAt ts p .phase ≡ g → PhaseFit words blocks (taskAt ts p .copies) (taskAt ts p .commands) (taskAt ts p .pairs) g
-  job-as g e = subst (λ (g : Phase). PhaseFit words blocks (taskAt ts p .copies) (taskAt ts p .commands) (taskAt ts p .pairs) g) e (R .job)
+  pub job-as : (g : Phase) → taskAt ts p .job .phase ≡ g → PhaseFit words blocks (taskAt ts p .copies) (taskAt ts p .job .commands) (taskAt ts p .job .pairs) g
+  job-as g e = subst (λ (g : Phase). PhaseFit words blocks (taskAt ts p .copies) (taskAt ts p .job .commands) (taskAt ts p .job .pairs) g) e (R .job)
 
   work : {x : Exchange} → ExchangeIn (taskAt ts p) x → Work x
   work (begins r l e k) =
-      let o : OutsideFit words blocks (SWAP r ∷ l) (taskAt ts p .pairs) = subst (λ (z : List Command). OutsideFit words blocks z (taskAt ts p .pairs)) k (job-as plain e .outside) in
-      record { low = 0; high = words; pairs = taskAt ts p .pairs; fit = exchange-start (some-pairs (taskAt ts p .pairs) (o .known .body) (o .waiting) (first-fits o .some)) (o .pairs); most = omega (arith, R .fewWords) }
-  work (goes-on r {x} e) = record { low = 0; high = words; pairs = taskAt ts p .pairs; fit = job-as (exchanging r x) e .exchange; most = omega (arith, R .fewWords) }
+      let o : OutsideFit words blocks (SWAP r ∷ l) (taskAt ts p .job .pairs) = subst (λ (z : List Command). OutsideFit words blocks z (taskAt ts p .job .pairs)) k (job-as plain e .outside) in
+      record { low = 0; high = words; pairs = taskAt ts p .job .pairs; fit = exchange-start (some-pairs (taskAt ts p .job .pairs) (o .known .body) (o .waiting) (first-fits o .some)) (o .pairs); most = omega (arith, R .fewWords) }
+  work (goes-on r {x} e) = record { low = 0; high = words; pairs = taskAt ts p .job .pairs; fit = job-as (exchanging r x) e .exchange; most = omega (arith, R .fewWords) }
   work (commits y {x} e) = record { low = 32; high = 32 + blocks; pairs = _; fit = job-as (transacting y (committing x)) e .inner .exchange; most = omega (arith, R .fewBlocks) }
 
   pub room : {x : Exchange} → ExchangeIn (taskAt ts p) x → Room m p (x .entries)
@@ -103,9 +103,9 @@ module _ {words blocks : ℕ} {began : ℕ → ℕ} {m : Memory} {ts : List Task
 
   -- THE SITUATION of a statement
   rank : (q : ℕ) → Rank (below began) (actsOf ts) p q
-  rank q = same? q p itself (λ ne. act-inside? (taskAt ts q .phase) (λ i. lower (R .last q ne i)) (λ e. idleRank (act-at ts q ∙ e)))
+  rank q = same? q p itself (λ ne. act-inside? (taskAt ts q .job .phase) (λ i. lower (R .last q ne i)) (λ e. idleRank (act-at ts q ∙ e)))
 
-  pub situation : {v : Act} → actIn (taskAt ts p .phase) ≡ v → Situation (below began) m (actsOf ts) p v
+  pub situation : {v : Act} → actIn (taskAt ts p .job .phase) ≡ v → Situation (below began) m (actsOf ts) p v
   situation e = record {
     order = by-beginning began;
     rank = rank;
@@ -173,13 +173,13 @@ module _ (of : ℕ → Type 0) (status : List ℕ) (saves : List (List ℕ)) (ac
 
 -- WHAT THE STATEMENT LEAVES
 module _ {words blocks : ℕ} {began : ℕ → ℕ} {m : Memory} {ts : List Task} {p : ℕ} (R : Ready words blocks began m ts p) where
-  pub invariant-after : {v v′ : Act} {n : Memory} → actIn (taskAt ts p .phase) ≡ v → Touches p m (taskAt ts p) v n v′ → Invariant (below began) n (replace (actsOf ts) p v′)
+  pub invariant-after : {v v′ : Act} {n : Memory} → actIn (taskAt ts p .job .phase) ≡ v → Touches p m (taskAt ts p) v n v′ → Invariant (below began) n (replace (actsOf ts) p v′)
   invariant-after e (nothing s) = rw (s .is) (stores-kept (s .stores) (free-kept (situation R e) tt))
   invariant-after e (loads c) = load-kept (situation R e) tt c
   invariant-after e (looks c k q) = rw q (reading-kept c k (situation R e))
   invariant-after e (exchanges x i) = exchange-kept x (situation R e) (room R i) (λ s. distinct R i)
 
-  frame-after : {v v′ : Act} {n : Memory} → actIn (taskAt ts p .phase) ≡ v → Touches p m (taskAt ts p) v n v′ → Frame p m n
+  frame-after : {v v′ : Act} {n : Memory} → actIn (taskAt ts p .job .phase) ≡ v → Touches p m (taskAt ts p) v n v′ → Frame p m n
   frame-after e (nothing s) = rw (s .is) (record { status = λ q ne. same refl; saves = λ q k ne. refl })
   frame-after e (loads c) = frame-none p m
   frame-after e (looks c k q) = frame-none p m
@@ -188,22 +188,22 @@ module _ {words blocks : ℕ} {began : ℕ → ℕ} {m : Memory} {ts : List Task
       (λ k. exchange-moved (situation R (e ∙ k)) (room R i) (outcome p m x) .frame)
 
   -- no exchange is at work, or only begins
-  quiet-cells : {n : Memory} {v : Act} → actIn (taskAt ts p .phase) ≡ v → ((x : Exchange) → v ≡ exchangingAct x → ⊥) → ((c : ℕ) → currentOf n c ≡ currentOf m c) → Cells p m (taskAt ts p .phase) n
+  quiet-cells : {n : Memory} {v : Act} → actIn (taskAt ts p .job .phase) ≡ v → ((x : Exchange) → v ≡ exchangingAct x → ⊥) → ((c : ℕ) → currentOf n c ≡ currentOf m c) → Cells p m (taskAt ts p .job .phase) n
   quiet-cells e ne h = sameCells (λ x y. ne x (sym e ∙ yes-act y)) h
 
-  exchange-is : {x : Exchange} → ExchangeIn (taskAt ts p) x → x .step ≡ commit → exchangeIn (taskAt ts p .phase) ≡ some x
+  exchange-is : {x : Exchange} → ExchangeIn (taskAt ts p) x → x .step ≡ commit → exchangeIn (taskAt ts p .job .phase) ≡ some x
   exchange-is (begins q l e k) c = impossible (cc)
   exchange-is (goes-on q e) c = rw e
   exchange-is (commits y e) c = rw e
 
-  exchange-cells : (x : Exchange) → ExchangeIn (taskAt ts p) x → actIn (taskAt ts p .phase) ≡ exchangingAct x → Cells p m (taskAt ts p .phase) (memoryAfter (exchangeTick p m x (x .step)))
+  exchange-cells : (x : Exchange) → ExchangeIn (taskAt ts p) x → actIn (taskAt ts p .job .phase) ≡ exchangingAct x → Cells p m (taskAt ts p .job .phase) (memoryAfter (exchangeTick p m x (x .step)))
   exchange-cells x i e = test? (saysYes p m (x .step))
       (λ t. let c = says-commit p m (x .step) t in
       swapped x (record { exchange = exchange-is i (c .0); step = c .0; status = c .1 }) (commit-all (situation R e) (c .0) (c .1))
       (rw (yes-memory p m x (x .step) t) (record { old = commit-old (situation R e) (c .0) (c .1); new = commit-new (situation R e) (c .0) (c .1); others = commit-others (situation R e) (c .0) (c .1) })))
       (λ n. sameCells (λ y Y. let z : x ≡ y = cc (e, yes-act Y) in says-not p m (x .step) n (rw z (Y .step)) (Y .status)) (current-kept (situation R e) (room R i) (outcome p m x) (says-not p m (x .step) n)))
 
-  cells-after : {v v′ : Act} {n : Memory} → actIn (taskAt ts p .phase) ≡ v → Touches p m (taskAt ts p) v n v′ → Cells p m (taskAt ts p .phase) n
+  cells-after : {v v′ : Act} {n : Memory} → actIn (taskAt ts p .job .phase) ≡ v → Touches p m (taskAt ts p) v n v′ → Cells p m (taskAt ts p .job .phase) n
   cells-after e (nothing s) = quiet-cells e (λ x k. impossible (cc)) (λ c. rw (s .is) refl)
   cells-after e (loads c) = quiet-cells e (λ x k. impossible (cc)) (λ c. refl)
   cells-after e (looks c k q) = quiet-cells e (λ x k. impossible (cc)) (λ c. refl)
@@ -212,13 +212,13 @@ module _ {words blocks : ℕ} {began : ℕ → ℕ} {m : Memory} {ts : List Task
       quiet-cells (e ∙ k) (λ y q. impossible (cc)) (λ c. rw (start-memory p m x (x .step) s) (start-current (situation R (e ∙ k)) tt c)))
       (λ k. exchange-cells x i (e ∙ k))
 
-  readings-after : {n : Memory} → Frame p m n → (q : ℕ) → q ≢ p → (w : Word) → loadedBy (readingIn (taskAt ts q .phase)) ≡ some w → SameContent m n w
+  readings-after : {n : Memory} → Frame p m n → (q : ℕ) → q ≢ p → (w : Word) → loadedBy (readingIn (taskAt ts q .job .phase)) ≡ some w → SameContent m n w
   readings-after {n} F q ne w e =
-      let l = R .last q ne (loaded-inside (taskAt ts q .phase) e) in
-      let k : Knows (λ z. below began z q) (m .status) (m .saves) (actsOf ts) q (actIn (taskAt ts q .phase)) = subst (λ (v : Act). Knows (λ z. below began z q) (m .status) (m .saves) (actsOf ts) q v) (act-at ts q) (R .invariant .knows q) in
-      let c = loaded-content (λ z. below began z q) (m .status) (m .saves) (actsOf ts) q (taskAt ts q .phase) w e k in
+      let l = R .last q ne (loaded-inside (taskAt ts q .job .phase) e) in
+      let k : Knows (λ z. below began z q) (m .status) (m .saves) (actsOf ts) q (actIn (taskAt ts q .job .phase)) = subst (λ (v : Act). Knows (λ z. below began z q) (m .status) (m .saves) (actsOf ts) q v) (act-at ts q) (R .invariant .knows q) in
+      let c = loaded-content (λ z. below began z q) (m .status) (m .saves) (actsOf ts) q (taskAt ts q .job .phase) w e k in
       let other : (z : ℕ) → below began z q → z ≢ p = λ z b d. let x : began p < began q = rw d at b in omega arith in
       record { value = current-frame F other (c .1); counts = own-frame F other (c .1) }
 
-  pub given-after : {v v′ : Act} {n : Memory} → actIn (taskAt ts p .phase) ≡ v → Touches p m (taskAt ts p) v n v′ → Given p m ts n
+  pub given-after : {v v′ : Act} {n : Memory} → actIn (taskAt ts p .job .phase) ≡ v → Touches p m (taskAt ts p) v n v′ → Given p m ts n
   given-after e t = record { cells = cells-after e t; readings = readings-after (frame-after e t) }

@@ -15,10 +15,11 @@ use Rattle.model.specs.Exchange.{Step, start, Exchange, Exchanged, goes,
 use Rattle.model.specs.Job.{Transaction, Inner, between, first, copying, again, committing, Phase, idle, plain, exchanging, transacting}
 use Rattle.model.specs.Job.{reading as readingPhase}
 use Rattle.model.specs.Transaction.{nothing?}
-use Rattle.model.specs.Machine.{Machine, taskAt, running}
-use Rattle.model.specs.Plain.{Contents, transactionOf, swapOf, result, plainly}
-use Rattle.model.specs.History.{Operation, History, operationAt, pairOf, untilCommit, observed}
+use Rattle.model.specs.Machine.{Machine, taskAt, running, pairOf}
+use Rattle.model.specs.Plain.{Contents, result, plainly}
+use Rattle.model.specs.History.{Operation, History, operationAt, observed}
 use Rattle.model.specs.Claim.{contentsOf}
+use Rattle.model.specs.Arguments.{transactionOf, swapOf, untilCommit}
 use Rattle.model.proofs.Lists.{impossible}
 use Rattle.model.proofs.Fit.Sheet.{SheetFit}
 use Rattle.model.proofs.Fit.Machine.{ExchangingFit}
@@ -27,7 +28,7 @@ use Rattle.model.proofs.Whole.Act.{started?}
 use Rattle.model.proofs.Whole.Act.{exchanging as exchangingAct}
 use Rattle.model.proofs.Whole.Ground.{differs, beaten, GroundsOf}
 use Rattle.model.proofs.Transactions.Given.{exchangeIn, SaysYes, Swapped, Cells, same, swapped}
-use Rattle.model.proofs.Transactions.Machine.{turnOf}
+use Rattle.model.proofs.Transactions.Machine.{statementOf}
 use Rattle.model.proofs.Transactions.Replay.{blocks-stay, contents-stay, commit-replays, nothing-replays}
 use Rattle.model.proofs.Order.Exchange.{saysYes, says-commit, says-not, pairsOf}
 use Rattle.model.proofs.Order.Moves.{given, innerCommitted, hasCommitted, readSettles, swapSettles, transactionSettles, commandSettles, innerSettles, settling}
@@ -35,7 +36,7 @@ use Rattle.model.proofs.Order.Noted.{latestOf}
 use Rattle.model.proofs.Order.Linked.{Open, OpenBy, Inside, givenTo}
 use Rattle.model.proofs.Order.Hit.{Hit}
 use Rattle.model.proofs.Order.Justified.{Found, Ground, differed, hit, Justified}
-use Rattle.model.proofs.Fit.Running.{Highest}
+use Rattle.model.proofs.Fit.Running.{Foremost}
 use Rattle.model.proofs.Order.Ticks.{MachineLinked, next-of}
 use Rattle.model.proofs.Run.Acts.{actIn, goes-on}
 use Rattle.model.proofs.Run.Cells.{job-as}
@@ -46,8 +47,8 @@ use Rattle.model.proofs.Run.Latest.{latestOperation}
 use Rattle.model.proofs.Run.State.{Holds, ready, running-task}
 
 -- `memories t` is the shared memory after t ticks
-module _ {s : Sheet} (c : SheetFit s) (memories : ℕ → Memory) {m : Machine} {h : History} (linked : MachineLinked m h) (k : Holds s (λ t a. currentOf (memories t) a) (m .now) m h) (p : ℕ) (r : Highest (m .tasks) p)
-    (before : memories (m .now) ≡ m .memory) (after : memories (suc (m .now)) ≡ turnOf p (m .memory) (m .tasks) .memory) where
+module _ {s : Sheet} (c : SheetFit s) (memories : ℕ → Memory) {m : Machine} {h : History} (linked : MachineLinked m h) (k : Holds s (λ t a. currentOf (memories t) a) (m .now) m h) (p : ℕ) (r : Foremost m p)
+    (before : memories (m .now) ≡ m .memory) (after : memories (suc (m .now)) ≡ statementOf p (m .memory) (m .tasks) .memory) where
   abbrev contents : ℕ → Contents
   contents t = contentsOf s (memories t)
 
@@ -55,14 +56,14 @@ module _ {s : Sheet} (c : SheetFit s) (memories : ℕ → Memory) {m : Machine} 
   now a = rw before
 
   -- no Commit says yes
-  stays : ((x : Exchange) → SaysYes p (m .memory) (taskAt (m .tasks) p .phase) x → ⊥) → contents (m .now) ≡ contents (suc (m .now))
+  stays : ((x : Exchange) → SaysYes p (m .memory) (taskAt (m .tasks) p .job .phase) x → ⊥) → contents (m .now) ≡ contents (suc (m .now))
   stays f = rw (before, after) (sym (contents-stay s (running-task c linked k now p r) f))
 
-  no-exchange : {f : Phase} → taskAt (m .tasks) p .phase ≡ f → exchangeIn f ≡ none → (x : Exchange) → SaysYes p (m .memory) (taskAt (m .tasks) p .phase) x → ⊥
+  no-exchange : {f : Phase} → taskAt (m .tasks) p .job .phase ≡ f → exchangeIn f ≡ none → (x : Exchange) → SaysYes p (m .memory) (taskAt (m .tasks) p .job .phase) x → ⊥
   no-exchange e z x y = impossible (cc (y .exchange, ap exchangeIn e))
 
   -- READ
-  module _ (q w : ℕ) (i : Reading) (e : taskAt (m .tasks) p .phase ≡ readingPhase q w i) where
+  module _ (q w : ℕ) (i : Reading) (e : taskAt (m .tasks) p .job .phase ≡ readingPhase q w i) where
     found : (v : ℕ) → readTick (m .memory) w i ≡ gives v → Found contents (latestOf h p) (m .now) w v
     found v z =
         let seen = read-seen (ready c linked k now p r) (linked .linked) (next-of linked p r) now (k .past .past) q w i v e z in
@@ -74,25 +75,25 @@ module _ {s : Sheet} (c : SheetFit s) (memories : ℕ → Memory) {m : Machine} 
     read-justified (gives v) z = record { still = stays (no-exchange e refl); found = found v z }
 
   -- SWAP
-  module _ (q : ℕ) (x : Exchange) (e : taskAt (m .tasks) p .phase ≡ exchanging q x) where
-    fit : ExchangingFit (length (s .words)) (length (s .blocks)) (taskAt (m .tasks) p .commands) (taskAt (m .tasks) p .pairs) q x
+  module _ (q : ℕ) (x : Exchange) (e : taskAt (m .tasks) p .job .phase ≡ exchanging q x) where
+    fit : ExchangingFit (length (s .words)) (length (s .blocks)) (taskAt (m .tasks) p .job .commands) (taskAt (m .tasks) p .job .pairs) q x
     fit = job-as (ready c linked k now p r) (exchanging q x) e
 
     swap-yes : saysYes p (m .memory) (x .step) ≡ true → plainly (swapOf (pairsOf x)) (contents (m .now)) ≡ result (contents (suc (m .now))) (1 ∷ [])
     swap-yes y = rw (before, after) (go (running-task c linked k now p r .given .cells))
       where
-        go : Cells p (m .memory) (taskAt (m .tasks) p .phase) (turnOf p (m .memory) (m .tasks) .memory) → plainly (swapOf (pairsOf x)) (contentsOf s (m .memory)) ≡ result (contentsOf s (turnOf p (m .memory) (m .tasks) .memory)) (1 ∷ [])
+        go : Cells p (m .memory) (taskAt (m .tasks) p .job .phase) (statementOf p (m .memory) (m .tasks) .memory) → plainly (swapOf (pairsOf x)) (contentsOf s (m .memory)) ≡ result (contentsOf s (statementOf p (m .memory) (m .tasks) .memory)) (1 ∷ [])
         go (same no-yes h) = let z = says-commit p (m .memory) (x .step) y in absurd (no-yes x (record { exchange = rw e; step = z .0; status = z .1 }))
         go (swapped z Y i X) =
             let w : z ≡ x = cc (Y .exchange, ap exchangeIn e) in
-            swap-replays s (x .entries) (subst (λ (b : Exchange). Swapped (m .memory) (turnOf p (m .memory) (m .tasks) .memory) (b .entries)) w X) (fit .exchange .entries .below) (fit .exchange .entries .different)
+            swap-replays s (x .entries) (subst (λ (b : Exchange). Swapped (m .memory) (statementOf p (m .memory) (m .tasks) .memory) (b .entries)) w X) (fit .exchange .entries .below) (fit .exchange .entries .different)
             (blocks-stay s (running-task c linked k now p r) (λ Z. impossible (cc (Z .phase))))
 
     not-yes : saysYes p (m .memory) (x .step) ≡ false → contents (m .now) ≡ contents (suc (m .now))
     not-yes y = stays (λ z Y. let w : z ≡ x = cc (Y .exchange, ap exchangeIn e) in says-not p (m .memory) (x .step) y (rw w at (Y .step)) (Y .status))
 
     -- the exchange has started, or it would not end
-    at-exchange : (o : Memory) → exchangeTick p (m .memory) x (x .step) ≡ ends o false → actIn (taskAt (m .tasks) p .phase) ≡ exchangingAct x
+    at-exchange : (o : Memory) → exchangeTick p (m .memory) x (x .step) ≡ ends o false → actIn (taskAt (m .tasks) p .job .phase) ≡ exchangingAct x
     unfolding exchangeTick
     at-exchange o z = rw e (started? x
         (λ st. let y : exchangeTick p (m .memory) x start ≡ ends o false = subst (λ (b : Step). exchangeTick p (m .memory) x b ≡ ends o false) st z in impossible (cc))
@@ -144,7 +145,7 @@ module _ {s : Sheet} (c : SheetFit s) (memories : ℕ → Memory) {m : Machine} 
     swap-justified false y (ends o false) z = record { still = not-yes y; ground = ground o z }
 
   -- TRANSACTIONS
-  module _ (x : Transaction) (i : Inner) (e : taskAt (m .tasks) p .phase ≡ transacting x i) where
+  module _ (x : Transaction) (i : Inner) (e : taskAt (m .tasks) p .job .phase ≡ transacting x i) where
     opened : Open h p (transactionOf (x .kept) (untilCommit (x .commands))) (innerCommitted i)
     opened = subst (λ (f : Phase). OpenBy h p (given f) (hasCommitted f)) e (linked .linked .opened p)
 
@@ -162,11 +163,11 @@ module _ {s : Sheet} (c : SheetFit s) (memories : ℕ → Memory) {m : Machine} 
     quiet b = not-committing (rw b)
 
     -- COMMIT, by: nothing was touched
-    nothing-justified : i ≡ between → (l : List Command) → taskAt (m .tasks) p .commands ≡ COMMIT ∷ l → (n : Bool) → nothing? (x .blocks) ≡ n → Justified contents (m .now) p h (transactionSettles n x)
+    nothing-justified : i ≡ between → (l : List Command) → taskAt (m .tasks) p .job .commands ≡ COMMIT ∷ l → (n : Bool) → nothing? (x .blocks) ≡ n → Justified contents (m .now) p h (transactionSettles n x)
     nothing-justified b l z true n = λ o is. rw (← quiet b, before) (replayed (nothing-replays s (running-task c linked k now p r) x l (e ∙ ap (transacting x) b) z n) o is)
     nothing-justified b l z false n = quiet b
 
-    command-justified : i ≡ between → (l : List Command) → taskAt (m .tasks) p .commands ≡ l → Justified contents (m .now) p h (commandSettles x l)
+    command-justified : i ≡ between → (l : List Command) → taskAt (m .tasks) p .job .commands ≡ l → Justified contents (m .now) p h (commandSettles x l)
     command-justified b [] z = quiet b
     command-justified b (COMMIT ∷ l) z = nothing-justified b l z (nothing? (x .blocks)) refl
     command-justified b (LOAD q v ∷ l) z = quiet b
@@ -186,14 +187,14 @@ module _ {s : Sheet} (c : SheetFit s) (memories : ℕ → Memory) {m : Machine} 
     commit-justified y z true b = λ o is. rw (before, after) (replayed (commit-replays s (running-task c linked k now p r) (record { transaction = x; exchange = y; phase = e ∙ ap (transacting x) z; step = says-commit p (m .memory) (y .step) b .0; status = says-commit p (m .memory) (y .step) b .1 })) o is)
     commit-justified y z false b = stays (λ w Y. let u : w ≡ y = cc (Y .exchange, ap exchangeIn (e ∙ ap (transacting x) z)) in says-not p (m .memory) (y .step) b (rw u at (Y .step)) (Y .status))
 
-  inner-justified : (x : Transaction) (i : Inner) → taskAt (m .tasks) p .phase ≡ transacting x i → Justified contents (m .now) p h (innerSettles p (m .memory) (taskAt (m .tasks) p .commands) x i)
-  inner-justified x between e = command-justified x between e refl (taskAt (m .tasks) p .commands) refl
+  inner-justified : (x : Transaction) (i : Inner) → taskAt (m .tasks) p .job .phase ≡ transacting x i → Justified contents (m .now) p h (innerSettles p (m .memory) (taskAt (m .tasks) p .job .commands) x i)
+  inner-justified x between e = command-justified x between e refl (taskAt (m .tasks) p .job .commands) refl
   inner-justified x (first a j) e = not-committing x (first a j) e refl
   inner-justified x (copying a j) e = not-committing x (copying a j) e refl
   inner-justified x (again a v j) e = not-committing x (again a v j) e refl
   inner-justified x (committing y) e = commit-justified x (committing y) e y refl (saysYes p (m .memory) (y .step)) refl
 
-  phase-justified : (f : Phase) → taskAt (m .tasks) p .phase ≡ f → Justified contents (m .now) p h (settling p (m .memory) (taskAt (m .tasks) p .commands) f)
+  phase-justified : (f : Phase) → taskAt (m .tasks) p .job .phase ≡ f → Justified contents (m .now) p h (settling p (m .memory) (taskAt (m .tasks) p .job .commands) f)
   unfolding settling
   phase-justified idle e = stays (no-exchange e refl)
   phase-justified plain e = stays (no-exchange e refl)
@@ -202,5 +203,5 @@ module _ {s : Sheet} (c : SheetFit s) (memories : ℕ → Memory) {m : Machine} 
   phase-justified (transacting x i) e = inner-justified x i e
 
   -- THE STATEMENT of the task that runs
-  pub justified : Justified contents (m .now) p h (settling p (m .memory) (taskAt (m .tasks) p .commands) (taskAt (m .tasks) p .phase))
-  justified = phase-justified (taskAt (m .tasks) p .phase) refl
+  pub justified : Justified contents (m .now) p h (settling p (m .memory) (taskAt (m .tasks) p .job .commands) (taskAt (m .tasks) p .job .phase))
+  justified = phase-justified (taskAt (m .tasks) p .job .phase) refl

@@ -4,8 +4,8 @@ use mathlib.Core.Bool.{Bool}
 use mathlib.Core.Path.{_≡_}
 use mathlib.Core.Option.{Option, none, some}
 use lib.ListN.{length}
-use Rattle.model.specs.Plain.{Arguments, readOf}
 use Rattle.model.specs.History.{Operation, History, operationAt, Event, nothing, begins, amends, noted}
+use Rattle.model.specs.Arguments.{Arguments, readOf}
 use Rattle.model.proofs.Transactions.Pass.{operationAfter}
 use Rattle.model.proofs.Order.Moves.{Settling, Moves, outside, begun, goesOn, answers, readEnds, swapCommits, swapEnds, swapCommitsAndEnds, swapRejected, transactionCommits, transactionEnds, transactionCommitsAndEnds, nothingTouched, endsSpent}
 use Rattle.model.proofs.Order.Noted.{latestOf, newOperation, noted-nothing, latest-nothing, noted-begins, latest-begins, noted-amends, latest-amends}

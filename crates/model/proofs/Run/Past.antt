@@ -13,10 +13,10 @@ use Rattle.model.specs.Exchange.{Entry, Exchange}
 use Rattle.model.specs.Job.{between, first, copying, again, committing, Phase, idle, plain, exchanging, transacting, Task}
 use Rattle.model.specs.Job.{reading as readingPhase}
 use Rattle.model.specs.Transaction.{bank, blockOf}
-use Rattle.model.specs.Machine.{taskAt}
-use Rattle.model.specs.Plain.{Arguments, swapOf}
-use Rattle.model.specs.History.{History, pairOf}
+use Rattle.model.specs.Machine.{taskAt, pairOf}
+use Rattle.model.specs.History.{History}
 use Rattle.model.specs.Claim.{Among}
+use Rattle.model.specs.Arguments.{Arguments, swapOf}
 use Rattle.model.proofs.Lists.{same?, impossible}
 use Rattle.model.proofs.Fit.Exchange.{entryOf, SamePairs}
 use Rattle.model.proofs.Whole.Act.{free, actAt, actOf, started?}
@@ -54,7 +54,7 @@ inner-inside (exchanging r x) ne = tt
 inner-inside (transacting x s) ne = tt
 
 pub acts-inside : (ts : List Task) (r : ℕ) → actAt (actsOf ts) r ≢ free → Inside (givenTo ts r)
-acts-inside ts r ne = inner-inside (taskAt ts r .phase) (λ e. ne (act-at ts r ∙ e))
+acts-inside ts r ne = inner-inside (taskAt ts r .job .phase) (λ e. ne (act-at ts r ∙ e))
 
 busy-inside : (ts : List Task) (r : ℕ) → Busy (actsOf ts) r → Inside (givenTo ts r)
 busy-inside ts r b = acts-inside ts r (λ e. impossible (cc (b .act)))
@@ -75,7 +75,7 @@ read-not c (fetching w) e = impossible (cc)
 act-is : {x : Exchange} (y : Exchange) → actOf y ≡ exchangingAct x → y ≡ x
 act-is y e = started? y (λ s. let k : actOf y ≡ free = rw s in impossible (cc)) (λ k. cc)
 
-pub at-work : (t : Task) (f : Phase) {x : Exchange} → t .phase ≡ f → actIn f ≡ exchangingAct x → ExchangeIn t x
+pub at-work : (t : Task) (f : Phase) {x : Exchange} → t .job .phase ≡ f → actIn f ≡ exchangingAct x → ExchangeIn t x
 at-work t idle k e = impossible (cc)
 at-work t plain k e = impossible (cc)
 at-work t (readingPhase r w s) k e = read-not w s e
@@ -114,7 +114,7 @@ module _ {u p words blocks : ℕ} {m : Memory} {ts : List Task} {h h′ : Histor
       go (inr e) = omega arith
 
   -- an exchange of words hits the operations that began before it on the words that it changes; an exchange of bank words counts as a hit
-  own-hit : {x : Exchange} {ps : List Entry} → ExchangeIn (taskAt ts p) x → actIn (taskAt ts p .phase) ≡ exchangingAct x → SamePairs (x .entries) ps → (r e : ℕ) → Inside (givenTo ts r) → latestOf h r < latestOf h p → e < length ps → entryOf ps e .old ≢ entryOf ps e .new → HitOn h′ r (entryOf ps e .cell)
+  own-hit : {x : Exchange} {ps : List Entry} → ExchangeIn (taskAt ts p) x → actIn (taskAt ts p .job .phase) ≡ exchangingAct x → SamePairs (x .entries) ps → (r e : ℕ) → Inside (givenTo ts r) → latestOf h r < latestOf h p → e < length ps → entryOf ps e .old ≢ entryOf ps e .new → HitOn h′ r (entryOf ps e .cell)
   own-hit {x} {ps} (begins q k e₀ c) a s r e i lt le ne = impossible (cc (rw e₀ at a))
   own-hit {x} {ps} (goes-on q k) a s r e i lt le ne =
       let o : Open h p (swapOf (pairsOf x)) _ = rw k at (l .opened p) in
@@ -129,14 +129,14 @@ module _ {u p words blocks : ℕ} {m : Memory} {ts : List Task} {h h′ : Histor
       inl (omega (arith, w .inner .exchange .entries .from e in-x, s .cell e))
 
   -- the exchange that task p is in has the pairs that are known of it
-  pub passes : {values : ℕ → ℕ → ℕ} {pairs pairs′ : ℕ → List Entry} → ((x : Exchange) → actIn (taskAt ts p .phase) ≡ exchangingAct x → SamePairs (x .entries) (pairs p)) → ((r : ℕ) → Busy (actsOf ts) r → pairs′ r ≡ pairs r)
+  pub passes : {values : ℕ → ℕ → ℕ} {pairs pairs′ : ℕ → List Entry} → ((x : Exchange) → actIn (taskAt ts p .job .phase) ≡ exchangingAct x → SamePairs (x .entries) (pairs p)) → ((r : ℕ) → Busy (actsOf ts) r → pairs′ r ≡ pairs r)
       → Passes (below (beganIn u ts h)) (actsOf ts) p (knowledge values u h pairs) (knowledge values (suc u) h′ pairs′)
   passes {values} {pairs} {pairs′} same-pairs keep = record {
     seen = λ r c v ne k. record { tick = k .tick; from = rw (latest-stays r (acts-inside ts r ne)) (k .from); before = omega (arith, k .before); value = k .value };
     hit = λ r c b k. hit-on r c (latest-stays r (busy-inside ts r b)) k;
     pairs = keep;
     down = λ r c b bp lt k. down r c b bp lt k;
-    mine = λ r e b bp lt le ne. let a = sym (act-at ts p) ∙ bp .act in own-hit (at-work (taskAt ts p) (taskAt ts p .phase) refl a) a (same-pairs (bp .exchange) a) r e (busy-inside ts r b) (later r b bp lt) le ne;
+    mine = λ r e b bp lt le ne. let a = sym (act-at ts p) ∙ bp .act in own-hit (at-work (taskAt ts p) (taskAt ts p .job .phase) refl a) a (same-pairs (bp .exchange) a) r e (busy-inside ts r b) (later r b bp lt) le ne;
   }
     where
       later : (r : ℕ) → Busy (actsOf ts) r → Busy (actsOf ts) p → below (beganIn u ts h) r p → latestOf h r < latestOf h p

@@ -4,15 +4,15 @@ use mathlib.Core.Path.{_≡_, refl, sym, _∙_, ap}
 use mathlib.Core.Logic.{_≢_, _⊎_, inl, inr}
 use mathlib.Core.List.{List}
 use mathlib.Core.Option.{Option, none, some}
-use Rattle.model.specs.Plain.{Arguments}
 use native.Mathlib.Omega.{arith}
 use lib.ListN.{length, length-map}
 use Rattle.model.specs.Lists.{replace}
 use Rattle.model.specs.Sheet.{Sheet}
 use Rattle.model.specs.Word.{Memory, currentOf}
-use Rattle.model.specs.Job.{Task, ticked}
+use Rattle.model.specs.Job.{Task, counting, ticks}
 use Rattle.model.specs.Machine.{Machine, noTask, taskAt, unfinished, running, move}
 use Rattle.model.specs.History.{Operation, History, observed}
+use Rattle.model.specs.Arguments.{Arguments}
 use Rattle.model.proofs.Lists.{same?, replace-same, replace-other, map-replace}
 use Rattle.model.proofs.Fit.Sheet.{SheetFit}
 use Rattle.model.proofs.Fit.Machine.{Fit}
@@ -24,10 +24,10 @@ use Rattle.model.proofs.Whole.Reorder.{invariant-reordered, past-reorde
 use Rattle.model.proofs.Transactions.Facts.{slotsOf, TaskFacts, Transactions}
 use Rattle.model.proofs.Transactions.Owners.{owners-stay}
 use Rattle.model.proofs.Transactions.Contents.{ext-at}
-use Rattle.model.proofs.Transactions.Machine.{turnOf, Later, statement-keeps}
+use Rattle.model.proofs.Transactions.Machine.{statementOf, Later, statement-keeps}
 use Rattle.model.proofs.Transactions.Machine.{Running as RunningTask}
-use Rattle.model.proofs.Fit.Running.{Highest}
-use Rattle.model.proofs.Order.Arrive.{TaskArrived, waits, starts, Arrived}
+use Rattle.model.proofs.Fit.Running.{Foremost}
+use Rattle.model.proofs.Order.Arrive.{JobArrived, TaskArrived, waits, starts, Arrived}
 use Rattle.model.proofs.Order.Statement.{moves}
 use Rattle.model.proofs.Order.Moves.{given}
 use Rattle.model.proofs.Order.Noted.{latestOf}
@@ -48,8 +48,11 @@ pub record Holds (s : Sheet) (values : ℕ → ℕ → ℕ) (u : ℕ) (m : Machi
 
 -- RELEASES ARRIVE
 arrived-act : {t t′ : Task} → TaskArrived t t′ → taskAct t′ ≡ taskAct t
-arrived-act (waits e) = rw e
-arrived-act (starts i e) = rw (e, i)
+arrived-act {t} {t′} a = go (a .job)
+  where
+    go : JobArrived t (t′ .job) → taskAct t′ ≡ taskAct t
+    go (waits e) = rw e
+    go (starts i e) = rw (e, i)
 
 arrived-acts : {m m′ : Machine} → Arrived m m′ → actsOf (m′ .tasks) ≡ actsOf (m .tasks)
 arrived-acts {m} {m′} a =
@@ -57,12 +60,18 @@ arrived-acts {m} {m′} a =
     (λ p l. act-at (m′ .tasks) p ∙ arrived-act (a .task p) ∙ sym (act-at (m .tasks) p))
 
 arrived-slots : {t t′ : Task} → TaskArrived t t′ → slotsOf t′ ≡ slotsOf t
-arrived-slots (waits e) = rw e
-arrived-slots (starts i e) = rw (e, i)
+arrived-slots {t} {t′} a = go (a .job)
+  where
+    go : JobArrived t (t′ .job) → slotsOf t′ ≡ slotsOf t
+    go (waits e) = rw (e, a .copies)
+    go (starts i e) = rw (e, i, a .copies)
 
 arrived-facts : (blocks : ℕ) (n : Memory) {t t′ : Task} (o : Operation) → TaskArrived t t′ → TaskFacts blocks n t o → TaskFacts blocks n t′ o
-arrived-facts blocks n o (waits e) k = rw e k
-arrived-facts blocks n o (starts i e) k = rw e tt
+arrived-facts blocks n {t} {t′} o a k = go (a .job)
+  where
+    go : JobArrived t (t′ .job) → TaskFacts blocks n t′ o
+    go (waits e) = rw (e, a .copies) k
+    go (starts i e) = rw e tt
 
 arrived-transactions : {blocks tasks : ℕ} {m m′ : Machine} {operations : ℕ → Operation} → Arrived m m′ → Transactions blocks tasks (m .memory) (m .tasks) operations → Transactions blocks tasks (m′ .memory) (m′ .tasks) operations
 arrived-transactions {blocks} {m = m} {operations = operations} a t = rw (a .memory) (record { owners = owners-stay (λ b. refl) (λ p. arrived-slots (a .task p)) (t .owners); task = λ p l. arrived-facts blocks (m .memory) (operations p) (a .task p) (t .task p l) })
@@ -86,7 +95,7 @@ holds-arrived {u = u} {m} {m′} {h} f a k = record {
 }
 
 -- TASK p RUNS
-module _ {s : Sheet} (c : SheetFit s) {values : ℕ → ℕ → ℕ} {m : Machine} {h : History} (linked : MachineLinked m h) (k : Holds s values (m .now) m h) (now : (a : ℕ) → values (m .now) a ≡ currentOf (m .memory) a) (p : ℕ) (r : Highest (m .tasks) p) where
+module _ {s : Sheet} (c : SheetFit s) {values : ℕ → ℕ → ℕ} {m : Machine} {h : History} (linked : MachineLinked m h) (k : Holds s values (m .now) m h) (now : (a : ℕ) → values (m .now) a ≡ currentOf (m .memory) a) (p : ℕ) (r : Foremost m p) where
   pub declared-task : p < length (s .bodies)
   declared-task = declared c (tasks-of (k .fit)) p (r .unfinished)
 
@@ -96,7 +105,7 @@ module _ {s : Sheet} (c : SheetFit s) {values : ℕ → ℕ → ℕ} {m : Machin
     where
       go : (g : Option Arguments) → givenTo (m .tasks) p ≡ g → latestOf h q < beganIn (m .now) (m .tasks) h p
       go none e = rw e (latest-below (linked .linked) q i)
-      go (some a) e = rw e (last-begun r (linked .linked) (turnOf p (m .memory) (m .tasks) .task) (next-of linked p r) q ne i (rw e tt))
+      go (some a) e = rw e (last-begun r (linked .linked) (statementOf p (m .memory) (m .tasks) .task) (next-of linked p r) q ne i (rw e tt))
 
   pub ready : Ready (length (s .words)) (length (s .blocks)) (beganIn (m .now) (m .tasks) h) (m .memory) (m .tasks) p
   ready = record { fewWords = c .words; fewBlocks = c .blocks; memory = k .fit .memory; size = k .fit .tasks; there = r .below; last = last; job = k .fit .task p declared-task .phase; invariant = k .invariant }
@@ -111,42 +120,42 @@ module _ {s : Sheet} (c : SheetFit s) {values : ℕ → ℕ → ℕ} {m : Machin
     copies = k .fit .task p declared-task .copies;
     fit = λ q l. k .fit .task q l .phase;
     fitAfter = statement-fit (c .blocks) (k .fit .memory) (taskAt (m .tasks) p) (k .fit .task p declared-task .registers) (k .fit .task p declared-task .copies) p (ready .job) .phase;
-    given = given-after ready refl (touches p (m .memory) (taskAt (m .tasks) p) (taskAt (m .tasks) p .phase) refl);
+    given = given-after ready refl (touches p (m .memory) (taskAt (m .tasks) p) (taskAt (m .tasks) p .job .phase) refl);
     invariant = k .transactions;
   }
 
   later : Later p (m .now) (m .memory) (m .tasks) (latestOperation h) (latestOperation (observed m (running p) h))
   unfolding observed
   later = record {
-    mine = λ x i e. latest-after (m .now) p h (linked .linked .size) (omega (arith, linked .linked .latest, linked .size, r .below)) (moves (m .now) p (m .memory) (taskAt (m .tasks) p) (taskAt (m .tasks) p .phase) refl) (linked .linked .opened p);
-    others = λ q ne x i e. ap operationOr (other-operation r (linked .linked) (turnOf p (m .memory) (m .tasks) .task) (next-of linked p r) q ne (rw e tt));
+    mine = λ x i e. latest-after (m .now) p h (linked .linked .size) (omega (arith, linked .linked .latest, linked .size, r .below)) (moves (m .now) p (m .memory) (taskAt (m .tasks) p) (taskAt (m .tasks) p .job .phase) refl) (linked .linked .opened p);
+    others = λ q ne x i e. ap operationOr (other-operation r (linked .linked) (statementOf p (m .memory) (m .tasks) .task) (next-of linked p r) q ne (rw e tt));
   }
 
-  acts-after : actsOf (replace (m .tasks) p (ticked (turnOf p (m .memory) (m .tasks) .task))) ≡ replace (actsOf (m .tasks)) p (taskAct (turnOf p (m .memory) (m .tasks) .task))
-  acts-after = map-replace taskAct (m .tasks) p (ticked (turnOf p (m .memory) (m .tasks) .task))
+  acts-after : actsOf (replace (m .tasks) p (counting ticks (statementOf p (m .memory) (m .tasks) .task))) ≡ replace (actsOf (m .tasks)) p (taskAct (statementOf p (m .memory) (m .tasks) .task))
+  acts-after = map-replace taskAct (m .tasks) p (counting ticks (statementOf p (m .memory) (m .tasks) .task))
 
   abbrev tasks-after : List Task
-  tasks-after = replace (m .tasks) p (ticked (turnOf p (m .memory) (m .tasks) .task))
+  tasks-after = replace (m .tasks) p (counting ticks (statementOf p (m .memory) (m .tasks) .task))
 
   -- a task at work after the statement began when it had begun, or begins now
   began-after : (q : ℕ) → Inside (givenTo tasks-after q) → beganIn (suc (m .now)) tasks-after (observed m (running p) h) q ≡ beganIn (m .now) (m .tasks) h q
-  began-after q i = began-inside (suc (m .now)) tasks-after (observed m (running p) h) q i ∙ same? q p (λ e. rw e (own (rw (e, here) at i))) (λ ne. next-of linked p r .other q ne ∙ sym (began-inside (m .now) (m .tasks) h q (rw (ap (λ (t : Task). given (t .phase)) (replace-other noTask (m .tasks) p q (ticked (turnOf p (m .memory) (m .tasks) .task)) ne)) at i)))
+  began-after q i = began-inside (suc (m .now)) tasks-after (observed m (running p) h) q i ∙ same? q p (λ e. rw e (own (rw (e, here) at i))) (λ ne. next-of linked p r .other q ne ∙ sym (began-inside (m .now) (m .tasks) h q (rw (ap (λ (t : Task). given (t .job .phase)) (replace-other noTask (m .tasks) p q (counting ticks (statementOf p (m .memory) (m .tasks) .task)) ne)) at i)))
     where
-      here : givenTo tasks-after p ≡ given (turnOf p (m .memory) (m .tasks) .task .phase)
-      here = rw (replace-same noTask (m .tasks) p (ticked (turnOf p (m .memory) (m .tasks) .task)) (r .below)) refl
+      here : givenTo tasks-after p ≡ given (statementOf p (m .memory) (m .tasks) .task .job .phase)
+      here = rw (replace-same noTask (m .tasks) p (counting ticks (statementOf p (m .memory) (m .tasks) .task)) (r .below)) refl
 
       was : (g : Option Arguments) → givenTo (m .tasks) p ≡ g → (Inside g → latestOf (observed m (running p) h) p ≡ latestOf h p) → Inside g ⊎ (latestOf (observed m (running p) h) p ≡ m .now) → latestOf (observed m (running p) h) p ≡ beganIn (m .now) (m .tasks) h p
       was none e f (inl j) = absurd j
       was none e f (inr z) = rw e z
       was (some a) e f j = rw e (f tt)
 
-      own : Inside (given (turnOf p (m .memory) (m .tasks) .task .phase)) → latestOf (observed m (running p) h) p ≡ beganIn (m .now) (m .tasks) h p
+      own : Inside (given (statementOf p (m .memory) (m .tasks) .task .job .phase)) → latestOf (observed m (running p) h) p ≡ beganIn (m .now) (m .tasks) h p
       own j = was (givenTo (m .tasks) p) refl (next-of linked p r .stays) (next-of linked p r .since j)
 
   pub holds-runs : Fit s (move m (running p)) → Holds s values (suc (m .now)) (move m (running p)) (observed m (running p) h)
   unfolding move
   holds-runs f =
-      let t = touches p (m .memory) (taskAt (m .tasks) p) (taskAt (m .tasks) p .phase) refl in
+      let t = touches p (m .memory) (taskAt (m .tasks) p) (taskAt (m .tasks) p .job .phase) refl in
       record {
         fit = f;
         invariant = invariant-again (actsOf tasks-after) (λ q b. began-after q (acts-inside tasks-after q b)) (rw acts-after (invariant-after ready refl t));

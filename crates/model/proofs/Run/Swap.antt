@@ -11,9 +11,10 @@ use Rattle.model.specs.Lists.{at, replace}
 use Rattle.model.specs.Sheet.{Sheet}
 use Rattle.model.specs.Word.{Memory, currentOf}
 use Rattle.model.specs.Exchange.{Entry}
-use Rattle.model.specs.Plain.{Contents, Pair, swapOf, result, allOld, allNew, swapBy, plainly}
-use Rattle.model.specs.History.{pairOf}
+use Rattle.model.specs.Plain.{Contents, result, allOld, allNew, plainly, plainSwapBy}
 use Rattle.model.specs.Claim.{contentsOf}
+use Rattle.model.specs.Arguments.{Pair, swapOf}
+use Rattle.model.specs.Machine.{pairOf}
 use Rattle.model.proofs.Lists.{same?, replace-same, replace-other, length-replace}
 use Rattle.model.proofs.Fit.Exchange.{entryOf}
 use Rattle.model.proofs.Whole.Act.{Distinct}
@@ -86,7 +87,7 @@ pub word-at : (s : Sheet) (m : Memory) (c : ℕ) → c < length (s .words) → a
 word-at s m c l = at-each 0 (length (s .words)) 0 (currentOf m) c l ∙ ap (currentOf m) (omega arith)
 
 plain-swap : (ps : List Pair) (c : Contents) → allOld (c .words) ps ≡ true → plainly (swapOf ps) c ≡ result (record { words = allNew (c .words) ps; blocks = c .blocks }) (1 ∷ [])
-unfolding plainly swapBy
+unfolding plainly plainSwapBy
 plain-swap ps c e = rw e refl
 
 module _ (s : Sheet) {m n : Memory} (es : List Entry) (x : Swapped m n es) (below : (e : ℕ) → e < length es → entryOf es e .cell < length (s .words)) (d : Distinct es) where

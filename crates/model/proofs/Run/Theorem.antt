@@ -8,9 +8,9 @@ use Rattle.model.specs.Machine.{Machine, Running, running, runningOf, mo
 use Rattle.model.specs.Claim.{WholeOperations}
 use Rattle.model.proofs.Fit.Sheet.{SheetFit}
 use Rattle.model.proofs.Fit.Accepted.{accepted-fit}
-use Rattle.model.proofs.Transactions.Machine.{turnOf}
+use Rattle.model.proofs.Transactions.Machine.{statementOf}
 use Rattle.model.proofs.Order.Steps.{stateAfter, arrivedAt, historyAfter, state-next}
-use Rattle.model.proofs.Fit.Running.{running-highest}
+use Rattle.model.proofs.Fit.Running.{running-foremost}
 use Rattle.model.proofs.Order.Ticks.{arrived-at, arrived-now, arrived-linked}
 use Rattle.model.proofs.Order.Start.{started}
 use Rattle.model.proofs.Order.Justified.{Justified}
@@ -18,7 +18,7 @@ use Rattle.model.proofs.Order.Theorem.{contentsAfter, settledBy, Justif
 use Rattle.model.proofs.Run.Always.{holds, holds-at}
 use Rattle.model.proofs.Run.Justify.{justified}
 
-move-memory : (m : Machine) (p : ℕ) → move m (running p) .memory ≡ turnOf p (m .memory) (m .tasks) .memory
+move-memory : (m : Machine) (p : ℕ) → move m (running p) .memory ≡ statementOf p (m .memory) (m .tasks) .memory
 unfolding move
 move-memory m p = refl
 
@@ -30,7 +30,7 @@ module _ {s : Sheet} (c : SheetFit s) where
   memory-before : (t : ℕ) → memories (arrivedAt (startMachine s) t .now) ≡ arrivedAt (startMachine s) t .memory
   memory-before t = ap memories (arrived-now (started c) t) ∙ sym (arrived-at (startMachine s) t .memory)
 
-  memory-after : (t p : ℕ) → runningOf (arrivedAt (startMachine s) t .tasks) ≡ running p → memories (suc (arrivedAt (startMachine s) t .now)) ≡ turnOf p (arrivedAt (startMachine s) t .memory) (arrivedAt (startMachine s) t .tasks) .memory
+  memory-after : (t p : ℕ) → runningOf (arrivedAt (startMachine s) t) ≡ running p → memories (suc (arrivedAt (startMachine s) t .now)) ≡ statementOf p (arrivedAt (startMachine s) t .memory) (arrivedAt (startMachine s) t .tasks) .memory
   memory-after t p e =
       ap (λ (u : ℕ). memories (suc u)) (arrived-now (started c) t)
       ∙ ap (λ (m : Machine). m .memory) (state-next (startMachine s) t)
@@ -41,7 +41,7 @@ module _ {s : Sheet} (c : SheetFit s) where
   justified-run = record {
     justified = λ t p e.
         subst (λ (u : ℕ). Justified (contentsAfter s (startMachine s)) u p (historyAfter (startMachine s) t) (settledBy (arrivedAt (startMachine s) t) p)) (arrived-now (started c) t)
-        (justified c memories (arrived-linked (started c) t) (holds-at c t (holds c t)) p (running-highest e) (memory-before t) (memory-after t p e));
+        (justified c memories (arrived-linked (started c) t) (holds-at c t (holds c t)) p (running-foremost e) (memory-before t) (memory-after t p e));
   }
 
 -- DEMAND 3

@@ -13,9 +13,9 @@ use Rattle.model.specs.Word.{Memory, currentOf}
 use Rattle.model.specs.Exchange.{Entry}
 use Rattle.model.specs.Job.{Touched, untouched, remembered, copied, Transaction, Inner}
 use Rattle.model.specs.Transaction.{bank, versionOf, storeOf, rememberedOf, touchedOf, gather}
-use Rattle.model.specs.Plain.{Contents, Pass, noBlock, passed, passOf, commitBlocks, commits, transactionOf, result, plainly}
-use Rattle.model.specs.History.{untilCommit}
+use Rattle.model.specs.Plain.{Contents, Pass, noBlock, passed, passOf, commitBlocks, commits, result, plainly}
 use Rattle.model.specs.Claim.{blockIn, contentsOf}
+use Rattle.model.specs.Arguments.{transactionOf, untilCommit}
 use Rattle.model.proofs.Lists.{impossible}
 use Rattle.model.proofs.Fit.Exchange.{entryOf, SamePairs}
 use Rattle.model.proofs.Fit.Transaction.{touched?, copied?}

@@ -10,16 +10,15 @@ use lib.Dec.{eqb}
 use lib.ListN.{length}
 use Rattle.model.specs.Lists.{at}
 use Rattle.model.specs.Word.{Memory, statusOf, currentOf}
-use Rattle.model.specs.Exchange.{Step, start, test, load, look, fetch, fail, mark, install, commit, save, clean, cleanMark, Exchange, Exchanged, ends}
-use Rattle.model.specs.Job.{Transaction, committing, transacting, Task, Turn, turn, rest}
-use Rattle.model.specs.Transaction.{bank, stays, takenBack, committed, transactionTick}
-use Rattle.model.specs.Plain.{transactionOf}
-use Rattle.model.specs.History.{Operation, untilCommit, stepEvent, committingEvent, transactionEvent}
-use Rattle.model.specs.History.{committed as committedOperation, commitBy as commitEventBy}
+use Rattle.model.specs.Exchange.{Step, start, test, load, look, fetch, fail, mark, install, commit, save, clean, cleanMark, Exchange, Exchanged, ends, saidYes, commitSaidYes}
+use Rattle.model.specs.Job.{Transaction, committing, transacting, Task, Turn, turn, rest, Deed}
+use Rattle.model.specs.Transaction.{bank, stays, takenBack, transactionTick, committingBy, committedIf}
+use Rattle.model.specs.History.{Operation, eventOf}
+use Rattle.model.specs.Arguments.{transactionOf, untilCommit}
 use Rattle.model.proofs.Lists.{impossible}
 use Rattle.model.proofs.Fit.Transaction.{TransactionFit}
 use Rattle.model.proofs.Whole.Outcome.{outcome}
-use Rattle.model.proofs.Order.Exchange.{saidYes, saysYes, says-not}
+use Rattle.model.proofs.Order.Exchange.{saysYes, says-not}
 use Rattle.model.proofs.Transactions.Facts.{bankIn, unchanged, slotsOf, PassFacts, TransactionFacts, TaskFacts}
 use Rattle.model.proofs.Transactions.Given.{Swapped, Cells, same, swapped}
 use Rattle.model.proofs.Transactions.Frame.{Apart, Blocks, blocks-fit, pass-apart}
@@ -34,15 +33,15 @@ use Rattle.model.proofs.Transactions.Exchange.{Seen, goes-on, says-yes,
 pub record TransactionYes (p : ℕ) (m : Memory) (t : Task) : Type 0 where
   pub transaction : Transaction
   pub exchange : Exchange
-  pub phase : t .phase ≡ transacting transaction (committing exchange)
+  pub phase : t .job .phase ≡ transacting transaction (committing exchange)
   pub step : exchange .step ≡ commit
   pub status : statusOf m p ≡ 0
 
 -- what is known there: the pass has no command left, o is its operation, and n is the memory that the statement leaves
 pub record CommitsNow (blocks p : ℕ) (m : Memory) (t : Task) (o : Operation) (n : Memory) (y : TransactionYes p m t) : Type 0 where
   pub arguments : o .arguments ≡ transactionOf (y .transaction .kept) (untilCommit (y .transaction .commands))
-  pub pass : PassFacts blocks m (t .copies) (t .registers) (t .commands) (y .transaction) (committing (y .exchange)) (o .answers)
-  pub left : untilCommit (t .commands) ≡ []
+  pub pass : PassFacts blocks m (t .copies) (t .job .registers) (t .job .commands) (y .transaction) (committing (y .exchange)) (o .answers)
+  pub left : untilCommit (t .job .commands) ≡ []
   pub blocksFit : Blocks blocks (y .transaction .used) (y .transaction .blocks)
   pub cells : Committed m n (t .copies) (y .transaction .blocks)
 
@@ -62,38 +61,24 @@ pub record SameOperation (o o′ : Operation) : Type 0 where
   pub arguments : o′ .arguments ≡ o .arguments
   pub answers : o′ .answers ≡ o .answers
 
-unfoldable pub step-operation : (p : ℕ) (m : Memory) (s : Step) (o : Operation) → SameOperation o (operationAfter p (stepEvent p m s committedOperation) o)
-unfolding stepEvent commitEventBy
-step-operation p m commit o = go (eqb (statusOf m p) 0)
-  where
-    go : (z : Bool) → SameOperation o (operationAfter p (commitEventBy z committedOperation) o)
-    go true = record { arguments = refl; answers = refl }
-    go false = record { arguments = refl; answers = refl }
-step-operation p m start o = record { arguments = refl; answers = refl }
-step-operation p m test o = record { arguments = refl; answers = refl }
-step-operation p m load o = record { arguments = refl; answers = refl }
-step-operation p m look o = record { arguments = refl; answers = refl }
-step-operation p m fetch o = record { arguments = refl; answers = refl }
-step-operation p m fail o = record { arguments = refl; answers = refl }
-step-operation p m mark o = record { arguments = refl; answers = refl }
-step-operation p m install o = record { arguments = refl; answers = refl }
-step-operation p m (save v) o = record { arguments = refl; answers = refl }
-step-operation p m (clean j yes?) o = record { arguments = refl; answers = refl }
-step-operation p m (cleanMark j yes?) o = record { arguments = refl; answers = refl }
+step-operation : (p now : ℕ) (yes? : Bool) (o : Operation) → SameOperation o (operationAfter p (eventOf now (committedIf yes?)) o)
+unfolding eventOf
+step-operation p now true o = record { arguments = refl; answers = refl }
+step-operation p now false o = record { arguments = refl; answers = refl }
 
 -- no cell changes unless the Commit says yes
 calm : {p : ℕ} {m n : Memory} {x : Transaction} {e : Exchange} → saysYes p m (e .step) ≡ false → Cells p m (transacting x (committing e)) n → (c : ℕ) → currentOf n c ≡ currentOf m c
 calm ny (same f h) = h
 calm {p} {m} {e = e} ny (swapped y Y i S) = let z : e ≡ y = cc (Y .exchange) in absurd (says-not p m (e .step) ny (rw (← z) at (Y .step)) (Y .status))
 
-module _ {words blocks p : ℕ} {m : Memory} {t : Task} {x : Transaction} {e : Exchange} {o : Operation} (phase : t .phase ≡ transacting x (committing e))
-    (fit : TransactionFit words blocks (t .copies) (t .commands) (t .pairs) x (committing e)) (T : TransactionFacts blocks m (t .copies) (t .registers) (t .commands) x (committing e) o) where
+module _ {words blocks p : ℕ} {m : Memory} {t : Task} {x : Transaction} {e : Exchange} {o : Operation} (phase : t .job .phase ≡ transacting x (committing e))
+    (fit : TransactionFit words blocks (t .copies) (t .job .commands) (t .job .pairs) x (committing e)) (T : TransactionFacts blocks m (t .copies) (t .job .registers) (t .job .commands) x (committing e) o) where
   not-now : saysYes p m (e .step) ≡ false → TransactionYes p m t → ⊥
   not-now ny Y = let z : e ≡ Y .exchange = cc (phase, Y .phase) in says-not p m (e .step) ny (rw (← z) at (Y .step)) (Y .status)
 
-  goes-stated : {n : Memory} (y : Exchange) {o′ : Operation} → saidYes (y .step) ≡ saidYes (e .step) → saysYes p m (e .step) ≡ false → ((c : ℕ) → currentOf n c ≡ currentOf m c) → n .stores ≡ m .stores → SameOperation o o′
-      → Stated blocks p m t o (turn n (stays t x (committing y))) o′
-  goes-stated {n} y ey ny h st E =
+  goes-stated : {n : Memory} {d : Deed} (y : Exchange) {o′ : Operation} → saidYes (y .step) ≡ saidYes (e .step) → saysYes p m (e .step) ≡ false → ((c : ℕ) → currentOf n c ≡ currentOf m c) → n .stores ≡ m .stores → SameOperation o o′
+      → Stated blocks p m t o (turn n (stays t x (committing y)) d) o′
+  goes-stated {n} {d} y ey ny h st E =
       record {
         facts = record {
           arguments = E .arguments ∙ T .arguments;
@@ -106,11 +91,11 @@ module _ {words blocks p : ℕ} {m : Memory} {t : Task} {x : Transaction} {e : E
       A : Apart blocks 4 m n (t .copies)
       A = record { banks = λ b. unchanged (h (bank b)); blockStores = λ b l. rw st; slotStores = λ k l. rw st }
 
-  yes-stated : {n : Memory} (y : Exchange) {o′ : Operation} → saidYes (y .step) ≡ true → e .step ≡ commit → statusOf m p ≡ 0 → Cells p m (transacting x (committing e)) n → n .stores ≡ m .stores → SameOperation o o′
-      → Stated blocks p m t o (turn n (stays t x (committing y))) o′
+  yes-stated : {n : Memory} {d : Deed} (y : Exchange) {o′ : Operation} → saidYes (y .step) ≡ true → e .step ≡ commit → statusOf m p ≡ 0 → Cells p m (transacting x (committing e)) n → n .stores ≡ m .stores → SameOperation o o′
+      → Stated blocks p m t o (turn n (stays t x (committing y)) d) o′
   unfolding untilCommit
   yes-stated y ey ec es (same f h) st E = absurd (f e (record { exchange = refl; step = ec; status = es }))
-  yes-stated {n} y ey ec es (swapped z Y i S) st E =
+  yes-stated {n} {d} y ey ec es (swapped z Y i S) st E =
       let ez : e ≡ z = cc (Y .exchange) in
       let S′ : Swapped m n (e .entries) = subst (λ (w : Exchange). Swapped m n (w .entries)) (sym ez) S in
       let F = fit .inner in
@@ -131,13 +116,13 @@ module _ {words blocks p : ℕ} {m : Memory} {t : Task} {x : Transaction} {e : E
       }
 
   -- the last tick, by the answer
-  last-stated : (n : Memory) (now : ℕ) (yes? : Bool) → yes? ≡ saidYes (e .step) → saysYes p m (e .step) ≡ false → Cells p m (transacting x (committing e)) (committed t x (ends n yes?) .memory) → n .stores ≡ m .stores
-      → Stated blocks p m t o (committed t x (ends n yes?)) (operationAfter p (committingEvent now p m e (ends n yes?)) o)
-  unfolding committed committingEvent
+  last-stated : (n : Memory) (now : ℕ) (yes? : Bool) → yes? ≡ saidYes (e .step) → saysYes p m (e .step) ≡ false → Cells p m (transacting x (committing e)) (committingBy t x e (ends n yes?) .memory) → n .stores ≡ m .stores
+      → Stated blocks p m t o (committingBy t x e (ends n yes?)) (operationAfter p (eventOf now (committingBy t x e (ends n yes?) .did)) o)
+  unfolding committingBy eventOf
   last-stated n now true ey ny c st =
       record {
-        facts = done-facts blocks n (rest (t .commands)) t (t .registers) [] (takenBack (t .copies) (x .blocks)) _;
-        effect = quiet (not-now ny) (λ b. calm ny c (bank b)) (done-slots (rest (t .commands)) t (t .registers) [] (takenBack (t .copies) (x .blocks)) ∙ rw (phase, ← ey));
+        facts = done-facts blocks n (rest (t .job .commands)) t (t .job .registers) [] (takenBack (t .copies) (x .blocks)) _;
+        effect = quiet (not-now ny) (λ b. calm ny c (bank b)) (done-slots (rest (t .job .commands)) t (t .job .registers) [] (takenBack (t .copies) (x .blocks)) ∙ rw (phase, ← ey));
         stores = λ i ne. rw st;
       }
   last-stated n now false ey ny c st =
@@ -147,10 +132,10 @@ module _ {words blocks p : ℕ} {m : Memory} {t : Task} {x : Transaction} {e : E
         stores = λ i ne. rw st;
       }
 
-  seen-stated : (now : ℕ) {out : Exchanged} → Seen p m e out → Cells p m (transacting x (committing e)) (committed t x out .memory) → Stated blocks p m t o (committed t x out) (operationAfter p (committingEvent now p m e out) o)
-  unfolding committed committingEvent
-  seen-stated now (goes-on {y = y} ey ny st) c = goes-stated y ey ny (calm ny c) st (step-operation p m (e .step) o)
-  seen-stated now (says-yes {y = y} ey ec es) c = yes-stated y ey ec es c refl (step-operation p m (e .step) o)
+  seen-stated : (now : ℕ) {out : Exchanged} → Seen p m e out → Cells p m (transacting x (committing e)) (committingBy t x e out .memory) → Stated blocks p m t o (committingBy t x e out) (operationAfter p (eventOf now (committingBy t x e out .did)) o)
+  unfolding committingBy eventOf
+  seen-stated now (goes-on {y = y} ey ny st) c = goes-stated y ey ny (calm ny c) st (step-operation p now (commitSaidYes e y) o)
+  seen-stated now (says-yes {y = y} ey ec es) c = yes-stated y ey ec es c refl (step-operation p now (commitSaidYes e y) o)
   seen-stated now (says-yes-last ec es i) c = absurd (never c)
     where
       never : {n : Memory} → Cells p m (transacting x (committing e)) n → ⊥
@@ -159,6 +144,6 @@ module _ {words blocks p : ℕ} {m : Memory} {t : Task} {x : Transaction} {e : E
   seen-stated now (over {n} {yes?} ey ny st) c = last-stated n now yes? ey ny c st
 
   pub committing-stated : (now : ℕ) → Cells p m (transacting x (committing e)) (transactionTick p m t x (committing e) .memory)
-      → Stated blocks p m t o (transactionTick p m t x (committing e)) (operationAfter p (transactionEvent now p m t x (committing e)) o)
-  unfolding transactionTick transactionEvent
+      → Stated blocks p m t o (transactionTick p m t x (committing e)) (operationAfter p (eventOf now (transactionTick p m t x (committing e) .did)) o)
+  unfolding transactionTick
   committing-stated now c = seen-stated now (seen p m e (outcome p m e)) c

@@ -11,8 +11,9 @@ use Rattle.model.specs.Word.{Memory, stored, own, current, currentOf, Re
 use Rattle.model.specs.Job.{Touched, untouched, remembered, copied, Transaction, Inner, between, first, copying, again, committing, Phase, idle, plain, reading, exchanging, transacting, Task}
 use Rattle.model.specs.Transaction.{bank, versionOf, storeOf, blockOf, rememberedOf, touchedOf, takenBack}
 use Rattle.model.specs.Machine.{taskAt}
-use Rattle.model.specs.Plain.{Pass, noBlock, passed, passOf, transactionOf}
-use Rattle.model.specs.History.{Operation, untilCommit}
+use Rattle.model.specs.Plain.{Pass, noBlock, passed, passOf}
+use Rattle.model.specs.History.{Operation}
+use Rattle.model.specs.Arguments.{transactionOf, untilCommit}
 use Rattle.model.proofs.Fit.Transaction.{touched?}
 use Rattle.model.proofs.Order.Moves.{innerCommitted}
 
@@ -45,7 +46,7 @@ slotsIn copies (exchanging r x) = copies
 slotsIn copies (transacting x s) = slotsBy (innerCommitted s) copies (x .blocks)
 
 abbrev pub slotsOf : Task → List ℕ
-slotsOf t = slotsIn (t .copies) (t .phase)
+slotsOf t = slotsIn (t .copies) (t .job .phase)
 
 -- who owns a block store: a block, or a task by one of its copy slots
 pub data Owner : Type 0 where
@@ -152,11 +153,11 @@ PhaseFacts blocks m copies registers l o (exchanging r x) = Unit {0}
 PhaseFacts blocks m copies registers l o (transacting x s) = TransactionFacts blocks m copies registers l x s o
 
 abbrev pub TaskFacts : ℕ → Memory → Task → Operation → Type 0
-TaskFacts blocks m t o = PhaseFacts blocks m (t .copies) (t .registers) (t .commands) o (t .phase)
+TaskFacts blocks m t o = PhaseFacts blocks m (t .copies) (t .job .registers) (t .job .commands) o (t .job .phase)
 
 -- what is said of a task in a transaction
-pub transaction-facts : (blocks : ℕ) (m : Memory) (t : Task) (o : Operation) {x : Transaction} {s : Inner} → t .phase ≡ transacting x s → TaskFacts blocks m t o → TransactionFacts blocks m (t .copies) (t .registers) (t .commands) x s o
-transaction-facts blocks m t o e F = subst (λ (f : Phase). PhaseFacts blocks m (t .copies) (t .registers) (t .commands) o f) e F
+pub transaction-facts : (blocks : ℕ) (m : Memory) (t : Task) (o : Operation) {x : Transaction} {s : Inner} → t .job .phase ≡ transacting x s → TaskFacts blocks m t o → TransactionFacts blocks m (t .copies) (t .job .registers) (t .job .commands) x s o
+transaction-facts blocks m t o e F = subst (λ (f : Phase). PhaseFacts blocks m (t .copies) (t .job .registers) (t .job .commands) o f) e F
 
 -- of a sheet with that many blocks and tasks
 pub record Transactions (blocks tasks : ℕ) (m : Memory) (ts : List Task) (operations : ℕ → Operation) : Type 0 where

@@ -68,5 +68,5 @@ readingIn (exchanging r x) = loading
 readingIn (transacting x s) = innerReading s
 
 pub record Given (p : ℕ) (m : Memory) (ts : List Task) (n : Memory) : Type 0 where
-  pub cells : Cells p m (taskAt ts p .phase) n
-  pub readings : (q : ℕ) → q ≢ p → (w : Word) → loadedBy (readingIn (taskAt ts q .phase)) ≡ some w → SameContent m n w
+  pub cells : Cells p m (taskAt ts p .job .phase) n
+  pub readings : (q : ℕ) → q ≢ p → (w : Word) → loadedBy (readingIn (taskAt ts q .job .phase)) ≡ some w → SameContent m n w

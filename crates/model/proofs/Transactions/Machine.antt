@@ -8,7 +8,7 @@ use native.Mathlib.Omega.{arith}
 use lib.ListN.{length}
 use Rattle.model.specs.Lists.{at, replace}
 use Rattle.model.specs.Word.{Memory}
-use Rattle.model.specs.Job.{copied, Transaction, Inner, Phase, idle, plain, reading, exchanging, transacting, Task, Turn, ticked}
+use Rattle.model.specs.Job.{copied, Transaction, Inner, Phase, idle, plain, reading, exchanging, transacting, Task, Turn, counting, ticks}
 use Rattle.model.specs.Transaction.{storeOf, touchedOf}
 use Rattle.model.specs.Machine.{taskAt, noTask, statement}
 use Rattle.model.specs.History.{Operation, eventOf}
@@ -24,8 +24,8 @@ use Rattle.model.proofs.Transactions.Pass.{operationAfter}
 use Rattle.model.proofs.Transactions.Committing.{TransactionYes, CommitsNow, Effect, quiet, commits, Stated}
 use Rattle.model.proofs.Transactions.Statement.{JobFit, transaction-fit, phase-stated}
 
-abbrev pub turnOf : ℕ → Memory → List Task → Turn
-turnOf p m ts = statement p m (taskAt ts p) (taskAt ts p .phase)
+abbrev pub statementOf : ℕ → Memory → List Task → Turn
+statementOf p m ts = statement p m (taskAt ts p) (taskAt ts p .job .phase)
 
 -- WHAT THE OTHER LAYERS SAY of a tick in which task p runs, in a sheet with that many words, blocks and tasks
 pub record Running (words blocks tasks p : ℕ) (m : Memory) (ts : List Task) (operations : ℕ → Operation) : Type 0 where
@@ -36,17 +36,17 @@ pub record Running (words blocks tasks p : ℕ) (m : Memory) (ts : List Task) (o
   pub memory : MemoryFit m
   pub copies : length (taskAt ts p .copies) ≡ 4
   pub fit : (q : ℕ) → q < tasks → JobFit words blocks (taskAt ts q)
-  pub fitAfter : JobFit words blocks (turnOf p m ts .task)
-  pub given : Given p m ts (turnOf p m ts .memory)
+  pub fitAfter : JobFit words blocks (statementOf p m ts .task)
+  pub given : Given p m ts (statementOf p m ts .memory)
   pub invariant : Transactions blocks tasks m ts operations
 
 -- the latest operations after a statement of task p in tick `now`, of the tasks that are in a transaction then
 pub record Later (p now : ℕ) (m : Memory) (ts : List Task) (operations later : ℕ → Operation) : Type 0 where
-  pub mine : (x : Transaction) (s : Inner) → turnOf p m ts .task .phase ≡ transacting x s → later p ≡ operationAfter p (eventOf now p m (taskAt ts p) (taskAt ts p .phase)) (operations p)
-  pub others : (q : ℕ) → q ≢ p → (x : Transaction) (s : Inner) → taskAt ts q .phase ≡ transacting x s → later q ≡ operations q
+  pub mine : (x : Transaction) (s : Inner) → statementOf p m ts .task .job .phase ≡ transacting x s → later p ≡ operationAfter p (eventOf now (statementOf p m ts .did)) (operations p)
+  pub others : (q : ℕ) → q ≢ p → (x : Transaction) (s : Inner) → taskAt ts q .job .phase ≡ transacting x s → later q ≡ operations q
 
 -- facts of a task go by its latest operation only in a transaction
-of-transactions : (blocks : ℕ) (m : Memory) (t : Task) (f : Phase) {o o′ : Operation} → t .phase ≡ f → ((x : Transaction) (s : Inner) → t .phase ≡ transacting x s → o′ ≡ o) → TaskFacts blocks m t o → TaskFacts blocks m t o′
+of-transactions : (blocks : ℕ) (m : Memory) (t : Task) (f : Phase) {o o′ : Operation} → t .job .phase ≡ f → ((x : Transaction) (s : Inner) → t .job .phase ≡ transacting x s → o′ ≡ o) → TaskFacts blocks m t o → TaskFacts blocks m t o′
 of-transactions blocks m t idle e g F = rw e tt
 of-transactions blocks m t plain e g F = rw e tt
 of-transactions blocks m t (reading r w s) e g F = rw e tt
@@ -59,7 +59,7 @@ pub small : {blocks tasks p : ℕ} {m n : Memory} {slots : ℕ → List ℕ} {t 
 small {p = p} lt D C e b v k u = let h = rw e at (D .below (slot p k) (lt, omega (arith, C .blocksFit .slot b v k u, C .blocksFit .most))) in omega arith
 
 module _ {words blocks tasks p : ℕ} {m : Memory} {ts : List Task} {operations : ℕ → Operation} (R : Running words blocks tasks p m ts operations) (now : ℕ) where
-  pub stated : Stated blocks p m (taskAt ts p) (operations p) (turnOf p m ts) (operationAfter p (eventOf now p m (taskAt ts p) (taskAt ts p .phase)) (operations p))
+  pub stated : Stated blocks p m (taskAt ts p) (operations p) (statementOf p m ts) (operationAfter p (eventOf now (statementOf p m ts .did)) (operations p))
   stated =
       phase-stated
       (record {
@@ -70,37 +70,37 @@ module _ {words blocks tasks p : ℕ} {m : Memory} {ts : List Task} {operations 
         facts = R .invariant .task p (R .declared);
         apart = λ e. slots-apart p (taskAt ts p .copies) (R .declared) e (R .invariant .owners);
       })
-      now (taskAt ts p .phase) refl (R .fitAfter) (R .given .cells)
+      now (taskAt ts p .job .phase) refl (R .fitAfter) (R .given .cells)
 
   -- V: a bank word keeps its current value, or its version rises by one
-  pub bank-changes : (b : ℕ) → Change (bankIn m b) (bankIn (turnOf p m ts .memory) b)
+  pub bank-changes : (b : ℕ) → Change (bankIn m b) (bankIn (statementOf p m ts .memory) b)
   bank-changes b = go (stated .effect)
     where
-      go : Effect blocks p m (taskAt ts p) (operations p) (turnOf p m ts .memory) (turnOf p m ts .task) → Change (bankIn m b) (bankIn (turnOf p m ts .memory) b)
+      go : Effect blocks p m (taskAt ts p) (operations p) (statementOf p m ts .memory) (statementOf p m ts .task) → Change (bankIn m b) (bankIn (statementOf p m ts .memory) b)
       go (quiet y h e) = unchanged (h b)
       go (commits y C e f) = committed-change (C .cells) (small (R .declared) (R .invariant .owners) C e) b
 
   -- it rises only where a transaction commits that has PUT the block
-  pub bank-stays : (b : ℕ) → ((y : TransactionYes p m (taskAt ts p)) → copied? (touchedOf (y .transaction) b) ≡ true → ⊥) → bankIn (turnOf p m ts .memory) b ≡ bankIn m b
+  pub bank-stays : (b : ℕ) → ((y : TransactionYes p m (taskAt ts p)) → copied? (touchedOf (y .transaction) b) ≡ true → ⊥) → bankIn (statementOf p m ts .memory) b ≡ bankIn m b
   bank-stays b n = go (stated .effect)
     where
-      go : Effect blocks p m (taskAt ts p) (operations p) (turnOf p m ts .memory) (turnOf p m ts .task) → bankIn (turnOf p m ts .memory) b ≡ bankIn m b
+      go : Effect blocks p m (taskAt ts p) (operations p) (statementOf p m ts .memory) (statementOf p m ts .task) → bankIn (statementOf p m ts .memory) b ≡ bankIn m b
       go (quiet y h e) = h b
       go (commits y C e f) = test? (copied? (touchedOf (y .transaction) b)) (λ k. absurd (n y k)) (committed-stays (C .cells) (small (R .declared) (R .invariant .owners) C e) b)
 
   -- stores are written only in copy slots of the task that runs
-  pub block-stores : (b : ℕ) → b < blocks → at [] (turnOf p m ts .memory .stores) (storeOf (bankIn m b)) ≡ at [] (m .stores) (storeOf (bankIn m b))
+  pub block-stores : (b : ℕ) → b < blocks → at [] (statementOf p m ts .memory .stores) (storeOf (bankIn m b)) ≡ at [] (m .stores) (storeOf (bankIn m b))
   block-stores b lt = stated .stores (storeOf (bankIn m b)) (λ k l e. impossible (cc (R .invariant .owners .different (block b) (slot p k) lt (R .declared, l) e)))
 
   module _ (q : ℕ) (declared : q < tasks) (ne : q ≢ p) where
-    slot-stores : (k : ℕ) → k < 4 → at [] (turnOf p m ts .memory .stores) (at 0 (slotsOf (taskAt ts q)) k) ≡ at [] (m .stores) (at 0 (slotsOf (taskAt ts q)) k)
+    slot-stores : (k : ℕ) → k < 4 → at [] (statementOf p m ts .memory .stores) (at 0 (slotsOf (taskAt ts q)) k) ≡ at [] (m .stores) (at 0 (slotsOf (taskAt ts q)) k)
     slot-stores k l = stated .stores (at 0 (slotsOf (taskAt ts q)) k) (λ j i e.
         let z : slot q k ≡ slot p j = R .invariant .owners .different (slot q k) (slot p j) (declared, l) (R .declared, i) e in
         let y : q ≡ p = cc in
         ne y)
 
     -- what is said of the others stays
-    other-facts : (f : Phase) → taskAt ts q .phase ≡ f → TaskFacts blocks (turnOf p m ts .memory) (taskAt ts q) (operations q)
+    other-facts : (f : Phase) → taskAt ts q .job .phase ≡ f → TaskFacts blocks (statementOf p m ts .memory) (taskAt ts q) (operations q)
     other-facts idle e = rw e tt
     other-facts plain e = rw e tt
     other-facts (reading r w s) e = rw e tt
@@ -113,29 +113,29 @@ module _ {words blocks tasks p : ℕ} {m : Memory} {ts : List Task} {operations 
           arguments = K .arguments;
           pass = λ ny.
               let own : slotsOf (taskAt ts q) ≡ taskAt ts q .copies = rw (e, ny) in
-              let A : Apart blocks 4 m (turnOf p m ts .memory) (taskAt ts q .copies) = record { banks = bank-changes; blockStores = block-stores; slotStores = λ k l. rw own at (slot-stores k l) } in
+              let A : Apart blocks 4 m (statementOf p m ts .memory) (taskAt ts q .copies) = record { banks = bank-changes; blockStores = block-stores; slotStores = λ k l. rw own at (slot-stores k l) } in
               pass-apart A x (K .pass ny .past) s F (λ w l. R .given .readings q ne w (rw e l)) (K .pass ny);
         })
 
   -- THE INVARIANT STAYS
-  own-task : taskAt (replace ts p (ticked (turnOf p m ts .task))) p ≡ ticked (turnOf p m ts .task)
-  own-task = replace-same noTask ts p (ticked (turnOf p m ts .task)) (R .there)
+  own-task : taskAt (replace ts p (counting ticks (statementOf p m ts .task))) p ≡ counting ticks (statementOf p m ts .task)
+  own-task = replace-same noTask ts p (counting ticks (statementOf p m ts .task)) (R .there)
 
-  other-task : (q : ℕ) → q ≢ p → taskAt (replace ts p (ticked (turnOf p m ts .task))) q ≡ taskAt ts q
-  other-task q ne = replace-other noTask ts p q (ticked (turnOf p m ts .task)) ne
+  other-task : (q : ℕ) → q ≢ p → taskAt (replace ts p (counting ticks (statementOf p m ts .task))) q ≡ taskAt ts q
+  other-task q ne = replace-other noTask ts p q (counting ticks (statementOf p m ts .task)) ne
 
-  owners-after : Owners blocks tasks (bankIn (turnOf p m ts .memory)) (λ q. slotsOf (taskAt (replace ts p (ticked (turnOf p m ts .task))) q))
+  owners-after : Owners blocks tasks (bankIn (statementOf p m ts .memory)) (λ q. slotsOf (taskAt (replace ts p (counting ticks (statementOf p m ts .task))) q))
   owners-after = go (stated .effect)
     where
-      go : Effect blocks p m (taskAt ts p) (operations p) (turnOf p m ts .memory) (turnOf p m ts .task) → Owners blocks tasks (bankIn (turnOf p m ts .memory)) (λ q. slotsOf (taskAt (replace ts p (ticked (turnOf p m ts .task))) q))
+      go : Effect blocks p m (taskAt ts p) (operations p) (statementOf p m ts .memory) (statementOf p m ts .task) → Owners blocks tasks (bankIn (statementOf p m ts .memory)) (λ q. slotsOf (taskAt (replace ts p (counting ticks (statementOf p m ts .task))) q))
       go (quiet y h e) = owners-stay h (λ q. same? q p (λ k. rw (k, own-task) e) (λ ne. rw (other-task q ne))) (R .invariant .owners)
       go (commits y C e f) = owners-exchanged p (R .declared) (C .blocksFit) (C .cells) (R .copies) e (rw own-task f) (λ q ne. rw (other-task q ne)) (R .invariant .owners)
 
-  pub statement-keeps : {later : ℕ → Operation} → Later p now m ts operations later → Transactions blocks tasks (turnOf p m ts .memory) (replace ts p (ticked (turnOf p m ts .task))) later
+  pub statement-keeps : {later : ℕ → Operation} → Later p now m ts operations later → Transactions blocks tasks (statementOf p m ts .memory) (replace ts p (counting ticks (statementOf p m ts .task))) later
   statement-keeps {later} L =
       record {
         owners = owners-after;
         task = λ q lt. same? q p
-            (λ e. rw (e, own-task) (of-transactions blocks (turnOf p m ts .memory) (turnOf p m ts .task) (turnOf p m ts .task .phase) refl (L .mine) (stated .facts)))
-            (λ ne. rw (other-task q ne) (of-transactions blocks (turnOf p m ts .memory) (taskAt ts q) (taskAt ts q .phase) refl (L .others q ne) (other-facts q lt ne (taskAt ts q .phase) refl)));
+            (λ e. rw (e, own-task) (of-transactions blocks (statementOf p m ts .memory) (statementOf p m ts .task) (statementOf p m ts .task .job .phase) refl (L .mine) (stated .facts)))
+            (λ ne. rw (other-task q ne) (of-transactions blocks (statementOf p m ts .memory) (taskAt ts q) (taskAt ts q .job .phase) refl (L .others q ne) (other-facts q lt ne (taskAt ts q .job .phase) refl)));
       }

@@ -10,13 +10,14 @@ use lib.Dec.{eqb}
 use borrow.Author.Tests.{eqb-true}
 use Rattle.model.specs.Lists.{at}
 use Rattle.model.specs.Command.{Access, GET, PUT, Block, Command, WORD, BLOCK, TASK, RELEASE, END, LOAD, ADD, READ, PAIR, SWAP, BEGIN, access, COMMIT}
-use Rattle.model.specs.Word.{Memory, cellOf, stored, saved, setStored, own, currentOf, Reading, loading, looking, fetching, Read, reads, gives, lookBy, readTick}
+use Rattle.model.specs.Word.{Memory, cellOf, stored, saved, setStored, own, currentOf, Reading, loading, looking, fetching, Read, reads, gives, readTick, lookingBy}
 use Rattle.model.specs.Exchange.{Entry, exchangeOf}
-use Rattle.model.specs.Job.{Touched, untouched, remembered, copied, Transaction, Inner, between, first, copying, again, committing, transacting, Task, Turn, turn, rest, doneBy}
-use Rattle.model.specs.Transaction.{bank, versionOf, storeOf, blockOf, rememberedOf, touchedOf, stays, goesOn, restarted, loaded, added, firstRead, copyBy, copyTick, accessTick, checkBy, againRead, nothing?, spent?, gather, commitBy, commandTick, transactionTick}
-use Rattle.model.specs.Plain.{transactionOf, computes, passBy}
+use Rattle.model.specs.Job.{Touched, untouched, remembered, copied, Transaction, Inner, between, first, copying, again, committing, transacting, Task, Turn, turn, rest, doneBy, Deed, nothingDone}
+use Rattle.model.specs.Transaction.{bank, versionOf, storeOf, blockOf, rememberedOf, touchedOf, stays, goesOn, restarted, loaded, added, firstRead, copyBy, copyTick, accessTick, checkBy, againRead, nothing?, spent?, gather, commandTick, transactionTick, commitCommandBy}
+use Rattle.model.specs.Plain.{computes, passBy}
 use Rattle.model.specs.Plain.{Pass as Plain}
-use Rattle.model.specs.History.{Operation, Event, nothing, begins, amends, answering, untilCommit, commitEvent, commandEvent, checkEvent, againEvent, transactionEvent}
+use Rattle.model.specs.History.{Operation, Event, nothing, begins, amends, answering, eventOf}
+use Rattle.model.specs.Arguments.{transactionOf, untilCommit}
 use Rattle.model.proofs.Lists.{replace-other, impossible}
 use Rattle.model.proofs.Whole.Words.{current-own, current-other}
 use Rattle.model.proofs.Fit.Memory.{MemoryFit}
@@ -42,7 +43,8 @@ pub record Turned (blocks : ℕ) (m : Memory) (t : Task) (u : Turn) (o : Operati
   pub slots : slotsOf (u .task) ≡ t .copies
   pub stores : (i : ℕ) → ((k : ℕ) → k < 4 → i ≢ at 0 (t .copies) k) → at [] (u .memory .stores) i ≡ at [] (m .stores) i
 
-pub same-memory : {blocks : ℕ} {m : Memory} {t t′ : Task} {o : Operation} → TaskFacts blocks m t′ o → slotsOf t′ ≡ t .copies → Turned blocks m t (turn m t′) o
+pub same-memory : {blocks : ℕ} {m : Memory} {t t′ : Task} {d : Deed} {o : Operation} → TaskFacts blocks m t′ o → slotsOf t′ ≡ t .copies
+    → Turned blocks m t (turn m t′ d) o
 same-memory F e = record { facts = F; cells = λ c. refl; slots = e; stores = λ i n. refl }
 
 -- a command that ends outside a transaction
@@ -65,17 +67,17 @@ pub record PassSituation (words blocks : ℕ) (m : Memory) (t : Task) (x : Trans
   pub most : blocks ≤ 16
   pub memory : MemoryFit m
   pub apart : SlotsApart blocks m (t .copies)
-  pub phase : t .phase ≡ transacting x s
-  pub fit : TransactionFit words blocks (t .copies) (t .commands) (t .pairs) x s
+  pub phase : t .job .phase ≡ transacting x s
+  pub fit : TransactionFit words blocks (t .copies) (t .job .commands) (t .job .pairs) x s
   pub arguments : o .arguments ≡ transactionOf (x .kept) (untilCommit (x .commands))
-  pub pass : PassFacts blocks m (t .copies) (t .registers) (t .commands) x s (o .answers)
+  pub pass : PassFacts blocks m (t .copies) (t .job .registers) (t .job .commands) x s (o .answers)
 
 module _ {words blocks : ℕ} {m : Memory} {t : Task} {x : Transaction} {s : Inner} {o : Operation} (S : PassSituation words blocks m t x s o) where
   -- another inner step of the same command
-  stays-turned : (s′ : Inner) → innerCommitted s′ ≡ false → AtInner m (t .copies) x s′ → Turned blocks m t (turn m (stays t x s′)) o
+  stays-turned : (s′ : Inner) → innerCommitted s′ ≡ false → AtInner m (t .copies) x s′ → Turned blocks m t (turn m (stays t x s′) nothingDone) o
   stays-turned s′ e h = same-memory (record { arguments = S .arguments; pass = λ _. inner-step s′ h (S .pass) }) (rw e)
 
-  restart-turned : Turned blocks m t (turn m (restarted t x)) (answering [] o)
+  restart-turned : {d : Deed} → Turned blocks m t (turn m (restarted t x) d) (answering [] o)
   restart-turned = same-memory (record { arguments = S .arguments; pass = λ _. begins-pass blocks m (t .copies) (x .kept) (x .commands) }) refl
 
   -- a bank word read for the first time
@@ -94,7 +96,7 @@ module _ {words blocks : ℕ} {m : Memory} {t : Task} {x : Transaction} {s : Inn
 
       goes-on : (s′ : Inner) → innerCommitted s′ ≡ false
           → (CopiedTo (setStored m (at 0 (t .copies) (x .used)) n (stored (m .stores) (storeOf (rememberedOf (touchedOf x b))) n)) (t .copies) x b (suc n) → AtInner (setStored m (at 0 (t .copies) (x .used)) n (stored (m .stores) (storeOf (rememberedOf (touchedOf x b))) n)) (t .copies) x s′)
-          → Turned blocks m t (turn (setStored m (at 0 (t .copies) (x .used)) n (stored (m .stores) (storeOf (rememberedOf (touchedOf x b))) n)) (stays t x s′)) o
+          → Turned blocks m t (turn (setStored m (at 0 (t .copies) (x .used)) n (stored (m .stores) (storeOf (rememberedOf (touchedOf x b))) n)) (stays t x s′) nothingDone) o
       goes-on s′ e f =
           record {
             facts = record { arguments = S .arguments; pass = λ _. copies-one x (S .memory) (S .apart) (blocks-fit (S .fit)) b n s′ u left lt h f (S .pass) };
@@ -108,36 +110,36 @@ module _ {words blocks : ℕ} {m : Memory} {t : Task} {x : Transaction} {s : Inn
       go false e = goes-on (copying (PUT b c r) (suc n)) refl (λ f. f)
 
   -- the second reading has ended: GET or PUT goes on, or the transaction restarts
-  check-turned : (p : ℕ) (a : Access) (v : ℕ) {others : List Command} → t .commands ≡ access a ∷ others → Ready m (t .copies) x a v → AgainFit a x → (z : Bool)
-      → Turned blocks m t (checkBy z m t x a v) (operationAfter p (checkEvent z a v) o)
-  unfolding checkBy checkEvent
-  check-turned p (GET r b c) v {others} l h A true =
-      same-memory (record { arguments = S .arguments; pass = λ _. rw l (got-done r b c v others h (subst (λ (y : List Command). PassFacts blocks m (t .copies) (t .registers) y x s (o .answers)) l (S .pass))) }) refl
-  check-turned p (PUT b c r) v {others} l h A true =
+  check-turned : (p now : ℕ) (a : Access) (v : ℕ) {others : List Command} → t .job .commands ≡ access a ∷ others → Ready m (t .copies) x a v → AgainFit a x → (z : Bool)
+      → Turned blocks m t (checkBy z m t x a v) (operationAfter p (eventOf now (checkBy z m t x a v .did)) o)
+  unfolding checkBy eventOf
+  check-turned p now (GET r b c) v {others} l h A true =
+      same-memory (record { arguments = S .arguments; pass = λ _. rw l (got-done r b c v others h (subst (λ (y : List Command). PassFacts blocks m (t .copies) (t .job .registers) y x s (o .answers)) l (S .pass))) }) refl
+  check-turned p now (PUT b c r) v {others} l h A true =
       let e : rememberedOf (touchedOf x b) ≡ A .value = rw (A .read) in
       let below : b < blocks = S .fit .touched .below b (rw (A .read)) in
       same-memory (record { arguments = S .arguments; pass = λ _. rw e (copies-all b (rw (S .fit .touched .size) (omega (arith, S .most))) (S .pass) (S .memory) (S .apart) (A .value) (A .read) below (A .left) h (record { offset = c; register = r; others = others; commands = l })) }) refl
-  check-turned p a v l h A false = restart-turned
+  check-turned p now a v l h A false = restart-turned
 
-  again-turned : (p : ℕ) (a : Access) (v : ℕ) {others : List Command} → t .commands ≡ access a ∷ others → Ready m (t .copies) x a v → AgainFit a x → (y : Read)
-      → Turned blocks m t (againRead m t x a v y) (operationAfter p (againEvent x a v y) o)
-  unfolding againRead againEvent
-  again-turned p a v l h A (reads r) = stays-turned (again a v r) refl h
-  again-turned p a v l h A (gives w) = check-turned p a v l h A (eqb (versionOf w) (versionOf (rememberedOf (touchedOf x (blockOf a)))))
+  again-turned : (p now : ℕ) (a : Access) (v : ℕ) {others : List Command} → t .job .commands ≡ access a ∷ others → Ready m (t .copies) x a v → AgainFit a x → (y : Read)
+      → Turned blocks m t (againRead m t x a v y) (operationAfter p (eventOf now (againRead m t x a v y .did)) o)
+  unfolding againRead eventOf
+  again-turned p now a v l h A (reads r) = stays-turned (again a v r) refl h
+  again-turned p now a v l h A (gives w) = check-turned p now a v l h A (eqb (versionOf w) (versionOf (rememberedOf (touchedOf x (blockOf a)))))
 
   -- a tick of the first reading
   first-turned : (a : Access) (r : Reading) → touchedOf x (blockOf a) ≡ untouched → blockOf a < blocks → InReading m (blockOf a) r → Turned blocks m t (firstRead m t x a (readTick m (bank (blockOf a)) r)) o
-  unfolding readTick firstRead lookBy
+  unfolding readTick firstRead lookingBy
   first-turned a loading u lt h = stays-turned (first a (looking (cellOf m (bank (blockOf a))))) refl (now-past (bankIn m (blockOf a)))
   first-turned a (looking w) u lt h = go (own (m .status) w) refl
     where
-      go : (z : Bool) → own (m .status) w ≡ z → Turned blocks m t (firstRead m t x a (lookBy z w)) o
+      go : (z : Bool) → own (m .status) w ≡ z → Turned blocks m t (firstRead m t x a (lookingBy z w)) o
       go true e = remembers-turned a (w .value) u lt (rw (current-own (m .status) (m .saves) w e) at h)
       go false e = stays-turned (first a (fetching w)) refl (h, e)
   first-turned a (fetching w) u lt h = remembers-turned a (saved (m .saves) (w .task) (w .count)) u lt (rw (current-other (m .status) (m .saves) w (h .1)) at (h .0))
 
   -- GET and PUT, by what the block is so far
-  access-turned : (a : Access) {others : List Command} → t .commands ≡ access a ∷ others → PutRoom x (t .commands) → (y : Touched) → touchedOf x (blockOf a) ≡ y → Turned blocks m t (accessTick m t x a y) o
+  access-turned : (a : Access) {others : List Command} → t .job .commands ≡ access a ∷ others → PutRoom x (t .job .commands) → (y : Touched) → touchedOf x (blockOf a) ≡ y → Turned blocks m t (accessTick m t x a y) o
   unfolding accessTick firstRead readTick
   access-turned a l room untouched e = stays-turned (first a (looking (cellOf m (bank (blockOf a))))) refl (now-past (bankIn m (blockOf a)))
   access-turned (GET r b c) l room (remembered v) e = stays-turned (again (GET r b c) (stored (m .stores) (storeOf v) c) loading) refl (rw e (λ _. refl))
@@ -146,34 +148,61 @@ module _ {words blocks : ℕ} {m : Memory} {t : Task} {x : Transaction} {s : Inn
   access-turned (PUT b c r) {others} l room (copied v k) e =
       let B = blocks-fit (S .fit) in
       record {
-        facts = record { arguments = S .arguments; pass = λ _. rw l (writes x (S .memory) (S .apart) B b c r v k (B .below b (rw e)) e (subst (λ (y : List Command). PassFacts blocks m (t .copies) (t .registers) y x s (o .answers)) l (S .pass))) };
+        facts = record { arguments = S .arguments; pass = λ _. rw l (writes x (S .memory) (S .apart) B b c r v k (B .below b (rw e)) e (subst (λ (y : List Command). PassFacts blocks m (t .copies) (t .job .registers) y x s (o .answers)) l (S .pass))) };
         cells = λ i. refl;
         slots = refl;
         stores = λ i ne. replace-other [] (m .stores) (at 0 (t .copies) k) i _ (ne k (omega (arith, B .slot b v k e, B .most)));
       }
 
   -- COMMIT: nothing touched, spent, or the exchange is to start
-  commit-turned : (p now : ℕ) (y z : Bool) → Turned blocks m t (commitBy y z m t x) (operationAfter p (commitEvent now y z) o)
-  unfolding commitBy commitEvent
-  commit-turned p now true z = same-memory (done-facts blocks m (rest (t .commands)) t (t .registers) [] (t .copies) _) (done-slots (rest (t .commands)) t (t .registers) [] (t .copies))
+  commit-turned : (p now : ℕ) (y z : Bool) → Turned blocks m t (commitCommandBy y z m t x) (operationAfter p (eventOf now (commitCommandBy y z m t x .did)) o)
+  unfolding commitCommandBy eventOf
+  commit-turned p now true z = same-memory (done-facts blocks m (rest (t .job .commands)) t (t .job .registers) [] (t .copies) _) (done-slots (rest (t .job .commands)) t (t .job .registers) [] (t .copies))
   commit-turned p now false true = same-memory tt refl
   commit-turned p now false false = stays-turned (committing (exchangeOf (gather (t .copies) 0 (x .blocks)))) refl tt
 
   -- a command that no transaction has
-  nothing-turned : innerCommitted s ≡ false → Turned blocks m t (turn m t) o
+  nothing-turned : {d : Deed} → innerCommitted s ≡ false → Turned blocks m t (turn m t d) o
   nothing-turned y = same-memory (rw (S .phase) (record { arguments = S .arguments; pass = λ _. S .pass })) (rw (S .phase, y))
 
-  computed-turned : (c : Command) (rs : List ℕ) (l : List Command) → t .commands ≡ c ∷ l → ((b : ℕ) → PutAtWork b (c ∷ l) → ⊥) → untilCommit (c ∷ l) ≡ c ∷ untilCommit l
-      → ((bs : List Block) (q : Plain) → q .registers ≡ t .registers → passBy bs q c ≡ computes q rs) → Turned blocks m t (turn m (goesOn t rs x)) o
+  computed-turned : (c : Command) (rs : List ℕ) (l : List Command) → t .job .commands ≡ c ∷ l → ((b : ℕ) → PutAtWork b (c ∷ l) → ⊥) → untilCommit (c ∷ l) ≡ c ∷ untilCommit l
+      → ((bs : List Block) (q : Plain) → q .registers ≡ t .job .registers → passBy bs q c ≡ computes q rs) → Turned blocks m t (turn m (goesOn t rs x) nothingDone) o
   computed-turned c rs l e np u f =
-      same-memory (record { arguments = S .arguments; pass = λ _. rw e (computed c l rs np u f (subst (λ (y : List Command). PassFacts blocks m (t .copies) (t .registers) y x s (o .answers)) e (S .pass))) }) refl
+      same-memory (record { arguments = S .arguments; pass = λ _. rw e (computed c l rs np u f (subst (λ (y : List Command). PassFacts blocks m (t .copies) (t .job .registers) y x s (o .answers)) e (S .pass))) }) refl
 
-  command-turned : (p now : ℕ) (l : List Command) → innerCommitted s ≡ false → t .commands ≡ l → PutRoom x (t .commands) → Turned blocks m t (commandTick m t x l) (operationAfter p (commandEvent now x l) o)
-  unfolding commandTick commandEvent passBy untilCommit
+  -- what GET and PUT do before their second reading means nothing for the operation
+  first-quiet : (a : Access) (y : Read) → firstRead m t x a y .did ≡ nothingDone
+  unfolding firstRead
+  first-quiet a (reads r) = refl
+  first-quiet a (gives v) = refl
+
+  copy-quiet : (a : Access) (n : ℕ) → copyTick m t x a n .did ≡ nothingDone
+  unfolding copyTick copyBy
+  copy-quiet a n = go (eqb (suc n) 8) _
+    where
+      go : (z : Bool) (k : Memory) → copyBy z k t x a n .did ≡ nothingDone
+      go true k = refl
+      go false k = refl
+
+  access-quiet : (a : Access) (y : Touched) → accessTick m t x a y .did ≡ nothingDone
+  unfolding accessTick
+  access-quiet a untouched = first-quiet a (readTick m (bank (blockOf a)) loading)
+  access-quiet (GET r b c) (remembered v) = refl
+  access-quiet (GET r b c) (copied v k) = refl
+  access-quiet (PUT b c r) (remembered v) = copy-quiet (PUT b c r) 0
+  access-quiet (PUT b c r) (copied v k) = refl
+
+  quietly : (p now : ℕ) (u : Turn) → u .did ≡ nothingDone → Turned blocks m t u o → Turned blocks m t u (operationAfter p (eventOf now (u .did)) o)
+  unfolding eventOf
+  quietly p now u e T = subst (λ (d : Deed). Turned blocks m t u (operationAfter p (eventOf now d) o)) (sym e) T
+
+  command-turned : (p now : ℕ) (l : List Command) → innerCommitted s ≡ false → t .job .commands ≡ l → PutRoom x (t .job .commands) → Turned blocks m t (commandTick m t x l) (operationAfter p (eventOf now (commandTick m t x l .did)) o)
+  unfolding commandTick eventOf passBy untilCommit
   command-turned p now [] y e room = nothing-turned y
-  command-turned p now (LOAD r v ∷ l) y e room = computed-turned (LOAD r v) (loaded (t .registers) r v) l e (λ b w. impossible (cc (w .commands))) refl (λ bs q h. rw h)
-  command-turned p now (ADD r k ∷ l) y e room = computed-turned (ADD r k) (added (t .registers) r k) l e (λ b w. impossible (cc (w .commands))) refl (λ bs q h. rw h)
-  command-turned p now (access a ∷ l) y e room = access-turned a e room (touchedOf x (blockOf a)) refl
+  command-turned p now (LOAD r v ∷ l) y e room = computed-turned (LOAD r v) (loaded (t .job .registers) r v) l e (λ b w. impossible (cc (w .commands))) refl (λ bs q h. rw h)
+  command-turned p now (ADD r k ∷ l) y e room = computed-turned (ADD r k) (added (t .job .registers) r k) l e (λ b w. impossible (cc (w .commands))) refl (λ bs q h. rw h)
+  command-turned p now (access a ∷ l) y e room =
+      quietly p now _ (access-quiet a (touchedOf x (blockOf a))) (access-turned a e room (touchedOf x (blockOf a)) refl)
   command-turned p now (COMMIT ∷ l) y e room = commit-turned p now (nothing? (x .blocks)) (spent? (x .blocks))
   command-turned p now (READ r w ∷ l) y e room = nothing-turned y
   command-turned p now (PAIR w a b ∷ l) y e room = nothing-turned y
@@ -193,12 +222,15 @@ Outside x l (copying a n) = Unit {0}
 Outside x l (again a v r) = Unit {0}
 Outside x l (committing e) = ⊥
 
-pub pass-turned : {words blocks : ℕ} {m : Memory} {t : Task} {x : Transaction} {o : Operation} (p now : ℕ) (s : Inner) → Outside x (t .commands) s → PassSituation words blocks m t x s o
-    → Turned blocks m t (transactionTick p m t x s) (operationAfter p (transactionEvent now p m t x s) o)
-unfolding transactionTick transactionEvent
-pass-turned {t = t} p now between room S = command-turned S p now (t .commands) refl refl room
-pass-turned p now (first a r) out S = first-turned S a r (S .fit .inner .notYet) (S .fit .inner .atWork .block) (S .pass .inner)
+pub pass-turned : {words blocks : ℕ} {m : Memory} {t : Task} {x : Transaction} {o : Operation} (p now : ℕ) (s : Inner) → Outside x (t .job .commands) s → PassSituation words blocks m t x s o
+    → Turned blocks m t (transactionTick p m t x s) (operationAfter p (eventOf now (transactionTick p m t x s .did)) o)
+unfolding transactionTick eventOf
+pass-turned {t = t} p now between room S = command-turned S p now (t .job .commands) refl refl room
+pass-turned {m = m} p now (first a r) out S =
+    quietly S p now _ (first-quiet S a (readTick m (bank (blockOf a)) r)) (first-turned S a r (S .fit .inner .notYet) (S .fit .inner .atWork .block) (S .pass .inner))
 pass-turned p now (copying (GET r b c) n) out S = absurd (true≢false (sym (S .fit .inner .put)))
-pass-turned p now (copying (PUT b c r) n) out S = let F = S .fit .inner in copy-turned S b c r n (rw (F .first .read)) (F .first .left) (F .most) (S .pass .inner)
-pass-turned {m = m} p now (again a v r) out S = let F = S .fit .inner in again-turned S p a v (F .atWork .commands) (S .pass .inner) (F .again) (readTick m (bank (blockOf a)) r)
+pass-turned p now (copying (PUT b c r) n) out S =
+    let F = S .fit .inner in
+    quietly S p now _ (copy-quiet S (PUT b c r) n) (copy-turned S b c r n (rw (F .first .read)) (F .first .left) (F .most) (S .pass .inner))
+pass-turned {m = m} p now (again a v r) out S = let F = S .fit .inner in again-turned S p now a v (F .atWork .commands) (S .pass .inner) (F .again) (readTick m (bank (blockOf a)) r)
 pass-turned p now (committing e) out S = absurd out

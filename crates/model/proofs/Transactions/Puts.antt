@@ -13,7 +13,7 @@ use Rattle.model.specs.Word.{Memory, stored, setStored}
 use Rattle.model.specs.Job.{Touched, untouched, remembered, copied, Transaction, Inner, between}
 use Rattle.model.specs.Transaction.{storeOf, rememberedOf, touchedOf, touch}
 use Rattle.model.specs.Plain.{Pass, noBlock, valuesOf, puts, passBy, passed}
-use Rattle.model.specs.History.{untilCommit}
+use Rattle.model.specs.Arguments.{untilCommit}
 use Rattle.model.proofs.Lists.{replace-same, replace-other, length-replace, same?}
 use Rattle.model.proofs.Fit.Memory.{MemoryFit}
 use Rattle.model.proofs.Fit.Transaction.{touched?}

@@ -10,10 +10,11 @@ use Rattle.model.specs.Lists.{at, replace}
 use Rattle.model.specs.Command.{PUT, Command, WORD, BLOCK, TASK, RELEASE, END, LOAD, ADD, READ, PAIR, SWAP, BEGIN, access, COMMIT}
 use Rattle.model.specs.Word.{Memory, currentOf, loading, Read, reads, gives, readTick}
 use Rattle.model.specs.Exchange.{Entry, entry, exchangeOf, start, Exchange, Exchanged, goes, ends, exchangeTick}
-use Rattle.model.specs.Job.{Transaction, Inner, between, first, copying, again, committing, Phase, idle, plain, reading, exchanging, transacting, Task, turn, rest, done}
+use Rattle.model.specs.Job.{Transaction, Inner, between, first, copying, again, committing, Phase, idle, plain, reading, exchanging, transacting, Task, turn, rest, done, Deed, Turn}
 use Rattle.model.specs.Transaction.{bank, loaded, added, stays, copyBy, copyTick, accessTick, commandTick, transactionTick}
-use Rattle.model.specs.Machine.{answer, readBy, swapBy, plainTick, statement}
-use Rattle.model.specs.History.{Operation, plainEvent, eventOf, transactionEvent}
+use Rattle.model.specs.Machine.{answer, readBy, swapBy, plainTick, statement, beginning}
+use Rattle.model.specs.History.{Operation, eventOf}
+use Rattle.model.specs.Arguments.{Arguments}
 use Rattle.model.proofs.Lists.{impossible}
 use Rattle.model.proofs.Fit.Memory.{MemoryFit}
 use Rattle.model.proofs.Fit.Exchange.{entryOf}
@@ -50,63 +51,67 @@ seen-stores (says-yes-last ec es i) = refl
 seen-stores (over ey ny st) = st
 
 module _ {blocks p : ℕ} {m : Memory} {t : Task} {o : Operation} where
-  quiet-stated : {n : Memory} {t′ : Task} {o′ : Operation} → (TransactionYes p m t → ⊥) → TaskFacts blocks n t′ o′ → ((b : ℕ) → bankIn n b ≡ bankIn m b) → slotsOf t′ ≡ slotsOf t → n .stores ≡ m .stores → Stated blocks p m t o (turn n t′) o′
+  quiet-stated : {n : Memory} {t′ : Task} {d : Deed} {o′ : Operation} → (TransactionYes p m t → ⊥) → TaskFacts blocks n t′ o′ → ((b : ℕ) → bankIn n b ≡ bankIn m b) → slotsOf t′ ≡ slotsOf t → n .stores ≡ m .stores → Stated blocks p m t o (turn n t′ d) o′
   quiet-stated y F h e st = record { facts = F; effect = quiet y h e; stores = λ i ne. rw st }
 
   -- outside transactions nothing is said of a task
   module _ (own : slotsOf t ≡ t .copies) (plainly : TransactionYes p m t → ⊥) where
-    done-stated : {n : Memory} (rs : List ℕ) (ps : List Entry) {o′ : Operation} → ((b : ℕ) → bankIn n b ≡ bankIn m b) → n .stores ≡ m .stores → Stated blocks p m t o (turn n (done t rs ps (t .copies))) o′
-    done-stated {n} rs ps h st = quiet-stated plainly (done-facts blocks n (rest (t .commands)) t rs ps (t .copies) _) h (done-slots (rest (t .commands)) t rs ps (t .copies) ∙ sym own) st
+    done-stated : {n : Memory} {d : Deed} (rs : List ℕ) (ps : List Entry) {o′ : Operation} → ((b : ℕ) → bankIn n b ≡ bankIn m b) → n .stores ≡ m .stores → Stated blocks p m t o (turn n (done t rs ps (t .copies)) d) o′
+    done-stated {n} rs ps h st = quiet-stated plainly (done-facts blocks n (rest (t .job .commands)) t rs ps (t .copies) _) h (done-slots (rest (t .job .commands)) t rs ps (t .copies) ∙ sym own) st
 
     read-stated : (r w : ℕ) (y : Read) {o′ : Operation} → Stated blocks p m t o (readBy m t r w y) o′
     unfolding readBy
     read-stated r w (reads s) = quiet-stated plainly tt (λ b. refl) (sym own) refl
-    read-stated r w (gives v) = done-stated (replace (t .registers) r v) (t .pairs) (λ b. refl) refl
+    read-stated r w (gives v) = done-stated (replace (t .job .registers) r v) (t .job .pairs) (λ b. refl) refl
 
-    swap-stated : (r : ℕ) (out : Exchanged) {o′ : Operation} → ((b : ℕ) → bankIn (memoryAfter out) b ≡ bankIn m b) → memoryAfter out .stores ≡ m .stores → Stated blocks p m t o (swapBy t r out) o′
+    swap-stated : (r : ℕ) (x : Exchange) (out : Exchanged) {o′ : Operation} → ((b : ℕ) → bankIn (memoryAfter out) b ≡ bankIn m b) → memoryAfter out .stores ≡ m .stores → Stated blocks p m t o (swapBy t r x out) o′
     unfolding swapBy
-    swap-stated r (goes n x) h st = quiet-stated plainly tt h (sym own) st
-    swap-stated r (ends n yes?) h st = done-stated (replace (t .registers) r (answer yes?)) [] h st
+    swap-stated r x (goes n y) h st = quiet-stated plainly tt h (sym own) st
+    swap-stated r x (ends n yes?) h st = done-stated (replace (t .job .registers) r (answer yes?)) [] h st
 
-swap-memory : (t : Task) (r : ℕ) (out : Exchanged) → swapBy t r out .memory ≡ memoryAfter out
+swap-memory : (t : Task) (r : ℕ) (x : Exchange) (out : Exchanged) → swapBy t r x out .memory ≡ memoryAfter out
 unfolding swapBy
-swap-memory t r (goes n x) = refl
-swap-memory t r (ends n yes?) = refl
+swap-memory t r x (goes n y) = refl
+swap-memory t r x (ends n yes?) = refl
 
 module _ {blocks p : ℕ} {m : Memory} {t : Task} {o : Operation} (own : slotsOf t ≡ t .copies) (plainly : TransactionYes p m t → ⊥) where
   -- a command that does not stand outside a transaction
-  idle-stated : {o′ : Operation} → TaskFacts blocks m t o′ → Stated blocks p m t o (turn m t) o′
+  idle-stated : {d : Deed} {o′ : Operation} → TaskFacts blocks m t o′ → Stated blocks p m t o (turn m t d) o′
   idle-stated F = quiet-stated plainly F (λ b. refl) refl refl
 
-  command-stated : (l : List Command) → t .phase ≡ plain → Cells p m plain (plainTick p m t l .memory) → Stated blocks p m t o (plainTick p m t l) (operationAfter p (plainEvent t l) o)
-  unfolding plainTick plainEvent readTick exchangeTick swapBy
-  command-stated [] e c = idle-stated (rw e tt)
-  command-stated (LOAD r v ∷ l) e c = done-stated own plainly (loaded (t .registers) r v) (t .pairs) (λ b. refl) refl
-  command-stated (ADD r q ∷ l) e c = done-stated own plainly (added (t .registers) r q) (t .pairs) (λ b. refl) refl
-  command-stated (READ r w ∷ l) e c = read-stated own plainly r w (readTick m w loading)
-  command-stated (PAIR w a b ∷ l) e c = done-stated own plainly (t .registers) (t .pairs ++ (entry w (at 0 (t .registers) a) (at 0 (t .registers) b) ∷ [])) (λ b. refl) refl
-  command-stated (SWAP r ∷ l) e c = swap-stated own plainly r (exchangeTick p m (exchangeOf (t .pairs)) start) (λ b. no-exchange refl c (bank b)) refl
-  command-stated (BEGIN ∷ l) e c = quiet-stated plainly (record { arguments = refl; pass = λ _. begins-pass blocks m (t .copies) (t .registers) l }) (λ b. refl) (sym own) refl
-  command-stated (access a ∷ l) e c = idle-stated (rw e tt)
-  command-stated (COMMIT ∷ l) e c = idle-stated (rw e tt)
-  command-stated (WORD v ∷ l) e c = idle-stated (rw e tt)
-  command-stated (BLOCK b ∷ l) e c = idle-stated (rw e tt)
-  command-stated (TASK ∷ l) e c = idle-stated (rw e tt)
-  command-stated (RELEASE r ∷ l) e c = idle-stated (rw e tt)
-  command-stated (END ∷ l) e c = idle-stated (rw e tt)
+  -- the same turn as the first of an operation
+  begun-stated : {u : Turn} {a : Arguments} {o′ : Operation} → Stated blocks p m t o u o′ → Stated blocks p m t o (beginning a u) o′
+  begun-stated k = record { facts = k .facts; effect = k .effect; stores = k .stores }
+
+  command-stated : (now : ℕ) (l : List Command) → t .job .phase ≡ plain → Cells p m plain (plainTick p m t l .memory) → Stated blocks p m t o (plainTick p m t l) (operationAfter p (eventOf now (plainTick p m t l .did)) o)
+  unfolding plainTick eventOf readTick exchangeTick swapBy
+  command-stated now [] e c = idle-stated (rw e tt)
+  command-stated now (LOAD r v ∷ l) e c = done-stated own plainly (loaded (t .job .registers) r v) (t .job .pairs) (λ b. refl) refl
+  command-stated now (ADD r q ∷ l) e c = done-stated own plainly (added (t .job .registers) r q) (t .job .pairs) (λ b. refl) refl
+  command-stated now (READ r w ∷ l) e c = begun-stated (read-stated own plainly r w (readTick m w loading))
+  command-stated now (PAIR w a b ∷ l) e c = done-stated own plainly (t .job .registers) (t .job .pairs ++ (entry w (at 0 (t .job .registers) a) (at 0 (t .job .registers) b) ∷ [])) (λ b. refl) refl
+  command-stated now (SWAP r ∷ l) e c = begun-stated (swap-stated own plainly r (exchangeOf (t .job .pairs)) (exchangeTick p m (exchangeOf (t .job .pairs)) start) (λ b. no-exchange refl c (bank b)) refl)
+  command-stated now (BEGIN ∷ l) e c = quiet-stated plainly (record { arguments = refl; pass = λ _. begins-pass blocks m (t .copies) (t .job .registers) l }) (λ b. refl) (sym own) refl
+  command-stated now (access a ∷ l) e c = idle-stated (rw e tt)
+  command-stated now (COMMIT ∷ l) e c = idle-stated (rw e tt)
+  command-stated now (WORD v ∷ l) e c = idle-stated (rw e tt)
+  command-stated now (BLOCK b ∷ l) e c = idle-stated (rw e tt)
+  command-stated now (TASK ∷ l) e c = idle-stated (rw e tt)
+  command-stated now (RELEASE r ∷ l) e c = idle-stated (rw e tt)
+  command-stated now (END ∷ l) e c = idle-stated (rw e tt)
 
 abbrev pub JobFit : ℕ → ℕ → Task → Type 0
-JobFit words blocks t = PhaseFit words blocks (t .copies) (t .commands) (t .pairs) (t .phase)
+JobFit words blocks t = PhaseFit words blocks (t .copies) (t .job .commands) (t .job .pairs) (t .job .phase)
 
-pub transaction-fit : (words blocks : ℕ) (t : Task) {x : Transaction} {s : Inner} → t .phase ≡ transacting x s → JobFit words blocks t → TransactionFit words blocks (t .copies) (t .commands) (t .pairs) x s
-transaction-fit words blocks t e F = subst (λ (f : Phase). PhaseFit words blocks (t .copies) (t .commands) (t .pairs) f) e F
+pub transaction-fit : (words blocks : ℕ) (t : Task) {x : Transaction} {s : Inner} → t .job .phase ≡ transacting x s → JobFit words blocks t → TransactionFit words blocks (t .copies) (t .job .commands) (t .job .pairs) x s
+transaction-fit words blocks t e F = subst (λ (f : Phase). PhaseFit words blocks (t .copies) (t .job .commands) (t .job .pairs) f) e F
 
 -- a first copy tick is well formed afterwards, so a copy slot was left before it
-put-room : (words blocks p : ℕ) (m : Memory) (t : Task) (x : Transaction) → JobFit words blocks (transactionTick p m t x between .task) → PutRoom x (t .commands)
+put-room : (words blocks p : ℕ) (m : Memory) (t : Task) (x : Transaction) → JobFit words blocks (transactionTick p m t x between .task) → PutRoom x (t .job .commands)
 unfolding transactionTick commandTick accessTick copyTick copyBy
 put-room words blocks p m t x F b c r v others l e =
     let u : transactionTick p m t x between .task ≡ stays t x (copying (PUT b c r) 1) = rw (l, e) in
-    let G : TransactionFit words blocks (t .copies) (t .commands) [] x (copying (PUT b c r) 1) = subst (λ (y : Task). JobFit words blocks y) u F in
+    let G : TransactionFit words blocks (t .copies) (t .job .commands) [] x (copying (PUT b c r) 1) = subst (λ (y : Task). JobFit words blocks y) u F in
     G .inner .first .left
 
 -- THE SITUATION of a statement of task p
@@ -119,8 +124,8 @@ pub record TaskSituation (words blocks p : ℕ) (m : Memory) (t : Task) (o : Ope
   pub apart : slotsOf t ≡ t .copies → SlotsApart blocks m (t .copies)
 
 module _ {words blocks p : ℕ} {m : Memory} {t : Task} {o : Operation} (S : TaskSituation words blocks p m t o) (now : ℕ) where
-  pass-stated : (x : Transaction) (s : Inner) → t .phase ≡ transacting x s → Outside x (t .commands) s → innerCommitted s ≡ false
-      → Stated blocks p m t o (transactionTick p m t x s) (operationAfter p (transactionEvent now p m t x s) o)
+  pass-stated : (x : Transaction) (s : Inner) → t .job .phase ≡ transacting x s → Outside x (t .job .commands) s → innerCommitted s ≡ false
+      → Stated blocks p m t o (transactionTick p m t x s) (operationAfter p (eventOf now (transactionTick p m t x s .did)) o)
   pass-stated x s e out ny =
       let own : slotsOf t ≡ t .copies = rw (e, ny) in
       let F = transaction-fit words blocks t e (S .fit) in
@@ -129,17 +134,17 @@ module _ {words blocks p : ℕ} {m : Memory} {t : Task} {o : Operation} (S : Tas
       record { facts = T .facts; effect = quiet (λ Y. outside Y) (λ b. T .cells (bank b)) (T .slots ∙ sym own); stores = λ i ne. T .stores i (rw own at ne) }
     where
       outside : TransactionYes p m t → ⊥
-      outside Y = let z : s ≡ committing (Y .exchange) = cc (e, Y .phase) in subst (λ (i : Inner). Outside x (t .commands) i) z out
+      outside Y = let z : s ≡ committing (Y .exchange) = cc (e, Y .phase) in subst (λ (i : Inner). Outside x (t .job .commands) i) z out
 
-  pub phase-stated : (f : Phase) → t .phase ≡ f → JobFit words blocks (statement p m t f .task) → Cells p m f (statement p m t f .memory) → Stated blocks p m t o (statement p m t f) (operationAfter p (eventOf now p m t f) o)
+  pub phase-stated : (f : Phase) → t .job .phase ≡ f → JobFit words blocks (statement p m t f .task) → Cells p m f (statement p m t f .memory) → Stated blocks p m t o (statement p m t f) (operationAfter p (eventOf now (statement p m t f .did)) o)
   unfolding statement eventOf
   phase-stated idle e G c = idle-stated (rw e) (λ Y. impossible (cc (e, Y .phase))) (rw e tt)
-  phase-stated plain e G c = command-stated (rw e) (λ Y. impossible (cc (e, Y .phase))) (t .commands) e c
+  phase-stated plain e G c = command-stated (rw e) (λ Y. impossible (cc (e, Y .phase))) now (t .job .commands) e c
   phase-stated (reading r w s) e G c = read-stated (rw e) (λ Y. impossible (cc (e, Y .phase))) r w (readTick m w s)
   phase-stated (exchanging r x) e G c =
-      let F = subst (λ (f : Phase). PhaseFit words blocks (t .copies) (t .commands) (t .pairs) f) e (S .fit) in
-      swap-stated (rw e) (λ Y. impossible (cc (e, Y .phase))) r (exchangeTick p m x (x .step))
-      (plain-words (λ i l. omega (arith, F .exchange .entries .below i l, S .fewWords)) (rw (swap-memory t r (exchangeTick p m x (x .step))) at c))
+      let F = subst (λ (f : Phase). PhaseFit words blocks (t .copies) (t .job .commands) (t .job .pairs) f) e (S .fit) in
+      swap-stated (rw e) (λ Y. impossible (cc (e, Y .phase))) r x (exchangeTick p m x (x .step))
+      (plain-words (λ i l. omega (arith, F .exchange .entries .below i l, S .fewWords)) (rw (swap-memory t r x (exchangeTick p m x (x .step))) at c))
       (seen-stores (seen p m x (outcome p m x)))
   phase-stated (transacting x between) e G c = pass-stated x between e (put-room words blocks p m t x G) refl
   phase-stated (transacting x (first a r)) e G c = pass-stated x (first a r) e tt refl

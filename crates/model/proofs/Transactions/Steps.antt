@@ -12,9 +12,9 @@ use Rattle.model.specs.Lists.{at, replace}
 use Rattle.model.specs.Command.{GET, Block, Command, access}
 use Rattle.model.specs.Word.{Memory}
 use Rattle.model.specs.Job.{Touched, untouched, remembered, copied, Transaction, Inner, between}
-use Rattle.model.specs.Transaction.{storeOf, rememberedOf, touchedOf, fresh}
+use Rattle.model.specs.Transaction.{storeOf, rememberedOf, touchedOf, freshTransaction}
 use Rattle.model.specs.Plain.{Pass, noBlock, noCopies, valuesBy, valuesOf, computes, passBy, passed}
-use Rattle.model.specs.History.{untilCommit}
+use Rattle.model.specs.Arguments.{untilCommit}
 use Rattle.model.proofs.Lists.{at-past, at-replicate, impossible}
 use Rattle.model.proofs.Fit.Transaction.{touched?}
 use Rattle.model.proofs.Transactions.Facts.{bankIn, PutAtWork, SameCopy, Fetched, AtInner, PassFacts}
@@ -34,7 +34,7 @@ none-at d n b = go (decLt b n)
     go (yes h) = at-replicate d d n b h
     go (no h) = at-past d (replicate n d) b (rw length-replicate (omega arith))
 
-pub begins : (blocks : ℕ) (m : Memory) (copies kept : List ℕ) (begun : List Command) → PassFacts blocks m copies kept begun (fresh kept begun) between []
+pub begins : (blocks : ℕ) (m : Memory) (copies kept : List ℕ) (begun : List Command) → PassFacts blocks m copies kept begun (freshTransaction kept begun) between []
 begins blocks m copies kept begun =
     record {
       past = λ b t. absurd (true≢false (sym (rw (none-at untouched 16 b) at t)));

@@ -8,7 +8,7 @@ use native.Mathlib.Omega.{arith}
 use lib.Dec.{eqb}
 use borrow.Author.Tests.{ne-eqb}
 use Rattle.model.specs.Lists.{at, replace}
-use Rattle.model.specs.Word.{Word, fresh, Memory, cellOf, statusOf, saved, setCell}
+use Rattle.model.specs.Word.{Word, Memory, cellOf, statusOf, saved, setCell, freshWord}
 use Rattle.model.specs.Exchange.{Step, commit, clean, cleanMark, Exchange, entryAt, installed, cleaned, to}
 use Rattle.model.proofs.Lists.{replace-same, replace-other, same?}
 use Rattle.model.proofs.Whole.Act.{Act, free, exchanging, stageOf, stage, undecided, uncleaned, covering}
@@ -96,12 +96,12 @@ module _ {below : ℕ → ℕ → Type 0} {m : Memory} {acts : List Act} {p : �
     not-mine {w} (held b H) k = below-clear S (w .task) b (ap (λ (w : Word). w .task) k)
 
     -- an entry of p that a word still stands for is past j, if the word at j's cell is not what p installed
-    past-by : (cells : List Word) → at (fresh 0) cells (entryAt x j .cell) ≢ installed p (entryAt x j) j
-        → (c e : ℕ) → uncleaned (stage x) ≤ e → entryAt x e .cell ≡ c → at (fresh 0) cells c ≡ installed p (entryAt x e) e → suc j ≤ e
+    past-by : (cells : List Word) → at (freshWord 0) cells (entryAt x j .cell) ≢ installed p (entryAt x j) j
+        → (c e : ℕ) → uncleaned (stage x) ≤ e → entryAt x e .cell ≡ c → at (freshWord 0) cells c ≡ installed p (entryAt x e) e → suc j ≤ e
     past-by cells gone c e l d i =
         let lj : j ≤ e = rw s at l in
         same? e j
-        (λ k. absurd (gone (ap (λ (z : ℕ). at (fresh 0) cells z) (rw k at d) ∙ (rw k at i))))
+        (λ k. absurd (gone (ap (λ (z : ℕ). at (freshWord 0) cells z) (rw k at d) ∙ (rw k at i))))
         (λ ne. omega arith)
 
     clean-same : Answered p m m yes?
@@ -113,12 +113,12 @@ module _ {below : ℕ → ℕ → Type 0} {m : Memory} {acts : List Act} {p : �
     cleaned-cell : Room m p (x .entries) → (w : Word) → WellFormed (λ r. below r p) acts (entryAt x j .cell) w → CleanedAt j yes? (setCell m (entryAt x j .cell) w)
     cleaned-cell R w h =
         let c₀ = entryAt x j .cell in
-        let k : at (fresh 0) (replace (m .cells) c₀ w) c₀ ≡ w = replace-same (fresh 0) (m .cells) c₀ w (R .cells j (omega (arith, mine S .within, clean-entry))) in
+        let k : at (freshWord 0) (replace (m .cells) c₀ w) c₀ ≡ w = replace-same (freshWord 0) (m .cells) c₀ w (R .cells j (omega (arith, mine S .within, clean-entry))) in
         record {
           entry-done = clean-entry;
           low = rw s (omega arith);
           answered = record { frame = frame-cell p m c₀ w; saves = λ e. refl; answer = at-step-as S (clean j yes?) s .1 };
-          contents = λ c. same? c c₀ (λ d. rw (d, k) (weaken h)) (λ ne. rw (replace-other (fresh 0) (m .cells) c₀ c w ne) (S .invariant .contents c));
+          contents = λ c. same? c c₀ (λ d. rw (d, k) (weaken h)) (λ ne. rw (replace-other (freshWord 0) (m .cells) c₀ c w ne) (S .invariant .contents c));
           past = past-by (replace (m .cells) c₀ w) (λ i. not-mine h (sym k ∙ i));
         }
 

@@ -9,7 +9,7 @@ use lib.Dec.{eqb}
 use lib.ListN.{length}
 use borrow.Author.Tests.{eqb-true, eqb-false}
 use Rattle.model.specs.Lists.{at, replace}
-use Rattle.model.specs.Word.{Word, fresh, Memory, cellOf, statusOf, saved, setCell, setStatus, setSave, current, currentOf}
+use Rattle.model.specs.Word.{Word, Memory, cellOf, statusOf, saved, setCell, setStatus, setSave, current, currentOf, freshWord}
 use Rattle.model.specs.Exchange.{start, commit, clean, cleanMark, install, fail, mark, Exchange, Exchanged, entryAt, changing, installed, cleaned}
 use Rattle.model.proofs.Lists.{replace-same, replace-other, same?}
 use Rattle.model.proofs.Fit.Elements.{and-left}
@@ -52,8 +52,8 @@ module _ {below : ℕ → ℕ → Type 0} {m : Memory} {acts : List Act} {p : �
   -- one cell gets a word with the current value that it had
   cell-current : (c : ℕ) (w : Word) → c < length (m .cells) → current (m .status) (m .saves) w ≡ currentOf m c → (d : ℕ) → currentOf (setCell m c w) d ≡ currentOf m d
   cell-current c w l e d = same? d c
-      (λ k. rw (k, replace-same (fresh 0) (m .cells) c w l) e)
-      (λ ne. rw (replace-other (fresh 0) (m .cells) c d w ne))
+      (λ k. rw (k, replace-same (freshWord 0) (m .cells) c w l) e)
+      (λ ne. rw (replace-other (freshWord 0) (m .cells) c d w ne))
 
   mark-current : (q : ℕ) → q < length (m .status) → statusOf m q ≢ 2 → (c : ℕ) → currentOf (setStatus m q 1) c ≡ currentOf m c
   mark-current q l ne = shared-current refl (frame-mark p m q l ne) (kept-two (mark-keeps m q l ne p)) (λ e h. refl)

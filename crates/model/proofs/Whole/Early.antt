@@ -9,7 +9,7 @@ use lib.ListN.{length}
 use borrow.Author.Tests.{not-true}
 use Rattle.model.specs.Lists.{at, replace}
 use Rattle.model.specs.Word.{Word, Memory, statusOf, saved}
-use Rattle.model.specs.Exchange.{Entry, entry, Step, Exchange, entryAt, installed, to, loaded, noted, onward}
+use Rattle.model.specs.Exchange.{Entry, entry, Step, Exchange, entryAt, installed, to, onward, withInit, initLoaded}
 use Rattle.model.proofs.Lists.{replace-same, replace-other, length-replace, at-below, same?, impossible}
 use Rattle.model.proofs.Whole.Act.{Act, free, exchanging, working, stage, undecided, uncleaned, undecided-all, here, stageOf}
 use Rattle.model.proofs.Whole.Invariant.{Held, WellFormed, valid, held, Anyone, Loaded, AtStep, InExchange, Knows, Rank, itself, idle, lower, Situation}
@@ -31,19 +31,19 @@ pub follows-onward : (x : Exchange) (s : Step) → Follows x (onward x s)
 follows-onward x s = record { size = refl; cell = λ e. refl; old = λ e. refl; new = λ e. refl; done = λ e h. refl }
 
 module _ (x : Exchange) (w : Word) (o : Bool) (s : Step) (l : x .i < length (x .entries)) where
-  pub noted-here : here (noted x w o s) ≡ loaded (here x) w o
-  noted-here = replace-same (entry 0 0 0) (x .entries) (x .i) (loaded (here x) w o) l
+  pub noted-here : here (initLoaded x w o s) ≡ withInit (here x) w o
+  noted-here = replace-same (entry 0 0 0) (x .entries) (x .i) (withInit (here x) w o) l
 
-  pub noted-other : (e : ℕ) → e ≢ x .i → entryAt (noted x w o s) e ≡ entryAt x e
-  noted-other e ne = replace-other (entry 0 0 0) (x .entries) (x .i) e (loaded (here x) w o) ne
+  pub noted-other : (e : ℕ) → e ≢ x .i → entryAt (initLoaded x w o s) e ≡ entryAt x e
+  noted-other e ne = replace-other (entry 0 0 0) (x .entries) (x .i) e (withInit (here x) w o) ne
 
-  noted-pair : (f : Entry → ℕ) → f (loaded (here x) w o) ≡ f (here x) → (e : ℕ) → f (entryAt (noted x w o s) e) ≡ f (entryAt x e)
+  noted-pair : (f : Entry → ℕ) → f (withInit (here x) w o) ≡ f (here x) → (e : ℕ) → f (entryAt (initLoaded x w o s) e) ≡ f (entryAt x e)
   noted-pair f h e = same? e (x .i) (λ k. rw k (ap f noted-here ∙ h)) (λ ne. ap f (noted-other e ne))
 
-  pub follows-noted : Follows x (noted x w o s)
+  pub follows-noted : Follows x (initLoaded x w o s)
   follows-noted =
       record {
-        size = length-replace (x .entries) (x .i) (loaded (here x) w o);
+        size = length-replace (x .entries) (x .i) (withInit (here x) w o);
         cell = noted-pair (λ (n : Entry). n .cell) refl;
         old = noted-pair (λ (n : Entry). n .old) refl;
         new = noted-pair (λ (n : Entry). n .new) refl;

@@ -6,7 +6,7 @@ use mathlib.Core.Logic.{_≢_}
 use mathlib.Core.List.{List}
 use lib.ListN.{length}
 use Rattle.model.specs.Lists.{at}
-use Rattle.model.specs.Word.{Word, fresh, Memory, current, currentOf, Reading, loading, looking, fetching}
+use Rattle.model.specs.Word.{Word, Memory, current, currentOf, Reading, loading, looking, fetching, freshWord}
 use Rattle.model.specs.Exchange.{Entry, Step, start, test, load, look, fetch, fail, mark, install, commit, save, clean, cleanMark, Exchange, entryAt, installed}
 use Rattle.model.proofs.Fit.Exchange.{entryOf, SamePairs}
 use Rattle.model.proofs.Whole.Act.{Act, free, reading, exchanging, actAt, stage, undecided, uncleaned, here}
@@ -43,7 +43,7 @@ ReplacedBy (exchanging x) c w = Replaces x c w
 
 -- a content on which task r counts is in its cell, or was replaced by a task that r is below, or the cell was hit
 pub data CountsOn (below : ℕ → ℕ → Type 0) (hit : ℕ → Type 0) (cells : List Word) (acts : List Act) (r c : ℕ) (w : Word) : Type 0 where
-  there : at (fresh 0) cells c ≡ w → CountsOn below hit cells acts r c w
+  there : at (freshWord 0) cells c ≡ w → CountsOn below hit cells acts r c w
   replaced : (q : ℕ) → below r q → ReplacedBy (actAt acts q) c w → CountsOn below hit cells acts r c w
   was-hit : hit c → CountsOn below hit cells acts r c w
 

@@ -5,7 +5,7 @@ use mathlib.Core.Path.{_≡_, refl, _∙_, subst}
 use mathlib.Core.Logic.{_≢_, _⊎_, inl, inr}
 use mathlib.Core.List.{List}
 use Rattle.model.specs.Lists.{at, replace}
-use Rattle.model.specs.Word.{Word, fresh, Memory, cellOf, statusOf}
+use Rattle.model.specs.Word.{Word, Memory, cellOf, statusOf, freshWord}
 use Rattle.model.specs.Exchange.{Step, Exchange}
 use Rattle.model.proofs.Lists.{replace-same}
 use Rattle.model.proofs.Whole.Act.{Act, free, exchanging, actAt, stage, undecided, uncleaned}
@@ -42,7 +42,7 @@ module _ {below : ℕ → ℕ → Type 0} {m : Memory} {acts : List Act} {p : �
       go (inl h) = absurd (ne h)
       go (inr h) = h
 
-  pub still-counts : (cells : List Word) (v : Act) {c : ℕ} {w : Word} → (cellOf m c ≡ w → at (fresh 0) cells c ≡ w) → CountsOn below (H .hit p) (m .cells) acts p c w → CountsOn below (H′ .hit p) cells (replace acts p v) p c w
+  pub still-counts : (cells : List Word) (v : Act) {c : ℕ} {w : Word} → (cellOf m c ≡ w → at (freshWord 0) cells c ≡ w) → CountsOn below (H .hit p) (m .cells) acts p c w → CountsOn below (H′ .hit p) cells (replace acts p v) p c w
   still-counts cells v {c} {w} f k = go (there-or-hit k)
     where
       go : (cellOf m c ≡ w) ⊎ H .hit p c → CountsOn below (H′ .hit p) cells (replace acts p v) p c w

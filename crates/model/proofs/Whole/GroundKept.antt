@@ -7,7 +7,7 @@ use mathlib.Core.List.{List}
 use native.Mathlib.Omega.{arith}
 use lib.ListN.{length}
 use Rattle.model.specs.Lists.{at}
-use Rattle.model.specs.Word.{Word, fresh, Memory, cellOf, statusOf, setCell}
+use Rattle.model.specs.Word.{Word, Memory, cellOf, statusOf, setCell, freshWord}
 use Rattle.model.specs.Exchange.{Entry, start, load, install, commit, mark, fail, save, clean, cleanMark, Exchange, Exchanged, goes, ends, entryAt, installed, to}
 use Rattle.model.proofs.Lists.{replace-same, replace-other, same?}
 use Rattle.model.proofs.Fit.Elements.{and-right}
@@ -122,9 +122,9 @@ module _ {below : ℕ → ℕ → Type 0} {m : Memory} {acts : List Act} {p : �
           high = j-high;
           content = λ c w o k. same? c c₀
               (λ d. absurd (o (entryAt x j) j (sym k ∙ ap (λ (z : ℕ). cellOf m z) d ∙ h)))
-              (λ ne. rw (replace-other (fresh 0) (m .cells) c₀ c v ne) k);
+              (λ ne. rw (replace-other (freshWord 0) (m .cells) c₀ c v ne) k);
           entry = λ r B b l. back r B b;
-          others = λ e l g k. rw (replace-other (fresh 0) (m .cells) c₀ (entryAt x e .cell) v (λ d. let z = mine S .distinct e j (omega (arith, mine S .within)) j-inside d in omega arith)) k;
+          others = λ e l g k. rw (replace-other (freshWord 0) (m .cells) c₀ (entryAt x e .cell) v (λ d. let z = mine S .distinct e j (omega (arith, mine S .within)) j-inside d in omega arith)) k;
           marked = λ r ne. inl refl;
           grounds = clean-grounds;
         }
@@ -150,7 +150,7 @@ module _ {below : ℕ → ℕ → Type 0} {m : Memory} {acts : List Act} {p : �
   cleared : {n : Memory} (j : ℕ) (yes? : Bool) → Room m p (x .entries) → Cleans p m x j yes? n → Cleared j yes? n
   cleared j yes? R (renews s e h) = cleared-cell j yes? s _ h (λ r B b. inr (changing-hits S T P r j B b (j-inside j yes? s) (changes (entryAt x j) (and-right yes? _ e))))
   cleared j yes? R (passes s e h) = cleared-lost j yes? s h
-  cleared j yes? R (gives-back s e h) = cleared-cell j yes? s _ h (λ r B b. inl (replace-same (fresh 0) (m .cells) (entryAt x j .cell) (entryAt x j .init) (R .cells j (j-inside j yes? s))))
+  cleared j yes? R (gives-back s e h) = cleared-cell j yes? s _ h (λ r B b. inl (replace-same (freshWord 0) (m .cells) (entryAt x j .cell) (entryAt x j .init) (R .cells j (j-inside j yes? s))))
   cleared j yes? R (leaves s e h o) = cleared-lost j yes? s h
   cleared j yes? R (marks-after s) =
       let k = at-step-as S (cleanMark j yes?) s in

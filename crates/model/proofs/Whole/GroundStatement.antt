@@ -8,8 +8,8 @@ use native.Mathlib.Omega.{arith}
 use lib.ListN.{length}
 use borrow.Author.Tests.{not-true}
 use Rattle.model.specs.Lists.{at, replace}
-use Rattle.model.specs.Word.{Word, fresh, Memory, cellOf, statusOf, saved, setCell, setStatus, setSave, own}
-use Rattle.model.specs.Exchange.{Entry, Step, test, load, look, fetch, fail, mark, install, save, Exchange, entryAt, installed, to, noted, onward}
+use Rattle.model.specs.Word.{Word, Memory, cellOf, statusOf, saved, setCell, setStatus, setSave, own, freshWord}
+use Rattle.model.specs.Exchange.{Entry, Step, test, load, look, fetch, fail, mark, install, save, Exchange, entryAt, installed, to, onward, initLoaded}
 use Rattle.model.proofs.Lists.{replace-same, replace-other, same?}
 use Rattle.model.proofs.Whole.Act.{Act, free, exchanging, actAt, stageOf, uncleaned, here}
 use Rattle.model.proofs.Whole.Invariant.{Loaded, Situation, Room}
@@ -49,24 +49,24 @@ module _ {below : ℕ → ℕ → Type 0} {m : Memory} {acts : List Act} {p : �
   pub counts-on : (cells : List Word) (v : Act) → cells ≡ m .cells → {c : ℕ} {w : Word} → CountsOn below (H .hit p) (m .cells) acts p c w → CountsOn below (H′ .hit p) cells (replace acts p v) p c w
   counts-on cells v ec k = still-counts S T P cells v (λ h. rw ec h) k
 
-  pub load-past : SeesNow m p H′ → x .step ≡ load → Outcome-past S T P m (exchanging (noted x (cellOf m (here x .cell)) false look))
+  pub load-past : SeesNow m p H′ → x .step ≡ load → Outcome-past S T P m (exchanging (initLoaded x (cellOf m (here x .cell)) false look))
   load-past now s =
       let l = inside S load s refl in
-      quiet-past S T P (noted x (cellOf m (here x .cell)) false look) (follows-noted x _ false look l) refl (rw s) (rw s)
+      quiet-past S T P (initLoaded x (cellOf m (here x .cell)) false look) (follows-noted x _ false look l) refl (rw s) (rw s)
       (rw (noted-here x (cellOf m (here x .cell)) false look l) (there refl, now (here x .cell)))
 
-  pub look-own-past : x .step ≡ look → own (m .status) (here x .init) ≡ true → Outcome-past S T P m (exchanging (noted x (here x .init) false (save (here x .init .value))))
+  pub look-own-past : x .step ≡ look → own (m .status) (here x .init) ≡ true → Outcome-past S T P m (exchanging (initLoaded x (here x .init) false (save (here x .init .value))))
   look-own-past s w =
       let l = inside S look s refl in
       let h = past-step-as S T P look s in
-      quiet-past S T P (noted x (here x .init) false (save (here x .init .value))) (follows-noted x _ false _ l) refl (rw s) (rw s)
+      quiet-past S T P (initLoaded x (here x .init) false (save (here x .init .value))) (follows-noted x _ false _ l) refl (rw s) (rw s)
       (rw (noted-here x (here x .init) false (save (here x .init .value)) l) (counts-on (m .cells) _ refl (h .0), rw (current-own (m .status) (m .saves) (here x .init) w) at (seen-later T (running S T P) (h .1))))
 
-  pub look-other-past : x .step ≡ look → own (m .status) (here x .init) ≡ false → Outcome-past S T P m (exchanging (noted x (here x .init) true fetch))
+  pub look-other-past : x .step ≡ look → own (m .status) (here x .init) ≡ false → Outcome-past S T P m (exchanging (initLoaded x (here x .init) true fetch))
   look-other-past s w =
       let l = inside S look s refl in
       let h = past-step-as S T P look s in
-      quiet-past S T P (noted x (here x .init) true fetch) (follows-noted x _ true fetch l) refl (rw s) (rw s)
+      quiet-past S T P (initLoaded x (here x .init) true fetch) (follows-noted x _ true fetch l) refl (rw s) (rw s)
       (rw (noted-here x (here x .init) true fetch l) (counts-on (m .cells) _ refl (h .0), seen-later T (running S T P) (h .1)))
 
   pub fetch-past : x .step ≡ fetch → Outcome-past S T P m (exchanging (to x (save (saved (m .saves) (here x .init .task) (here x .init .count)))))
@@ -102,7 +102,7 @@ module _ {below : ℕ → ℕ → Type 0} {m : Memory} {acts : List Act} {p : �
   -- INSTALL
   onward-past : (cells : List Word) (s : Step) → x .step ≡ install → uncleaned (stageOf s) ≡ 0
       → CountsOn below (H′ .hit p) cells (replace acts p (exchanging (onward x s))) p (here x .cell) (installed p (here x) (x .i))
-      → ((e : ℕ) → e < x .i → cellOf m (entryAt x e .cell) ≡ installed p (entryAt x e) e → at (fresh 0) cells (entryAt x e .cell) ≡ installed p (entryAt x e) e)
+      → ((e : ℕ) → e < x .i → cellOf m (entryAt x e .cell) ≡ installed p (entryAt x e) e → at (freshWord 0) cells (entryAt x e .cell) ≡ installed p (entryAt x e) e)
       → PastStep (CountsOn below (H′ .hit p) cells (replace acts p (exchanging (onward x s))) p) (H′ .seen p) (H′ .hit p) (GroundsOf H′ p) (m .status) (m .saves) (onward x s) s
       → PastExchange below H′ cells (m .status) (m .saves) (replace acts p (exchanging (onward x s))) p (onward x s)
   onward-past cells s e l0 new kept h =
@@ -125,11 +125,11 @@ module _ {below : ℕ → ℕ → Type 0} {m : Memory} {acts : List Act} {p : �
             (λ d.
             replaced p b (rw (replace-same free acts p (exchanging (onward x test)) (S .task))
             (record { number = x .i; low = omega arith; high = omega arith; cell = sym d; init = sym h ∙ ap (λ (z : ℕ). cellOf m z) (sym d) ∙ k })))
-            (λ ne. there (rw (replace-other (fresh 0) (m .cells) (here x .cell) c w ne) k));
+            (λ ne. there (rw (replace-other (freshWord 0) (m .cells) (here x .cell) c w ne) k));
         cover = λ r c u B b C. replaced-on S T P (onward x test) cells (follows-onward x test) b C (omega arith) (omega (arith, C .high));
         marked = λ r ne. inl refl;
-        own = onward-past cells test s refl (there (replace-same (fresh 0) (m .cells) (here x .cell) w (R .cells (x .i) l)))
-            (λ e g k. rw (replace-other (fresh 0) (m .cells) (here x .cell) (entryAt x e .cell) w (λ d. let z = mine S .distinct e (x .i) (omega arith) l d in omega arith)) k) tt;
+        own = onward-past cells test s refl (there (replace-same (freshWord 0) (m .cells) (here x .cell) w (R .cells (x .i) l)))
+            (λ e g k. rw (replace-other (freshWord 0) (m .cells) (here x .cell) (entryAt x e .cell) w (λ d. let z = mine S .distinct e (x .i) (omega arith) l d in omega arith)) k) tt;
       }
 
   pub miss-past : x .step ≡ install → cellOf m (here x .cell) ≢ here x .init → Outcome-past S T P m (exchanging (onward x fail))

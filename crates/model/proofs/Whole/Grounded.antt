@@ -6,7 +6,7 @@ use mathlib.Core.Logic.{_≢_, inl}
 use mathlib.Core.List.{List}
 use native.Mathlib.Omega.{arith}
 use Rattle.model.specs.Lists.{at, replace}
-use Rattle.model.specs.Word.{Word, Memory, cellOf, statusOf, setStatus, saved, own, Reading, loading, looking, fetching, gives, lookBy, readTick}
+use Rattle.model.specs.Word.{Word, Memory, cellOf, statusOf, setStatus, saved, own, Reading, loading, looking, fetching, gives, readTick, lookingBy}
 use Rattle.model.specs.Exchange.{Entry, Step, start, test, Exchange, Exchanged, ends, exchangeTick}
 use Rattle.model.proofs.Lists.{replace-same, replace-other, impossible}
 use Rattle.model.proofs.Whole.Act.{Act, free, reading, exchanging, actBy, actOf, started?, actAfter, memoryAfter, Quiet, Distinct}
@@ -56,8 +56,8 @@ module _ {below : ℕ → ℕ → Type 0} {m : Memory} {acts : List Act} {p : �
   mine-past : {r : Reading} → Situation below m acts p (reading c r) → PastAct below H (m .cells) (m .status) (m .saves) acts p (reading c r)
   mine-past S = subst (λ (v : Act). PastAct below H (m .cells) (m .status) (m .saves) acts p v) (S .act) (P .knows p)
 
-  looked-past : (w : Word) → Situation below m acts p (reading c (looking w)) → (b : Bool) → own (m .status) w ≡ b → PastAct below H′ (m .cells) (m .status) (m .saves) (replace acts p (actRead c (lookBy b w))) p (actRead c (lookBy b w))
-  unfolding lookBy
+  looked-past : (w : Word) → Situation below m acts p (reading c (looking w)) → (b : Bool) → own (m .status) w ≡ b → PastAct below H′ (m .cells) (m .status) (m .saves) (replace acts p (actRead c (lookingBy b w))) p (actRead c (lookingBy b w))
+  unfolding lookingBy
   looked-past w S true e = tt
   looked-past w S false e = seen-before S _ (mine-past S)
 
@@ -70,8 +70,8 @@ module _ {below : ℕ → ℕ → Type 0} {m : Memory} {acts : List Act} {p : �
   pub reading-past : (r : Reading) → Situation below m acts p (reading c r) → Past below H′ m (replace acts p (actRead c (readTick m c r)))
   reading-past r S = quiet-past S tt T P (actRead c (readTick m c r)) (reading-moved r S) refl (λ r ne. refl) (read-past r S)
 
-  looked-gives : (w : Word) (v : ℕ) → Situation below m acts p (reading c (looking w)) → (b : Bool) → own (m .status) w ≡ b → lookBy b w ≡ gives v → H′ .seen p c v
-  unfolding lookBy
+  looked-gives : (w : Word) (v : ℕ) → Situation below m acts p (reading c (looking w)) → (b : Bool) → own (m .status) w ≡ b → lookingBy b w ≡ gives v → H′ .seen p c v
+  unfolding lookingBy
   looked-gives w v S true e g =
       let k : w .value ≡ v = cc in
       rw (← k, ← (current-own (m .status) (m .saves) w e)) (seen-before S _ (mine-past S))

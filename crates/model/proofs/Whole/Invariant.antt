@@ -7,7 +7,7 @@ use mathlib.Core.List.{List, []}
 use lib.Dec.{eqb}
 use lib.ListN.{length}
 use Rattle.model.specs.Lists.{at}
-use Rattle.model.specs.Word.{Word, fresh, Memory, cellOf, saved, own, current, Reading, loading, looking, fetching}
+use Rattle.model.specs.Word.{Word, Memory, cellOf, saved, own, current, Reading, loading, looking, fetching, freshWord}
 use Rattle.model.specs.Exchange.{Entry, entry, Step, start, test, load, look, fetch, fail, mark, install, commit, save, clean, cleanMark, Exchange, entryAt, installed}
 use Rattle.model.proofs.Whole.Act.{Act, free, reading, exchanging, actAt, working, stage, undecided, hopeful, uncleaned, covering, here, Distinct}
 
@@ -95,7 +95,7 @@ CoveredBy (exchanging x) w = Covers x w
 
 -- what task p has put into cell c stands there, or is covered by a task that p is below
 pub data Stands (below : ℕ → ℕ → Type 0) (cells : List Word) (acts : List Act) (p c : ℕ) (w : Word) : Type 0 where
-  stands : at (fresh 0) cells c ≡ w → Stands below cells acts p c w
+  stands : at (freshWord 0) cells c ≡ w → Stands below cells acts p c w
   covered : (q : ℕ) → below p q → CoveredBy (actAt acts q) w → Stands below cells acts p c w
 
 abbrev pub Standing : (ℕ → ℕ → Type 0) → List Word → List ℕ → List Act → ℕ → Act → Type 0

@@ -5,7 +5,7 @@ use mathlib.Core.Path.{_≡_, refl, sym, _∙_, ap, subst}
 use mathlib.Core.List.{List}
 use native.Mathlib.Omega.{arith}
 use Rattle.model.specs.Lists.{replace}
-use Rattle.model.specs.Word.{Word, Memory, cellOf, setStatus, own, Reading, loading, looking, fetching, Read, reads, gives, lookBy, readTick}
+use Rattle.model.specs.Word.{Word, Memory, cellOf, setStatus, own, Reading, loading, looking, fetching, Read, reads, gives, readTick, lookingBy}
 use Rattle.model.specs.Exchange.{Entry, start, test, Exchange, Exchanged}
 use Rattle.model.proofs.Lists.{replace-same, impossible}
 use Rattle.model.proofs.Whole.Act.{Act, free, reading, exchanging, actAt, actAfter, memoryAfter, Quiet, Distinct}
@@ -62,8 +62,8 @@ actRead c (reads r) = reading c r
 actRead c (gives v) = free
 
 module _ {below : ℕ → ℕ → Type 0} {m : Memory} {acts : List Act} {p c : ℕ} where
-  looked-moved : {w : Word} → Situation below m acts p (reading c (looking w)) → (b : Bool) → own (m .status) w ≡ b → Moved below m m acts p (actRead c (lookBy b w))
-  unfolding lookBy
+  looked-moved : {w : Word} → Situation below m acts p (reading c (looking w)) → (b : Bool) → own (m .status) w ≡ b → Moved below m m acts p (actRead c (lookingBy b w))
+  unfolding lookingBy
   looked-moved S true e = quiet-moved S tt free refl (frame-none p m) tt
   looked-moved {w} S false e =
       let k : WellFormed (λ r. below r p) acts c w = subst (λ (v : Act). Knows (λ r. below r p) (m .status) (m .saves) acts p v) (S .act) (S .invariant .knows p) in

@@ -7,7 +7,7 @@ use lib.Dec.{eqb}
 use lib.ListN.{length}
 use borrow.Author.Tests.{eqb-true, eqb-false}
 use Rattle.model.specs.Word.{sameWord, Memory, cellOf, statusOf, saved, setCell, setStatus, setSave, own}
-use Rattle.model.specs.Exchange.{Step, start, test, load, look, fetch, fail, mark, install, commit, save, clean, cleanMark, Exchange, Exchanged, goes, ends, entryAt, changing, installed, cleaned, to, noted, onward, testBy, lookBy, afterSave, installBy, cleanBy, commitBy, nextBy, next, cleanWordBy, exchangeTick}
+use Rattle.model.specs.Exchange.{Step, start, test, load, look, fetch, fail, mark, install, commit, save, clean, cleanMark, Exchange, Exchanged, goes, ends, entryAt, changing, installed, cleaned, to, onward, testBy, lookBy, afterSave, installBy, cleanBy, commitBy, nextBy, next, cleanWordBy, exchangeTick, initLoaded}
 use Rattle.model.proofs.Whole.Act.{here}
 use Rattle.model.proofs.Fit.Elements.{and-left, and-right, or-cases, or-none, or-none-right}
 use Rattle.model.proofs.Whole.Words.{same-word, other-word}
@@ -34,9 +34,9 @@ pub data Outcome (p : ℕ) (m : Memory) (x : Exchange) : Exchanged → Type 0 wh
   starts : x .step ≡ start → Outcome p m x (goes (setStatus m p 0) (record { entries = x .entries; i = 0; step = test }))
   tests-done : x .step ≡ test → (x .i ≡ length (x .entries)) ⊎ (statusOf m p ≡ 1) → Outcome p m x (goes m (to x commit))
   tests-on : x .step ≡ test → (x .i ≢ length (x .entries)) × (statusOf m p ≢ 1) → Outcome p m x (goes m (to x load))
-  loads : x .step ≡ load → Outcome p m x (goes m (noted x (cellOf m (here x .cell)) false look))
-  looks-own : x .step ≡ look → own (m .status) (here x .init) ≡ true → Outcome p m x (goes m (noted x (here x .init) false (save (here x .init .value))))
-  looks-other : x .step ≡ look → own (m .status) (here x .init) ≡ false → Outcome p m x (goes m (noted x (here x .init) true fetch))
+  loads : x .step ≡ load → Outcome p m x (goes m (initLoaded x (cellOf m (here x .cell)) false look))
+  looks-own : x .step ≡ look → own (m .status) (here x .init) ≡ true → Outcome p m x (goes m (initLoaded x (here x .init) false (save (here x .init .value))))
+  looks-other : x .step ≡ look → own (m .status) (here x .init) ≡ false → Outcome p m x (goes m (initLoaded x (here x .init) true fetch))
   fetches : x .step ≡ fetch → Outcome p m x (goes m (to x (save (saved (m .saves) (here x .init .task) (here x .init .count)))))
   saves-differing : (v : ℕ) → x .step ≡ save v → v ≢ here x .old → Outcome p m x (goes (setSave m p (x .i) v) (to x fail))
   saves-to-mark : (v : ℕ) → x .step ≡ save v → v ≡ here x .old → here x .overlapped ≡ true → changing (here x) ≡ true → Outcome p m x (goes (setSave m p (x .i) v) (to x mark))

@@ -7,7 +7,7 @@ use mathlib.Core.List.{List}
 use native.Mathlib.Omega.{arith}
 use lib.ListN.{length}
 use Rattle.model.specs.Lists.{at, replace}
-use Rattle.model.specs.Word.{Word, Memory, cellOf, statusOf, own, Reading, loading, looking, fetching, reads, gives, lookBy, readTick}
+use Rattle.model.specs.Word.{Word, Memory, cellOf, statusOf, own, Reading, loading, looking, fetching, reads, gives, readTick, lookingBy}
 use Rattle.model.specs.Exchange.{Entry, Step, start, test, load, look, fetch, fail, mark, install, commit, save, clean, cleanMark, Exchange, exchangeOf, Exchanged, goes, ends, exchangeTick}
 use Rattle.model.proofs.Lists.{replace-same, length-replace, impossible}
 use Rattle.model.proofs.Whole.Outcome.{Cleans, renews, passes, gives-back, leaves, marks-after, Outcome, starts, tests-done, tests-on, loads, looks-own, looks-other, fetches, saves-differing, saves-to-mark, saves, fails, marks, installs, misses, decides, decides-last, cleans, cleans-last, cleans-to-mark, outcome}
@@ -25,8 +25,8 @@ ReadingAt t (looking w) = t ≡ 1
 ReadingAt t (fetching w) = t ≡ 2
 
 module _ (c t : ℕ) where
-  looked-on : (w : Word) (s : Reading) (b : Bool) → lookBy b w ≡ reads s → s ≡ fetching w
-  unfolding lookBy
+  looked-on : (w : Word) (s : Reading) (b : Bool) → lookingBy b w ≡ reads s → s ≡ fetching w
+  unfolding lookingBy
   looked-on w s true e = impossible (cc)
   looked-on w s false e = cc
 

@@ -5,7 +5,7 @@ use mathlib.Core.Path.{_≡_, refl, sym, _∙_, ap, subst}
 use mathlib.Core.Logic.{_≢_}
 use mathlib.Core.List.{List}
 use Rattle.model.specs.Lists.{at, replace}
-use Rattle.model.specs.Word.{Word, fresh, Memory, cellOf, statusOf}
+use Rattle.model.specs.Word.{Word, Memory, cellOf, statusOf, freshWord}
 use Rattle.model.specs.Exchange.{Exchange, entryAt, installed}
 use Rattle.model.proofs.Lists.{replace-same, replace-other, same?}
 use Rattle.model.proofs.Whole.Act.{Act, free, reading, exchanging, actAt, stage, hopeful}
@@ -34,7 +34,7 @@ abbrev pub AllInstalled : List Word → List ℕ → ℕ → Act → Type 0
 AllInstalled cells status p free = Unit {0}
 AllInstalled cells status p (reading c r) = Unit {0}
 AllInstalled cells status p (exchanging x) =
-    hopeful (stage x) ≡ true → at 0 status p ≡ 0 → (e : ℕ) → e < x .i → at (fresh 0) cells (entryAt x e .cell) ≡ installed p (entryAt x e) e
+    hopeful (stage x) ≡ true → at 0 status p ≡ 0 → (e : ℕ) → e < x .i → at (freshWord 0) cells (entryAt x e .cell) ≡ installed p (entryAt x e) e
 
 -- what is asked of a statement of p that leads from the memory m and act v₀ to n and v
 pub record Upholds (below : ℕ → ℕ → Type 0) (m n : Memory) (p : ℕ) (v₀ v : Act) : Type 0 where

@@ -8,8 +8,8 @@ use native.Mathlib.Omega.{arith}
 use lib.ListN.{length}
 use borrow.Author.Tests.{not-true}
 use Rattle.model.specs.Lists.{at, replace}
-use Rattle.model.specs.Word.{fresh, Memory, cellOf, statusOf, saved, setCell, setStatus, setSave, own}
-use Rattle.model.specs.Exchange.{Entry, Step, test, load, look, fetch, fail, mark, install, commit, save, Exchange, changing, installed, to, loaded, noted, onward}
+use Rattle.model.specs.Word.{Memory, cellOf, statusOf, saved, setCell, setStatus, setSave, own, freshWord}
+use Rattle.model.specs.Exchange.{Entry, Step, test, load, look, fetch, fail, mark, install, commit, save, Exchange, changing, installed, to, onward, withInit, initLoaded}
 use Rattle.model.proofs.Lists.{replace-same, replace-other, same?, impossible}
 use Rattle.model.proofs.Whole.Act.{Act, exchanging, working, stageOf, undecided, uncleaned, here}
 use Rattle.model.proofs.Whole.Invariant.{WellFormed, held, Anyone, Loaded, Found, AtStep, InExchange, Situation, Room}
@@ -28,20 +28,20 @@ module _ {below : ℕ → ℕ → Type 0} {m : Memory} {acts : List Act} {p : �
   pub test-on-moved : x .step ≡ test → x .i ≢ length (x .entries) → Moved below m m acts p (exchanging (to x load))
   test-on-moved s ne = early-quiet S (to x load) (follows-to x load) refl (rw s) refl (λ _. omega (arith, mine S .within)) tt
 
-  pub load-moved : x .step ≡ load → Moved below m m acts p (exchanging (noted x (cellOf m (here x .cell)) false look))
+  pub load-moved : x .step ≡ load → Moved below m m acts p (exchanging (initLoaded x (cellOf m (here x .cell)) false look))
   load-moved s =
       let l = inside S load s refl in
-      let x′ = noted x (cellOf m (here x .cell)) false look in
+      let x′ = initLoaded x (cellOf m (here x .cell)) false look in
       early-quiet S x′ (follows-noted x _ false look l) refl (rw s) refl (λ _. l)
       (rw (noted-here x _ false look l) (move-content p (exchanging x′) (below-clear S) (loaded-content S l (S .invariant .contents (here x .cell)))))
 
   looked-moved : (o : Bool) (s : Step) → x .step ≡ look → own (m .status) (here x .init) ≡ not o → undecided (stageOf s) ≡ true
-      → (Loaded (λ r. below r p) (m .status) (replace acts p (exchanging (noted x (here x .init) o s))) (loaded (here x) (here x .init) o)
-      → AtStep (λ r. below r p) (m .status) (m .saves) (replace acts p (exchanging (noted x (here x .init) o s))) p (noted x (here x .init) o s) s)
-      → Moved below m m acts p (exchanging (noted x (here x .init) o s))
+      → (Loaded (λ r. below r p) (m .status) (replace acts p (exchanging (initLoaded x (here x .init) o s))) (withInit (here x) (here x .init) o)
+      → AtStep (λ r. below r p) (m .status) (m .saves) (replace acts p (exchanging (initLoaded x (here x .init) o s))) p (initLoaded x (here x .init) o s) s)
+      → Moved below m m acts p (exchanging (initLoaded x (here x .init) o s))
   looked-moved o s e w u′ h =
       let l = inside S look e refl in
-      let x′ = noted x (here x .init) o s in
+      let x′ = initLoaded x (here x .init) o s in
       early-quiet S x′ (follows-noted x _ o s l) refl (rw e) u′ (λ _. l)
       (h (record { well-formed = move-content p (exchanging x′) (below-clear S) (at-step-as S look e); looked = sym (double o) ∙ ap not (sym w) }))
     where
@@ -49,13 +49,13 @@ module _ {below : ℕ → ℕ → Type 0} {m : Memory} {acts : List Act} {p : �
       double true = refl
       double false = refl
 
-  pub look-own-moved : x .step ≡ look → own (m .status) (here x .init) ≡ true → Moved below m m acts p (exchanging (noted x (here x .init) false (save (here x .init .value))))
+  pub look-own-moved : x .step ≡ look → own (m .status) (here x .init) ≡ true → Moved below m m acts p (exchanging (initLoaded x (here x .init) false (save (here x .init .value))))
   look-own-moved s w =
       let l = inside S look s refl in
       looked-moved false (save (here x .init .value)) s w refl
       (λ L. rw (noted-here x (here x .init) false (save (here x .init .value)) l) (L, sym (current-own (m .status) (m .saves) (here x .init) w)))
 
-  pub look-other-moved : x .step ≡ look → own (m .status) (here x .init) ≡ false → Moved below m m acts p (exchanging (noted x (here x .init) true fetch))
+  pub look-other-moved : x .step ≡ look → own (m .status) (here x .init) ≡ false → Moved below m m acts p (exchanging (initLoaded x (here x .init) true fetch))
   look-other-moved s w = let l = inside S look s refl in looked-moved true fetch s w refl (λ L. rw (noted-here x (here x .init) true fetch l) (L, refl))
 
   pub fetch-moved : x .step ≡ fetch → Moved below m m acts p (exchanging (to x (save (saved (m .saves) (here x .init .task) (here x .init .count)))))
@@ -151,8 +151,8 @@ module _ {below : ℕ → ℕ → Type 0} {m : Memory} {acts : List Act} {p : �
         frame = frame-cell p m (here x .cell) w;
         contents = λ c. same? c (here x .cell)
             (λ k.
-            rw (k, replace-same (fresh 0) (m .cells) (here x .cell) w (R .cells (x .i) l))
+            rw (k, replace-same (freshWord 0) (m .cells) (here x .cell) w (R .cells (x .i) l))
             (held tt (held-on S (onward x test) (follows-onward x test) (x .i) (omega arith) (omega arith) refl)))
-            (λ ne. rw (replace-other (fresh 0) (m .cells) (here x .cell) c w ne) (onward-content test refl c));
+            (λ ne. rw (replace-other (freshWord 0) (m .cells) (here x .cell) c w ne) (onward-content test refl c));
         knows = installed-knows test e refl (λ w. impossible (cc)) tt;
       }

@@ -5,7 +5,7 @@ use mathlib.Core.Path.{_≡_, refl, sym, _∙_, ap}
 use mathlib.Core.Logic.{_≢_}
 use mathlib.Core.List.{List}
 use native.Mathlib.Omega.{arith}
-use Rattle.model.specs.Word.{Word, fresh, Memory, cellOf, statusOf, setCell}
+use Rattle.model.specs.Word.{Word, Memory, cellOf, statusOf, setCell, freshWord}
 use Rattle.model.specs.Exchange.{Step, start, test, load, look, fetch, fail, mark, install, commit, save, clean, cleanMark, Exchange, Exchanged, entryAt, changing, installed, to, onward}
 use Rattle.model.proofs.Lists.{replace-same, replace-other, same?}
 use Rattle.model.proofs.Fit.Elements.{and-right}
@@ -54,12 +54,12 @@ module _ {below : ℕ → ℕ → Type 0} {m : Memory} {acts : List Act} {p : �
             (λ d.
             let i : here x .init ≡ u = sym h ∙ ap (λ (z : ℕ). cellOf m z) (sym d) ∙ k in
             taken (record { number = x .i; low = omega arith; high = omega arith; overlapped = at-step-as S install s .found .loaded .looked ∙ ap not (not-counting (m .status) (here x .init) (rw i (L .not-valid)) (rw i (zero-not-two (L .unmarked)))); init = i }))
-            (λ ne. stays (rw (replace-other (fresh 0) (m .cells) (here x .cell) c w ne) k));
+            (λ ne. stays (rw (replace-other (freshWord 0) (m .cells) (here x .cell) c w ne) k));
         cover = λ u L C. onward-cover test refl u C;
         own = λ k st e g. same? e (x .i)
-            (λ d. rw (d, replace-same (fresh 0) (m .cells) (here x .cell) w (R .cells (x .i) l)))
+            (λ d. rw (d, replace-same (freshWord 0) (m .cells) (here x .cell) w (R .cells (x .i) l)))
             (λ ne.
-            rw (replace-other (fresh 0) (m .cells) (here x .cell) (entryAt x e .cell) w (λ d. ne (mine S .distinct e (x .i) (omega arith) l d)))
+            rw (replace-other (freshWord 0) (m .cells) (here x .cell) (entryAt x e .cell) w (λ d. ne (mine S .distinct e (x .i) (omega arith) l d)))
             (all-in-cells S (rw s) st e (omega arith)));
       }
 
@@ -99,7 +99,7 @@ module _ {below : ℕ → ℕ → Type 0} {m : Memory} {acts : List Act} {p : �
         (λ d.
         let i : installed p (entryAt x j) j ≡ u = sym h ∙ ap (λ (z : ℕ). cellOf m z) (sym d) ∙ k in
         absurd (below-clear S (u .task) b (sym (ap (λ (w : Word). w .task) i))))
-        (λ ne. rw (replace-other (fresh 0) (m .cells) (entryAt x j .cell) c v ne) k)
+        (λ ne. rw (replace-other (freshWord 0) (m .cells) (entryAt x j .cell) c v ne) k)
 
     -- on yes a changing pair has marked the task of the word that it replaced
     was-marked : {P : Type 0} → (yes? && changing (entryAt x j)) ≡ true → (u : Word) → statusOf m (u .task) ≡ 0 → entryAt x j .overlapped ≡ true → entryAt x j .init ≡ u → P
@@ -114,7 +114,7 @@ module _ {below : ℕ → ℕ → Type 0} {m : Memory} {acts : List Act} {p : �
       record {
         at-entry = rw s;
         keep = λ c u L k. own-cell j yes? s _ h c u (L .task) k;
-        back = λ u L o i. replace-same (fresh 0) (m .cells) (entryAt x j .cell) (entryAt x j .init) (R .cells j (omega (arith, mine S .within, clean-entry S j yes? s))) ∙ i;
+        back = λ u L o i. replace-same (freshWord 0) (m .cells) (entryAt x j .cell) (entryAt x j .init) (R .cells j (omega (arith, mine S .within, clean-entry S j yes? s))) ∙ i;
       }
   returns j yes? R (leaves s e h o) = record { at-entry = rw s; keep = λ c u L k. k; back = λ u L o′ i. absurd (true≢false (sym o′ ∙ o)) }
   returns j yes? R (marks-after s) =
