@@ -113,13 +113,13 @@ module _ (sheet : List ℕ) (body : List C.Command) (a : Arrays) (p : ℕ) (j : 
   store-remembered : (b : ℕ) → at 0 (a .kinds) (16 * p + b) ≡ 1 → storeFor (a .copies) (a .kinds) (a .remembered) p b ≡ at 0 (a .remembered) (16 * p + b) % 256
   store-remembered b e = rw e
 
-  got-at : (r b o z : ℕ) → o < 8 → storeFor (a .copies) (a .kinds) (a .remembered) p b ≡ z
-      → Simulated sheet body a p (onAccess a (accessed (gotBy (a .stores) (a .copies) (a .kinds) (a .remembered) p j (Get r b o) b o) (a .stores) (a .kinds) (a .remembered))) (J.turn (sharedOf a) (T.stays t x (J.again (C.GET r b o) (W.stored (rows 8 48 (a .stores)) z o) W.loading)))
+  got-at : {d : J.Deed} (r b o z : ℕ) → o < 8 → storeFor (a .copies) (a .kinds) (a .remembered) p b ≡ z
+      → Simulated sheet body a p (onAccess a (accessed (gotBy (a .stores) (a .copies) (a .kinds) (a .remembered) p j (Get r b o) b o) (a .stores) (a .kinds) (a .remembered))) (J.turn (sharedOf a) (T.stays t x (J.again (C.GET r b o) (W.stored (rows 8 48 (a .stores)) z o) W.loading)) d)
   unfolding gotBy
   got-at r b o z h e = record { same = rw (e, stored-at z o h); others = λ q d. refl; sizes = refl; shape = work }
 
-  put-at : (b o r z : ℕ) → o < 8 → r < 8 → storeFor (a .copies) (a .kinds) (a .remembered) p b ≡ z
-      → Simulated sheet body a p (onAccess a (inStores (a .kinds) (a .remembered) (afterPut (a .stores) (a .registers) (a .copies) (a .kinds) (a .remembered) p j b o r))) (J.turn (W.setStored (sharedOf a) z o (at 0 (row 8 p (a .registers)) r)) (T.goesOn t (t .registers) x))
+  put-at : {d : J.Deed} (b o r z : ℕ) → o < 8 → r < 8 → storeFor (a .copies) (a .kinds) (a .remembered) p b ≡ z
+      → Simulated sheet body a p (onAccess a (inStores (a .kinds) (a .remembered) (afterPut (a .stores) (a .registers) (a .copies) (a .kinds) (a .remembered) p j b o r))) (J.turn (W.setStored (sharedOf a) z o (at 0 (row 8 p (a .registers)) r)) (T.goesOn t (t .job .registers) x) d)
   unfolding afterPut
   put-at b o r z h g e =
       record {

@@ -110,7 +110,7 @@ unfolding T.commandTick betweenBy
 between-tick sheet body a p j s below few f words blocks most (C.refused r q) e g = record { same = refl; others = λ q d. refl; sizes = refl; shape = tt }
 between-tick sheet body a p j s below few f words blocks most (C.found c next) e g = go c e g
   where
-    unchanged : Simulated sheet body a p (turn (inPhase j (Transaction Between)) a) (J.turn (sharedOf a) (inside sheet body a p j J.between))
+    unchanged : {d : J.Deed} → Simulated sheet body a p (turn (inPhase j (Transaction Between)) a) (J.turn (sharedOf a) (inside sheet body a p j J.between) d)
     unchanged = record { same = refl; others = λ q d. refl; sizes = refl; shape = tt }
 
     work : (c : C.Command) → C.commandAt sheet (j .at) ≡ C.found c next → bodyCommand c ≡ true → AtWork sheet (movedTo (inPhase j (Transaction Between)) next)

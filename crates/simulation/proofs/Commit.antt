@@ -36,7 +36,7 @@ use Rattle.simulation.proofs.Copied.{copied-size, copied-others, copied
 use Rattle.simulation.proofs.Gather.{taken-size, taken-others, taken-row, gathered}
 use Rattle.simulation.proofs.Exchange.{exchangedOf}
 use Rattle.simulation.proofs.ExchangeFrame.{ExchangeFrame}
-use Rattle.simulation.proofs.Parts.{Sizes, partsOf, sharedOf, AtWork, Simulated, counted-same, counted-other, counted-size, counted-others}
+use Rattle.simulation.proofs.Parts.{leaves, Sizes, partsOf, sharedOf, AtWork, Simulated, counted-same, counted-other, counted-size, counted-others}
 use Rattle.simulation.proofs.Done.{done-same, done-size, done-others, done-shape}
 use Rattle.simulation.proofs.Access.{inside}
 
@@ -101,11 +101,11 @@ module _ (sheet : List ℕ) (body : List C.Command) (a : Arrays) (p : ℕ) (j : 
       (countedIn (entriesOf a) (went (jobAt Idle (j .next) 0) (counted (a .counts) p 1)))
       (exchangeOf j (a .counts) (gatheredTo (a .copies) (a .kinds) (a .remembered) p 16 (record { count = 0; entries = entriesOf a }))))
 
-  commit-by : (b c : Bool) → spentFrom 16 (a .kinds) (a .remembered) (16 * p) ≡ c → Simulated sheet body a p (onGathered a (flatCommit b c)) (T.commitBy b c (sharedOf a) t x)
-  unfolding T.commitBy
+  commit-by : (b c : Bool) → spentFrom 16 (a .kinds) (a .remembered) (16 * p) ≡ c → Simulated sheet body a p (onGathered a (flatCommit b c)) (T.commitCommandBy b c (sharedOf a) t x)
+  unfolding T.commitCommandBy
   commit-by true c e =
       record {
-        same = ap (J.turn (sharedOf a)) (done-inside (partsOf a p));
+        same = ap (leaves (sharedOf a)) (done-inside (partsOf a p));
         others = λ q d. rw (done-others sheet (a .counts) p (j .next) 0 (s .counts) below q d);
         sizes = rw (done-size sheet (a .counts) p (j .next) 0 (s .counts) below);
         shape = done-shape sheet (a .counts) p (j .next) 0 (s .counts) below _ (no-entries _ _ _ _ _ ∙ sym (no-pairs _ _ _));
@@ -120,45 +120,45 @@ module _ (sheet : List ℕ) (body : List C.Command) (a : Arrays) (p : ℕ) (j : 
   commit-by false false e =
       let g = gathered (a .copies) (a .kinds) (a .remembered) p (entriesOf a) below (f .slot) (version e) (f .copy) sizesNow (rw (sym blocks-flat) (f .most)) in
       record {
-        same = ap (λ (es : List X.Entry). J.turn (sharedOf a) (T.stays t x (J.committing (X.exchangeOf es)))) (ap (T.gather (row 4 p (a .copies)) 0) blocks-flat ∙ sym (g .same));
+        same = ap (λ (es : List X.Entry). leaves (sharedOf a) (T.stays t x (J.committing (X.exchangeOf es)))) (ap (T.gather (row 4 p (a .copies)) 0) blocks-flat ∙ sym (g .same));
         others = λ q d. rw (g .frame .names q d, g .frame .olds q d, g .frame .news q d, g .frame .inits q d, g .frame .overlapped q d);
         sizes = rw (g .sizes .names, g .sizes .olds, g .sizes .news, g .sizes .inits, g .sizes .overlapped, s .names, s .olds, s .news, s .inits, s .overlapped);
         shape = work;
       }
 
-  pub commit-tick : Simulated sheet body a p (onGathered a (commitBy sheet (a .copies) (a .names) (a .olds) (a .news) (a .inits) (a .overlapped) (a .kinds) (a .remembered) (a .counts) p j)) (T.commitBy (T.nothing? (x .blocks)) (T.spent? (x .blocks)) (sharedOf a) t x)
+  pub commit-tick : Simulated sheet body a p (onGathered a (commitBy sheet (a .copies) (a .names) (a .olds) (a .news) (a .inits) (a .overlapped) (a .kinds) (a .remembered) (a .counts) p j)) (T.commitCommandBy (T.nothing? (x .blocks)) (T.spent? (x .blocks)) (sharedOf a) t x)
   unfolding commitBy
   commit-tick =
       rw (nothing-touched (a .kinds) (a .remembered) p, some-spent (a .kinds) (a .remembered) p)
       (commit-by (untouchedFrom 16 (a .kinds) (16 * p)) (spentFrom 16 (a .kinds) (a .remembered) (16 * p)) refl)
 
   -- THE EXCHANGE OF COMMIT
-  pub committed-by : (w : Left) → ExchangeFrame (a .cells) (a .status) (a .saves) (a .inits) (a .overlapped) p w → (o : Exchanged)
-      → Simulated sheet body a p (onCommitted a w (committedBy sheet (a .registers) (a .kept) (a .copies) (a .kinds) (a .remembered) (a .counts) p j o)) (T.committed t x (exchangedOf (memoryOf (w .cells) (w .status) (w .saves) (a .stores)) (viewEntries (j .pairs) (row 8 p (a .names)) (row 8 p (a .olds)) (row 8 p (a .news)) (row 8 p (w .inits)) (row 8 p (w .overlapped))) (j .value) o))
-  unfolding T.committed committedBy restarted
-  committed-by w g (Goes z) =
+  pub committed-by : (v : X.Exchange) (w : Left) → ExchangeFrame (a .cells) (a .status) (a .saves) (a .inits) (a .overlapped) p w → (o : Exchanged)
+      → Simulated sheet body a p (onCommitted a w (committedBy sheet (a .registers) (a .kept) (a .copies) (a .kinds) (a .remembered) (a .counts) p j o)) (T.committingBy t x v (exchangedOf (memoryOf (w .cells) (w .status) (w .saves) (a .stores)) (viewEntries (j .pairs) (row 8 p (a .names)) (row 8 p (a .olds)) (row 8 p (a .news)) (row 8 p (w .inits)) (row 8 p (w .overlapped))) (j .value) o))
+  unfolding T.committingBy committedBy restarted
+  committed-by v w g (Goes z) =
       record {
         same = refl;
         others = λ q d. rw (g .inits q d, g .overlapped q d);
         sizes = rw (g .cellsSize, g .statusSize, g .savesSize, g .initsSize, g .overlappedSize);
         shape = work;
       }
-  committed-by w g (Finds z) =
+  committed-by v w g (Finds z) =
       record {
         same = refl;
         others = λ q d. rw (g .inits q d, g .overlapped q d);
         sizes = rw (g .cellsSize, g .statusSize, g .savesSize, g .initsSize, g .overlappedSize);
         shape = work;
       }
-  committed-by w g (Ends true) =
+  committed-by v w g (Ends true) =
       let back : row 4 p (takenTo 16 (a .copies) (a .kinds) (a .remembered) p) ≡ T.takenBack (row 4 p (a .copies)) (x .blocks) = taken-row (a .copies) (a .kinds) (a .remembered) p (f .slot) 16 (omega arith) ∙ ap (T.takenBack (row 4 p (a .copies))) (sym blocks-flat) in
       record {
-        same = ap (J.turn (memoryOf (w .cells) (w .status) (w .saves) (a .stores))) (rw (sym back) (done-inside (withLoaded (withCopies (partsOf a p) (row 4 p (takenTo 16 (a .copies) (a .kinds) (a .remembered) p))) (row 8 p (w .inits)) (row 8 p (w .overlapped)))));
+        same = ap (leaves (memoryOf (w .cells) (w .status) (w .saves) (a .stores))) (rw (sym back) (done-inside (withLoaded (withCopies (partsOf a p) (row 4 p (takenTo 16 (a .copies) (a .kinds) (a .remembered) p))) (row 8 p (w .inits)) (row 8 p (w .overlapped)))));
         others = λ q d. rw (done-others sheet (a .counts) p (j .next) 0 (s .counts) below q d, taken-others (a .copies) (a .kinds) (a .remembered) p (f .slot) q 16 d (omega arith), g .inits q d, g .overlapped q d);
         sizes = rw (done-size sheet (a .counts) p (j .next) 0 (s .counts) below, taken-size (a .copies) (a .kinds) (a .remembered) p 16, g .cellsSize, g .statusSize, g .savesSize, g .initsSize, g .overlappedSize);
         shape = done-shape sheet (a .counts) p (j .next) 0 (s .counts) below _ (no-entries _ _ _ _ _ ∙ sym (no-pairs _ _ _));
       }
-  committed-by w g (Ends false) =
+  committed-by v w g (Ends false) =
       record {
         same = rw (copied-row (a .registers) (a .kept) p below (s .registers) (s .kept), cleared-blocks (a .kinds) p below (s .kinds) (row 16 p (a .remembered)), counted-same (a .counts) p 2 (s .counts) below (omega arith) (few 2 (omega arith)), counted-other (a .counts) p 2 (s .counts) below (omega arith) 0 (λ z. omega arith), counted-other (a .counts) p 2 (s .counts) below (omega arith) 1 (λ z. omega arith), counted-other (a .counts) p 2 (s .counts) below (omega arith) 3 (λ z. omega arith));
         others = λ q d. rw (copied-others 8 (a .registers) (a .kept) p q (omega arith) d, cleared-others 16 (a .kinds) p q (omega arith) d, counted-others (a .counts) p 2 (s .counts) below (omega arith) q d, g .inits q d, g .overlapped q d);

@@ -58,7 +58,7 @@ module _ (k : ℕ) (names olds news : List ℕ) (cell old new : ℕ) (hn : k < l
         ≡ entriesOf k names olds news inits overlapped ++ (entry cell old new ∷ [])
     unfolding entriesOf
     entries-more =
-        let fresh : unpack (packed 0 0 true 0) ≡ W.fresh 0 = unpack-packed 0 0 true 0 (omega arith) (omega arith) in
+        let fresh : unpack (packed 0 0 true 0) ≡ W.freshWord 0 = unpack-packed 0 0 true 0 (omega arith) (omega arith) in
         tabulate-more k _ (entryOf names olds news inits overlapped) (entry cell old new)
         (λ e h. let d : e ≢ k = omega arith in rw (replace-other 0 names k e cell d, replace-other 0 olds k e old d, replace-other 0 news k e new d, replace-other 0 inits k e (packed 0 0 true 0) d, replace-other 0 overlapped k e 0 d))
         (rw (replace-same 0 names k cell hn, replace-same 0 olds k old ho, replace-same 0 news k new hw, replace-same 0 inits k (packed 0 0 true 0) hi, replace-same 0 overlapped k 0 hv, fresh))

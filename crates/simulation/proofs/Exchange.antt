@@ -105,14 +105,14 @@ module _ (c s v b names olds news l o : List ℕ) (p k y : ℕ) (f : ExchangeSha
       let e : i < 8 = omega (arith, f .pairs) in
       at-entries k _ _ _ _ _ i h ∙ rw (at-row 0 8 p i names e, at-row 0 8 p i olds e, at-row 0 8 p i news e, at-row 0 8 p i l e, at-row 0 8 p i o e)
 
-  loaded-now : (i w x : ℕ) → i < k → entriesNow (replace l (8 * p + i) w) (replace o (8 * p + i) x) ≡ replace es i (X.loaded (flat i) (unpack w) (not (eqb x 0)))
+  loaded-now : (i w x : ℕ) → i < k → entriesNow (replace l (8 * p + i) w) (replace o (8 * p + i) x) ≡ replace es i (X.withInit (flat i) (unpack w) (not (eqb x 0)))
   loaded-now i w x h =
       let e : i < 8 = omega (arith, f .pairs) in
       let sl : length (row 8 p l) ≡ 8 = length-row 8 p l (omega (arith, f .inits, f .task)) in
       let so : length (row 8 p o) ≡ 8 = length-row 8 p o (omega (arith, f .overlapped, f .task)) in
       rw (row-same 8 p i l w e, row-same 8 p i o x e, entries-loaded k (row 8 p names) (row 8 p olds) (row 8 p news) (row 8 p l) (row 8 p o) i w x (omega arith) (omega arith), at-row 0 8 p i names e, at-row 0 8 p i olds e, at-row 0 8 p i news e)
 
-  looked-now : (i x : ℕ) → i < k → entriesNow l (replace o (8 * p + i) x) ≡ replace es i (X.loaded (flat i) (flat i .init) (not (eqb x 0)))
+  looked-now : (i x : ℕ) → i < k → entriesNow l (replace o (8 * p + i) x) ≡ replace es i (X.withInit (flat i) (flat i .init) (not (eqb x 0)))
   looked-now i x h =
       let e : i < 8 = omega (arith, f .pairs) in
       let so : length (row 8 p o) ≡ 8 = length-row 8 p o (omega (arith, f .overlapped, f .task)) in
@@ -155,7 +155,7 @@ module _ (c s v b names olds news l o : List ℕ) (p k y : ℕ) (f : ExchangeSha
       ≡ replace (map unpack c) (at 0 names (8 * p + e)) (record { value = at 0 news (8 * p + e); count = count; valid = valid; task = p })
   written e count valid h g = map-replace unpack c _ _ ∙ ap (replace (map unpack c) (at 0 names (8 * p + e))) (unpack-packed (at 0 news (8 * p + e)) count valid p (f .new e h) g)
 
-  cell-now : (e : ℕ) → e < k → at (W.fresh 0) (map unpack c) (at 0 names (8 * p + e)) ≡ unpack (at 0 c (at 0 names (8 * p + e)))
+  cell-now : (e : ℕ) → e < k → at (W.freshWord 0) (map unpack c) (at 0 names (8 * p + e)) ≡ unpack (at 0 c (at 0 names (8 * p + e)))
   cell-now e h = cell-at c (at 0 names (8 * p + e)) (omega (arith, f .name e h, f .cells))
 
   install-by : (i : ℕ) → i < k → (t : Bool) → X.installBy t p m (exchangeOf es y (Install i)) (flat i)

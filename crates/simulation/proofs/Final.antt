@@ -26,12 +26,12 @@ use Rattle.simulation.proofs.Start.{Starts, start-same, start-sound}
 
 -- a task's row of counts
 abbrev pub countsOf : Task → List ℕ
-countsOf t = t .finished ∷ t .spent ∷ t .rejected ∷ t .ticks ∷ []
+countsOf t = t .counts .finished ∷ t .counts .spent ∷ t .counts .rejected ∷ t .counts .ticks ∷ []
 
 -- the arrays hold that machine of a sheet: its memory, and of each task that the sheet declares the registers and counts
 pub record Holds (s : Sheet) (m : Machine) (b : Arrays) (e : Ended) : Type 0 where
   pub memory : m .memory ≡ sharedOf b
-  pub registers : (p : ℕ) → p < length (s .bodies) → taskAt (m .tasks) p .registers ≡ row 8 p (b .registers)
+  pub registers : (p : ℕ) → p < length (s .bodies) → taskAt (m .tasks) p .job .registers ≡ row 8 p (b .registers)
   pub counts : (p : ℕ) → p < length (s .bodies) → countsOf (taskAt (m .tasks) p) ≡ row 4 p (b .counts)
   pub now : m .now ≡ e .ticks
   pub dropped : m .dropped ≡ e .dropped
@@ -64,7 +64,7 @@ module _ (bytes : List ℕ) (small : (i : ℕ) → getD bytes i 0 < 256) (good :
       let sized = sizes b (r .sound .sized) in
       record {
         memory = ap (λ (m : Machine). m .memory) last;
-        registers = λ p h. ap (λ (m : Machine). taskAt (m .tasks) p .registers) last ∙ ap (λ (t : Task). t .registers) (task-at bytes bodies (length (s .bodies)) (c .bodies) b (f .jobs) p h);
+        registers = λ p h. ap (λ (m : Machine). taskAt (m .tasks) p .job .registers) last ∙ ap (λ (t : Task). t .job .registers) (task-at bytes bodies (length (s .bodies)) (c .bodies) b (f .jobs) p h);
         counts = λ p h. ap (λ (m : Machine). countsOf (taskAt (m .tasks) p)) last ∙ ap countsOf (task-at bytes bodies (length (s .bodies)) (c .bodies) b (f .jobs) p h)
             ∙ four (row 4 p (b .counts)) (length-row 4 p (b .counts) (omega (arith, sized .counts, c .bodies)));
         now = ap (λ (m : Machine). m .now) last;

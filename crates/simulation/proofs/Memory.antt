@@ -6,7 +6,7 @@ use native.Mathlib.Nat.{mul-le-mul-left}
 use native.Mathlib.Omega.{arith}
 use lib.ListN.{length}
 use Rattle.model.specs.Lists.{at, replace}
-use Rattle.model.specs.Word.{fresh, own}
+use Rattle.model.specs.Word.{own, freshWord}
 use Rattle.model.proofs.Lists.{at-map, at-past, replace-past}
 use Rattle.model.proofs.Fit.Elements.{below?}
 use Rattle.memory.specs.Packed.{unpack}
@@ -25,8 +25,8 @@ pub length-map : {A B : Type 0} (f : A → B) (l : List A) → length (map f l) 
 length-map f [] = refl
 length-map f (x ∷ l) = ap suc (length-map f l)
 
-pub cell-at : (cells : List ℕ) (c : ℕ) → c < length cells → at (fresh 0) (map unpack cells) c ≡ unpack (at 0 cells c)
-cell-at cells c h = at-below (fresh 0) (unpack 0) (map unpack cells) c (rw (length-map unpack cells) h) ∙ at-map unpack 0 cells c
+pub cell-at : (cells : List ℕ) (c : ℕ) → c < length cells → at (freshWord 0) (map unpack cells) c ≡ unpack (at 0 cells c)
+cell-at cells c h = at-below (freshWord 0) (unpack 0) (map unpack cells) c (rw (length-map unpack cells) h) ∙ at-map unpack 0 cells c
 
 pub own-unpack : (status : List ℕ) (w : ℕ) → own status (unpack w) ≡ owned status w
 unfolding own owned unpack

@@ -89,9 +89,20 @@ partsOf a p =
 abbrev pub sharedOf : Arrays → W.Memory
 sharedOf a = memoryOf (a .cells) (a .status) (a .saves) (a .stores)
 
--- what a statement of task p leaves, for a task with that body
-abbrev pub turnOf : List ℕ → List Command → ℕ → Turn → J.Turn
-turnOf sheet body p u = J.turn (sharedOf (u .arrays)) (taskOf sheet body (u .job) (partsOf (u .arrays) p))
+-- what a statement leaves: the shared memory and its task
+pub record Leaves : Type 0 where
+  pub memory : W.Memory
+  pub task : J.Task
+
+abbrev pub leaves : W.Memory → J.Task → Leaves
+leaves m t = record { memory = m; task = t }
+
+-- of the model, and of task p of the code, for a task with that body
+abbrev pub turnLeaves : J.Turn → Leaves
+turnLeaves v = leaves (v .memory) (v .task)
+
+abbrev pub codeLeaves : List ℕ → List Command → ℕ → Turn → Leaves
+codeLeaves sheet body p u = leaves (sharedOf (u .arrays)) (taskOf sheet body (u .job) (partsOf (u .arrays) p))
 
 -- the command at work ends at the job's next place
 abbrev pub AtWork : List ℕ → Job → Type 0
@@ -122,7 +133,7 @@ JobShape sheet j x (Phase.Transaction s) = InnerShape sheet j s
 
 -- a statement of task p from arrays a: what it leaves is what the model's turn leaves, and the rows of the other tasks stay
 pub record Simulated (sheet : List ℕ) (body : List Command) (a : Arrays) (p : ℕ) (u : Turn) (v : J.Turn) : Type 0 where
-  pub same : v ≡ turnOf sheet body p u
+  pub same : turnLeaves v ≡ codeLeaves sheet body p u
   pub others : (q : ℕ) → q ≢ p → partsOf (u .arrays) q ≡ partsOf a q
   pub sizes : sizesOf (u .arrays) ≡ sizesOf a
   pub shape : JobShape sheet (u .job) (partsOf (u .arrays) p) (u .job .phase)

@@ -3,7 +3,7 @@ use Prim.Native.Nat.{ℕ, suc, _+_, _*_, _<_, _≤_}
 use mathlib.Core.Path.{_≡_, refl, sym, ap, _∙_, subst}
 use mathlib.Core.Logic.{_≢_}
 use mathlib.Core.Bool.{Bool, true, false}
-use mathlib.Core.List.{List, [], _∷_, _++_}
+use mathlib.Core.List.{List, [], _∷_, _++_, map}
 use native.Mathlib.Omega.{arith}
 use lib.ListN.{length}
 use Rattle.model.specs.Lists.{at}
@@ -14,6 +14,7 @@ use Rattle.model.specs.Job as J
 use Rattle.model.specs.Transaction as T
 use Rattle.model.specs.Word as W
 use Rattle.model.specs.Machine as M
+use Rattle.model.specs.Arguments as A
 use Rattle.model.proofs.Lists.{length-replace}
 use Rattle.model.proofs.Fit.Body.{CommandFits}
 use Rattle.memory.specs.Rows.{row}
@@ -33,9 +34,9 @@ use Rattle.simulation.proofs.Entered.{EntrySizes, rowPairs, entered-fra
 use Rattle.simulation.proofs.Reading.{read-tick}
 use Rattle.simulation.proofs.ExchangeFrame.{exchange-frame}
 use Rattle.simulation.proofs.Copied.{copied-size, copied-others, copied-row, cleared-size, cleared-others, cleared-blocks}
-use Rattle.simulation.proofs.Parts.{Sizes, partsOf, sharedOf, AtWork, Unloaded, Simulated}
+use Rattle.simulation.proofs.Parts.{leaves, Sizes, partsOf, sharedOf, AtWork, Unloaded, Simulated}
 use Rattle.simulation.proofs.Done.{done-same, done-size, done-others, done-shape}
-use Rattle.simulation.proofs.Answers.{outside, registers-done, register-done, read-by, swap-by}
+use Rattle.simulation.proofs.Answers.{beginning-same, outside, registers-done, register-done, read-by, swap-by}
 
 -- what the check says of the command found, if it is one of a body
 abbrev pub FitsIf : Bool → ℕ → ℕ → Body → C.Command → Type 0
@@ -77,22 +78,22 @@ module _ (sheet : List ℕ) (body : List C.Command) (a : Arrays) (p : ℕ) (j : 
     add-command : (r q : ℕ) → r < 8 → q < 8 → Goal (C.ADD r q)
     unfolding M.plainTick plainBy
     add-command r q h g =
-        subst (λ (l : List ℕ). Simulated sheet body a p (plainBy sheet a p (inPhase j Plain) (C.found (C.ADD r q) next)) (J.turn (sharedOf a) (J.done t l (t .pairs) (t .copies)))) (added-row (a .registers) p r q h g)
+        subst (λ (l : List ℕ). Simulated sheet body a p (plainBy sheet a p (inPhase j Plain) (C.found (C.ADD r q) next)) (J.turn (sharedOf a) (J.done t l (t .job .pairs) (t .copies)) J.nothingDone)) (added-row (a .registers) p r q h g)
         (registers-done sheet body a p going J.plain s below few work (added (a .registers) p r q) (added-size (a .registers) p r q) (added-others (a .registers) p r q h) u)
 
     read-command : (r w : ℕ) → r < 8 → w < 48 → Goal (C.READ r w)
     unfolding M.plainTick plainBy
     read-command r w h g =
-        subst (λ (o : W.Read). Simulated sheet body a p (plainBy sheet a p (inPhase j Plain) (C.found (C.READ r w) next)) (M.readBy (sharedOf a) t r w o))
+        subst (λ (o : W.Read). Simulated sheet body a p (plainBy sheet a p (inPhase j Plain) (C.found (C.READ r w) next)) (M.beginning (A.readOf w) (M.readBy (sharedOf a) t r w o)))
         (sym (read-tick (a .cells) (a .status) (a .saves) (a .stores) w (omega (arith, s .cells)) (s .saves) Load))
-        (read-by sheet body a p going J.plain s below few work r w h u (afterReading (a .cells) (a .status) (a .saves) w Load))
+        (beginning-same sheet body a p going J.plain s below few work (read-by sheet body a p going J.plain s below few work r w h u (afterReading (a .cells) (a .status) (a .saves) w Load)))
 
     swap-command : (r : ℕ) → r < 8 → j .pairs ≤ 8 → Goal (C.SWAP r)
     unfolding M.plainTick plainBy X.exchangeTick afterExchange afterStart
     swap-command r h k =
         let x = afterExchange (a .cells) (a .status) (a .saves) (a .names) (a .olds) (a .news) (a .inits) (a .overlapped) p (j .pairs) 0 Start in
-        subst (λ (es : List X.Entry). Simulated sheet body a p (plainBy sheet a p (inPhase j Plain) (C.found (C.SWAP r) next)) (M.swapBy t r (X.exchangeTick p (sharedOf a) (X.exchangeOf es) X.start))) u
-        (swap-by sheet body a p going J.plain s below few work r h x (exchange-frame (a .cells) (a .status) (a .saves) (a .names) (a .olds) (a .news) (a .inits) (a .overlapped) p (j .pairs) 0 k Start refl) (x .next))
+        subst (λ (es : List X.Entry). Simulated sheet body a p (plainBy sheet a p (inPhase j Plain) (C.found (C.SWAP r) next)) (M.beginning (A.swapOf (map M.pairOf (t .job .pairs))) (M.swapBy t r (X.exchangeOf (t .job .pairs)) (X.exchangeTick p (sharedOf a) (X.exchangeOf es) X.start)))) u
+        (beginning-same sheet body a p going J.plain s below few work (swap-by sheet body a p going J.plain s below few work (X.exchangeOf (t .job .pairs)) r h x (exchange-frame (a .cells) (a .status) (a .saves) (a .names) (a .olds) (a .news) (a .inits) (a .overlapped) p (j .pairs) 0 k Start refl) (x .next)))
 
     begin-command : Goal C.BEGIN
     unfolding M.plainTick plainBy
@@ -113,14 +114,14 @@ module _ (sheet : List ℕ) (body : List C.Command) (a : Arrays) (p : ℕ) (j : 
         let e : Entries = entered (entriesOf a) p (j .pairs) w old new in
         let z : EntrySizes (entriesOf a) = record { names = s .names; olds = s .olds; news = s .news; inits = s .inits; overlapped = s .overlapped } in
         let more : nextOf (j .pairs) ≡ suc (j .pairs) = omega arith in
-        let pairs : t .pairs ++ (X.entry w old new ∷ []) ≡ rowPairs p (nextOf (j .pairs)) e = rw more (sym (entered-pairs (entriesOf a) p (j .pairs) w old new room z below)) in
+        let pairs : t .job .pairs ++ (X.entry w old new ∷ []) ≡ rowPairs p (nextOf (j .pairs)) e = rw more (sym (entered-pairs (entriesOf a) p (j .pairs) w old new room z below)) in
         let loaded : Unloaded (nextOf (j .pairs)) (withEntries (partsOf a p) e p) = rw more (entered-entries (entriesOf a) p (j .pairs) w old new room z below ∙ ap (λ (l : List X.Entry). l ++ (X.entry w old new ∷ [])) u ∙ sym (entered-pairs (entriesOf a) p (j .pairs) w old new room z below)) in
         let frame = entered-frame (entriesOf a) p (j .pairs) w old new room in
         let after = entered-sizes (entriesOf a) p (j .pairs) w old new room z in
         record {
           same = rw (at-row 0 8 p o (a .registers) ho, at-row 0 8 p n (a .registers) hn, sym work)
-              (ap (λ (ps : List X.Entry). J.turn (sharedOf a) (J.doneBy (bodyFrom sheet next) t (t .registers) ps (t .copies))) pairs
-              ∙ ap (J.turn (sharedOf a)) (done-same sheet (a .counts) p next (nextOf (j .pairs)) (s .counts) below body _ _ _ _ _ (withEntries (partsOf a p) e p) few));
+              (ap (λ (ps : List X.Entry). leaves (sharedOf a) (J.doneBy (bodyFrom sheet next) t (t .job .registers) ps (t .copies))) pairs
+              ∙ ap (leaves (sharedOf a)) (done-same sheet (a .counts) p next (nextOf (j .pairs)) (s .counts) below body _ _ _ _ _ (withEntries (partsOf a p) e p) few));
           others = λ q d. rw (frame .names q d, frame .olds q d, frame .news q d, frame .inits q d, frame .overlapped q d, done-others sheet (a .counts) p next (nextOf (j .pairs)) (s .counts) below q d);
           sizes = rw (after .names, after .olds, after .news, after .inits, after .overlapped, done-size sheet (a .counts) p next (nextOf (j .pairs)) (s .counts) below, s .names, s .olds, s .news, s .inits, s .overlapped);
           shape = done-shape sheet (a .counts) p next (nextOf (j .pairs)) (s .counts) below _ loaded;
@@ -134,7 +135,7 @@ unfolding M.plainTick plainBy
 plain-tick sheet body a p j s below few u words blocks b hw hp hr (C.refused r q) e f = record { same = refl; others = λ q d. refl; sizes = refl; shape = u }
 plain-tick sheet body a p j s below few u words blocks b hw hp hr (C.found c next) e f = go c e f
   where
-    unchanged : Simulated sheet body a p (turn (inPhase j Plain) a) (J.turn (sharedOf a) (outside sheet body a p j J.plain))
+    unchanged : {d : J.Deed} → Simulated sheet body a p (turn (inPhase j Plain) a) (J.turn (sharedOf a) (outside sheet body a p j J.plain) d)
     unchanged = record { same = refl; others = λ q d. refl; sizes = refl; shape = u }
 
     work : (c : C.Command) → C.commandAt sheet (j .at) ≡ C.found c next → bodyCommand c ≡ true → AtWork sheet (movedTo (inPhase j Plain) next)

@@ -25,13 +25,13 @@ unfolding unpack
 saved-for saves w e = rows-at 8 8 (taskOf w) (countOf w) saves e (eighth _)
 
 module _ (cells status saves stores : List ℕ) (cell : ℕ) (below : cell < length cells) (size : length saves ≡ 64) where
-  look-by : (w : ℕ) (b : Bool) → W.lookBy b (unpack w) ≡ readOf (if b (Gives (valueOf w)) (Reads (Fetch w)))
-  unfolding W.lookBy unpack
+  look-by : (w : ℕ) (b : Bool) → W.lookingBy b (unpack w) ≡ readOf (if b (Gives (valueOf w)) (Reads (Fetch w)))
+  unfolding W.lookingBy unpack
   look-by w true = refl
   look-by w false = refl
 
   pub read-tick : (r : Reading) → W.readTick (memoryOf cells status saves stores) cell (readingOf r) ≡ readOf (afterReading cells status saves cell r)
   unfolding W.readTick afterReading afterLook
   read-tick Load = ap (λ (w : W.Word). W.reads (W.looking w)) (cell-at cells cell below)
-  read-tick (Look w) = ap (λ (b : Bool). W.lookBy b (unpack w)) (own-unpack status w) ∙ look-by w (owned status w)
+  read-tick (Look w) = ap (λ (b : Bool). W.lookingBy b (unpack w)) (own-unpack status w) ∙ look-by w (owned status w)
   read-tick (Fetch w) = ap W.gives (saved-for saves w size)

@@ -121,6 +121,6 @@ module _ (sheet bodies : List ℕ) (n : ℕ) (most : n ≤ 8) (w : World) (f : S
   released-if true e = dropped-release e
   released-if false e = started-release e
 
-  pub released-fits : (task : ℕ) → task % 8 ≡ p → ReleasedFits (M.unfinished (M.taskAt (machineOf sheet bodies n w .tasks) p .phase)) (released bodies w task next)
+  pub released-fits : (task : ℕ) → task % 8 ≡ p → ReleasedFits (M.unfinished (M.taskAt (machineOf sheet bodies n w .tasks) p .job .phase)) (released bodies w task next)
   unfolding released
   released-fits task e = rw (e, task-busy sheet bodies n most (w .arrays) (w .jobs) p below) (released-if (busy (w .jobs) p) refl)

@@ -81,13 +81,13 @@ arrive-any [] m rs = refl
 arrive-any (r ∷ l) m rs = go (eqb (r .tick) (m .now)) (arrive-any l)
   where
     go : (b : Bool) → ((m : M.Machine) (rs : List Release) → M.arrive l (M.toCome m rs) ≡ M.arrive l m) → M.arriveBy b (M.arrive l) r l (M.toCome m rs) ≡ M.arriveBy b (M.arrive l) r l m
-    go true on = ap (M.arrive l) (release-any (r .task) m rs (M.unfinished (M.taskAt (m .tasks) (r .task) .phase))) ∙ on (M.releaseBy (M.unfinished (M.taskAt (m .tasks) (r .task) .phase)) (r .task) m) rs
+    go true on = ap (M.arrive l) (release-any (r .task) m rs (M.unfinished (M.taskAt (m .tasks) (r .task) .job .phase))) ∙ on (M.releaseBy (M.unfinished (M.taskAt (m .tasks) (r .task) .job .phase)) (r .task) m) rs
     go false on = refl
 
 -- a release that is due has arrived
-due-arrives : (r : Release) (l : List Release) (m : M.Machine) → r .tick ≡ m .now → M.arrive (r ∷ l) m ≡ M.arrive l (M.toCome (M.releaseBy (M.unfinished (M.taskAt (m .tasks) (r .task) .phase)) (r .task) m) l)
+due-arrives : (r : Release) (l : List Release) (m : M.Machine) → r .tick ≡ m .now → M.arrive (r ∷ l) m ≡ M.arrive l (M.toCome (M.releaseBy (M.unfinished (M.taskAt (m .tasks) (r .task) .job .phase)) (r .task) m) l)
 unfolding M.arrive M.arriveBy
-due-arrives r l m e = rw (eq-eqb (r .tick) (m .now) e) (sym (arrive-any l (M.releaseBy (M.unfinished (M.taskAt (m .tasks) (r .task) .phase)) (r .task) m) l))
+due-arrives r l m e = rw (eq-eqb (r .tick) (m .now) e) (sym (arrive-any l (M.releaseBy (M.unfinished (M.taskAt (m .tasks) (r .task) .job .phase)) (r .task) m) l))
 
 none-arrives : (m : M.Machine) → m .releases ≡ [] → M.arrive (m .releases) m ≡ m
 unfolding M.arrive
@@ -117,18 +117,18 @@ module _ (sheet bodies : List ℕ) (s : Sheet) (c : SheetFit s) where
 
   -- WHETHER THE RUN IS OVER
   module _ (w : World) (g : Sound sheet bodies (length (s .bodies)) w) where
-    somebody : w .mask ≢ 0 → M.nobody? (M.runningOf (viewed w .tasks)) ≡ false
+    somebody : w .mask ≢ 0 → M.nobody? (M.runningOf (viewed w)) ≡ false
     somebody d = go (subst (Top 8 (w .jobs)) (sym (g .mask)) (top (w .jobs) 8))
       where
-        go : Top 8 (w .jobs) (w .mask) → M.nobody? (M.runningOf (viewed w .tasks)) ≡ false
+        go : Top 8 (w .jobs) (w .mask) → M.nobody? (M.runningOf (viewed w)) ≡ false
         go (none z f) = absurd (d z)
-        go (some l h) = ap M.nobody? (top-runs sheet bodies (length (s .bodies)) (c .bodies) (w .arrays) (w .jobs) (g .idle) (topOf 8 (w .mask)) h)
+        go (some l h) = ap M.nobody? (top-runs sheet bodies (length (s .bodies)) (c .bodies) (viewed w) (w .arrays) (w .jobs) refl (g .idle) (topOf 8 (w .mask)) h)
 
-    nobody : w .mask ≡ 0 → M.nobody? (M.runningOf (viewed w .tasks)) ≡ true
+    nobody : w .mask ≡ 0 → M.nobody? (M.runningOf (viewed w)) ≡ true
     nobody e = go (subst (Top 8 (w .jobs)) (sym (g .mask)) (top (w .jobs) 8))
       where
-        go : Top 8 (w .jobs) (w .mask) → M.nobody? (M.runningOf (viewed w .tasks)) ≡ true
-        go (none z f) = ap M.nobody? (nobody-runs sheet bodies (length (s .bodies)) (c .bodies) (w .arrays) (w .jobs) (g .idle) f)
+        go : Top 8 (w .jobs) (w .mask) → M.nobody? (M.runningOf (viewed w)) ≡ true
+        go (none z f) = ap M.nobody? (nobody-runs sheet bodies (length (s .bodies)) (c .bodies) (viewed w) (w .arrays) (w .jobs) refl (g .idle) f)
         go (some l h) = absurd (omega arith)
 
     and-false : (b : Bool) → b && false ≡ false
@@ -145,7 +145,7 @@ module _ (sheet bodies : List ℕ) (s : Sheet) (c : SheetFit s) where
 
     over-by : (k : Coming) → ComingAt sheet (w .place) (w .ticks) k → stopsBy k (w .mask) ≡ true → M.over (viewed w) ≡ true
     unfolding M.over
-    over-by Nothing e q = rw (e, nobody (eqb-true (w .mask) 0 q))
+    over-by Nothing e q = rw (nobody (eqb-true (w .mask) 0 q), e)
     over-by Later e q = absurd (false≢true q)
     over-by (Due task next) e q = absurd (false≢true q)
 
@@ -154,7 +154,8 @@ module _ (sheet bodies : List ℕ) (s : Sheet) (c : SheetFit s) where
     on-by Later e q = release-on (e .release) (e .others) (e .releases)
     on-by (Due task next) e q = release-on (e .release) (releasesFrom sheet next) (e .releases)
 
-    arrived : (k : Coming) → ComingAt sheet (w .place) (w .ticks) k → ((task next : ℕ) → k ≡ Due task next → ⊥) → M.arrive (viewed w .releases) (viewed w) ≡ viewed w
+    arrived : (k : Coming) → ComingAt sheet (w .place) (w .ticks) k → ((task next : ℕ) → k ≡ Due task next → ⊥) → M.enter (viewed w) ≡ viewed w
+    unfolding M.enter
     arrived Nothing e d = none-arrives (viewed w) e
     arrived Later e d = later-arrives (viewed w) (e .release) (e .others) (e .releases) (e .later)
     arrived (Due task next) e d = absurd (d task next refl)
@@ -176,7 +177,7 @@ module _ (sheet bodies : List ℕ) (s : Sheet) (c : SheetFit s) where
 
   module _ (w : World) (g : Sound sheet bodies (length (s .bodies)) w) (fit : Fit s (viewed w)) (range : Ranges (viewed w)) (k : ℕ) where
     release-step : (task next : ℕ) → DueAt sheet (w .place) (w .ticks) task next → Onward (suc k) (suc k) w (released bodies w task next)
-    unfolding M.tick
+    unfolding M.tick M.enter
     release-step task next d =
         let r = d .release in
         let l = releasesFrom sheet next in
@@ -184,7 +185,7 @@ module _ (sheet bodies : List ℕ) (s : Sheet) (c : SheetFit s) where
         let few : w .dropped < 4294967295 = omega (arith, fit .dropped) in
         let eight : task % 8 ≡ r .task = omega (arith, d .to, c .bodies) in
         let f = released-fits sheet bodies (length (s .bodies)) (c .bodies) w g few (r .task) next h task eight in
-        let b = M.unfinished (M.taskAt (viewed w .tasks) (r .task) .phase) in
+        let b = M.unfinished (M.taskAt (viewed w .tasks) (r .task) .job .phase) in
         let v = released bodies w task next in
         let ticked-same : M.tick (viewed v) ≡ M.tick (viewed w) = ap M.tick (f .same) ∙ ap M.moveAny (sym (due-arrives r l (viewed w) (d .now)) ∙ ap (λ (z : List Release). M.arrive z (viewed w)) (sym (d .releases))) in
         record {
@@ -195,7 +196,7 @@ module _ (sheet bodies : List ℕ) (s : Sheet) (c : SheetFit s) where
         }
 
     tick-step : w .ticks < 4294967295 → ((task next : ℕ) → comingIn sheet w ≡ Due task next → ⊥) → stopsBy (comingIn sheet w) (w .mask) ≡ false → Onward k (suc k) w (ticked sheet w)
-    unfolding M.tick
+    unfolding M.tick M.enter
     tick-step few due stops =
         let f = ticked-fits sheet bodies s c w g fit range few in
         let coming = coming-at sheet (w .place) (w .ticks) in

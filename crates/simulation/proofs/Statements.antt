@@ -131,21 +131,21 @@ module _ (sheet : List ℕ) (body : List C.Command) (a : Arrays) (p : ℕ) (j : 
     left = afterExchange (a .cells) (a .status) (a .saves) (a .names) (a .olds) (a .news) (a .inits) (a .overlapped) p (j .pairs) (j .value) z
 
     swap-statement : (r : ℕ) → r < 8 → AtWork sheet j
-        → Simulated sheet body a p (statement sheet a p (inPhase j (Phase.Exchange r z)) (Phase.Exchange r z)) (M.swapBy (outside sheet body a p j (J.exchanging r (exchangeOf es (j .value) z))) r (X.exchangeTick p (sharedOf a) (exchangeOf es (j .value) z) (stepOf (j .value) z)))
+        → Simulated sheet body a p (statement sheet a p (inPhase j (Phase.Exchange r z)) (Phase.Exchange r z)) (M.swapBy (outside sheet body a p j (J.exchanging r (exchangeOf es (j .value) z))) r (exchangeOf es (j .value) z) (X.exchangeTick p (sharedOf a) (exchangeOf es (j .value) z) (stepOf (j .value) z)))
     unfolding statement
     swap-statement r h work =
-        subst (λ (o : X.Exchanged). Simulated sheet body a p (statement sheet a p (inPhase j (Phase.Exchange r z)) (Phase.Exchange r z)) (M.swapBy (outside sheet body a p j (J.exchanging r (exchangeOf es (j .value) z))) r o))
+        subst (λ (o : X.Exchanged). Simulated sheet body a p (statement sheet a p (inPhase j (Phase.Exchange r z)) (Phase.Exchange r z)) (M.swapBy (outside sheet body a p j (J.exchanging r (exchangeOf es (j .value) z))) r (exchangeOf es (j .value) z) o))
         (sym (exchange-tick (a .cells) (a .status) (a .saves) (a .stores) (a .names) (a .olds) (a .news) (a .inits) (a .overlapped) p (j .pairs) (j .value) exchange-shape z exchange-step))
-        (swap-by sheet body a p (inPhase j (Phase.Exchange r z)) (J.exchanging r (exchangeOf es (j .value) z)) s below (few 0 (omega arith)) work r h left
+        (swap-by sheet body a p (inPhase j (Phase.Exchange r z)) (J.exchanging r (exchangeOf es (j .value) z)) s below (few 0 (omega arith)) work (exchangeOf es (j .value) z) r h left
         (exchange-frame (a .cells) (a .status) (a .saves) (a .names) (a .olds) (a .news) (a .inits) (a .overlapped) p (j .pairs) (j .value) (exchange-shape .pairs) z exchange-step) (left .next))
 
     commit-statement : PassFits a p → AtWork sheet j
-        → Simulated sheet body a p (transactionTick sheet a p (inPhase j (Phase.Transaction (Committing z))) (Committing z)) (T.committed (inside sheet body a p j (J.committing (exchangeOf es (j .value) z))) (transactionOf sheet j (partsOf a p)) (X.exchangeTick p (sharedOf a) (exchangeOf es (j .value) z) (stepOf (j .value) z)))
+        → Simulated sheet body a p (transactionTick sheet a p (inPhase j (Phase.Transaction (Committing z))) (Committing z)) (T.committingBy (inside sheet body a p j (J.committing (exchangeOf es (j .value) z))) (transactionOf sheet j (partsOf a p)) (exchangeOf es (j .value) z) (X.exchangeTick p (sharedOf a) (exchangeOf es (j .value) z) (stepOf (j .value) z)))
     unfolding transactionTick
     commit-statement g work =
-        subst (λ (o : X.Exchanged). Simulated sheet body a p (transactionTick sheet a p (inPhase j (Phase.Transaction (Committing z))) (Committing z)) (T.committed (inside sheet body a p j (J.committing (exchangeOf es (j .value) z))) (transactionOf sheet j (partsOf a p)) o))
+        subst (λ (o : X.Exchanged). Simulated sheet body a p (transactionTick sheet a p (inPhase j (Phase.Transaction (Committing z))) (Committing z)) (T.committingBy (inside sheet body a p j (J.committing (exchangeOf es (j .value) z))) (transactionOf sheet j (partsOf a p)) (exchangeOf es (j .value) z) o))
         (sym (exchange-tick (a .cells) (a .status) (a .saves) (a .stores) (a .names) (a .olds) (a .news) (a .inits) (a .overlapped) p (j .pairs) (j .value) exchange-shape z exchange-step))
-        (committed-by sheet body a p (inPhase j (Phase.Transaction (Committing z))) (J.committing (exchangeOf es (j .value) z)) s below work few g left
+        (committed-by sheet body a p (inPhase j (Phase.Transaction (Committing z))) (J.committing (exchangeOf es (j .value) z)) s below work few g (exchangeOf es (j .value) z) left
         (exchange-frame (a .cells) (a .status) (a .saves) (a .names) (a .olds) (a .news) (a .inits) (a .overlapped) p (j .pairs) (j .value) (exchange-shape .pairs) z exchange-step) (left .next))
 
   -- A TRANSACTION

@@ -29,7 +29,7 @@ use Rattle.jobs.specs.declared.Inner.{Inner}
 use Rattle.jobs.specs.declared.Inner.the-variants as Inner
 use Rattle.jobs.specs.declared.Job.{Job}
 use Rattle.simulation.proofs.View.{Parts, bodyFrom, transactionOf, innerOf, phaseOf, waitingOf, taskOf, withCounts as partsWith}
-use Rattle.simulation.proofs.Parts.{sizes, partsOf, sharedOf, turnOf, JobShape, Simulated, counted-same, counted-other, counted-size, counted-others}
+use Rattle.simulation.proofs.Parts.{sizes, partsOf, sharedOf, Leaves, codeLeaves, JobShape, Simulated, counted-same, counted-other, counted-size, counted-others}
 use Rattle.simulation.proofs.Releases.{releasesFrom}
 use Rattle.simulation.proofs.Statements.{statement-tick}
 use Rattle.simulation.proofs.Unfinished.{busy, bitOf, mask-set, TopTask, Top, none, some, top}
@@ -68,7 +68,7 @@ waiting-counts j x c (Phase.Transaction s) = refl
 -- a tick is counted
 ticked-task : (sheet : List ℕ) (body : List Command) (j : Job) (x : Parts) (c : List ℕ)
     → at 0 c 0 ≡ at 0 (x .counts) 0 → at 0 c 1 ≡ at 0 (x .counts) 1 → at 0 c 2 ≡ at 0 (x .counts) 2 → at 0 c 3 ≡ suc (at 0 (x .counts) 3)
-    → taskOf sheet body j (partsWith x c) ≡ J.ticked (taskOf sheet body j x)
+    → taskOf sheet body j (partsWith x c) ≡ J.counting J.ticks (taskOf sheet body j x)
 ticked-task sheet body j x c finished spent rejected more = rw (phase-counts sheet j x c (j .phase), waiting-counts j x c (j .phase), finished, spent, rejected, more)
 
 -- the mask without a task that has finished
@@ -92,7 +92,7 @@ module _ (sheet bodies : List ℕ) (s : Sheet) (c : SheetFit s) (w : World) (g :
   unfolding M.moveAny M.move
   nobody-ticks f =
       let more : w .ticks + 1 ≡ suc (w .ticks) = omega arith in
-      let running : M.runningOf (m .tasks) ≡ M.nobody = nobody-runs sheet bodies n (c .bodies) (w .arrays) (w .jobs) (g .idle) f in
+      let running : M.runningOf m ≡ M.nobody = nobody-runs sheet bodies n (c .bodies) m (w .arrays) (w .jobs) refl (g .idle) f in
       record {
         same = rw (running, more);
         sound = record { sized = g .sized; jobs = g .jobs; shape = g .shape; idle = g .idle; mask = g .mask };
@@ -132,7 +132,7 @@ module _ (sheet bodies : List ℕ) (s : Sheet) (c : SheetFit s) (w : World) (g :
     u = statement sheet (w .arrays) p j (j .phase)
 
     abbrev v : J.Turn
-    v = M.statement p (sharedOf (w .arrays)) t (t .phase)
+    v = M.statement p (sharedOf (w .arrays)) t (t .job .phase)
 
     simulated : Simulated sheet body (w .arrays) p u v
     simulated =
@@ -144,10 +144,10 @@ module _ (sheet bodies : List ℕ) (s : Sheet) (c : SheetFit s) (w : World) (g :
     size : length (u .arrays .counts) ≡ 32
     size = sizes (u .arrays) (simulated .sizes ∙ g .sized) .counts
 
-    counted-ticks : taskOf sheet body (u .job) (partsOf after p) ≡ J.ticked (taskOf sheet body (u .job) (partsOf (u .arrays) p))
+    counted-ticks : taskOf sheet body (u .job) (partsOf after p) ≡ J.counting J.ticks (taskOf sheet body (u .job) (partsOf (u .arrays) p))
     counted-ticks =
         let turned = statement-fit (c .blocks) (fit .memory) t (task-fit .registers) (task-fit .copies) p (task-fit .phase) in
-        let ticks = ap (λ (z : J.Turn). z .task .ticks) (simulated .same) in
+        let ticks = ap (λ (z : Leaves). z .task .counts .ticks) (simulated .same) in
         let few : at 0 (row 4 p (u .arrays .counts)) 3 < 4294967295 = omega (arith, turned .ticks, ticks, small 3 (omega arith)) in
         ticked-task sheet body (u .job) (partsOf (u .arrays) p) (row 4 p (counted (u .arrays .counts) p 3))
         (counted-other (u .arrays .counts) p 3 size (h .below) (omega arith) 0 (λ z. omega arith))
@@ -158,11 +158,14 @@ module _ (sheet bodies : List ℕ) (s : Sheet) (c : SheetFit s) (w : World) (g :
     others : (q : ℕ) → q ≢ p → partsOf after q ≡ partsOf (w .arrays) q
     others q d = ap (partsWith (partsOf (u .arrays) q)) (counted-others (u .arrays .counts) p 3 size (h .below) (omega arith) q d) ∙ simulated .others q d
 
-    moved : M.moveAny m ≡ M.afterTurn m p (turnOf sheet body p u)
+    abbrev afterLeaves : Leaves → M.Machine
+    afterLeaves z = M.afterTurn m p (J.turn (z .memory) (z .task) J.nothingDone)
+
+    moved : M.moveAny m ≡ afterLeaves (codeLeaves sheet body p u)
     unfolding M.moveAny M.move
     moved =
-        let running : M.runningOf (m .tasks) ≡ M.running p = top-runs sheet bodies n (c .bodies) (w .arrays) (w .jobs) (g .idle) p h in
-        ap (M.move m) running ∙ ap (λ (z : J.Task). M.afterTurn m p (M.statement p (m .memory) z (z .phase))) t-at ∙ ap (M.afterTurn m p) (simulated .same)
+        let running : M.runningOf m ≡ M.running p = top-runs sheet bodies n (c .bodies) m (w .arrays) (w .jobs) refl (g .idle) p h in
+        ap (M.move m) running ∙ ap (λ (z : J.Task). M.afterTurn m p (M.statement p (m .memory) z (z .job .phase))) t-at ∙ ap afterLeaves (simulated .same)
 
     abbrev next : World
     next = world after (set (w .jobs) p (u .job)) (leftBy true (unfinishedJob (u .job .phase)) (w .mask) p) (w .place) (w .ticks + 1) (w .dropped)

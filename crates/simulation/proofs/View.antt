@@ -170,7 +170,7 @@ waitingOf j a (Phase.Transaction s) = []
 
 abbrev pub task : List C.Command → List C.Command → J.Phase → List ℕ → List X.Entry → List ℕ → List ℕ → J.Task
 task body commands phase registers pairs copies counts =
-    record { body = body; commands = commands; phase = phase; registers = registers; pairs = pairs; copies = copies; finished = at 0 counts 0; spent = at 0 counts 1; rejected = at 0 counts 2; ticks = at 0 counts 3 }
+    J.task body copies (J.counts (at 0 counts 0) (at 0 counts 1) (at 0 counts 2) (at 0 counts 3)) (J.job phase commands registers pairs)
 
 -- the task with that body
 abbrev pub taskOf : List ℕ → List C.Command → Job → Parts → J.Task

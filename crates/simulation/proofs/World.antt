@@ -2,7 +2,7 @@
 use Prim.Native.Nat.{ℕ, _<_, _≤_}
 use mathlib.Core.Path.{_≡_, refl, sym, ap, _∙_}
 use mathlib.Core.Logic.{_≢_}
-use mathlib.Core.Bool.{Bool, true, false}
+use mathlib.Core.Bool.{Bool, true, false, true≢false}
 use mathlib.Core.List.{List}
 use native.Mathlib.Omega.{arith}
 use lib.Dec.{ltb}
@@ -14,7 +14,7 @@ use Rattle.model.specs.Job as J
 use Rattle.model.specs.Machine as M
 use Rattle.model.proofs.Lists.{at-past}
 use Rattle.model.proofs.Fit.Elements.{below?}
-use Rattle.model.proofs.Fit.Running.{highest-running, none-nobody}
+use Rattle.model.proofs.Fit.Running.{foremost-running, none-nobody}
 use Rattle.model.proofs.Fit.Running.{busy as working}
 use Rattle.statements.specs.Statements.{Arrays}
 use Rattle.machine.specs.World.{unfinishedJob, World, jobOf, noJob}
@@ -80,24 +80,38 @@ module _ (sheet bodies : List ℕ) (n : ℕ) where
     unfinished-view j x (Phase.Transaction s) = refl
 
     pub task-busy : (a : Arrays) (js : List Job) (p : ℕ) → p < n → working (tasksOf a js) p ≡ busy js p
-    task-busy a js p h = ap (λ (t : J.Task). M.unfinished (t .phase)) (task-at a js p h) ∙ unfinished-view (getD js p noJob) (partsOf a p) (getD js p noJob .phase)
+    task-busy a js p h = ap (λ (t : J.Task). M.unfinished (t .job .phase)) (task-at a js p h) ∙ unfinished-view (getD js p noJob) (partsOf a p) (getD js p noJob .phase)
 
     working-view : (a : Arrays) (js : List Job) → ((p : ℕ) → n ≤ p → busy js p ≡ false) → (q : ℕ) → q < 8 → working (tasksOf a js) q ≡ busy js q
     working-view a js idle q h =
         below? q n (λ l. task-busy a js q l)
-        (λ l. ap (λ (t : J.Task). M.unfinished (t .phase)) (any-task a js q h ∙ ap (λ (b : Bool). declaredBy b (taskIn a js q)) (le-ltb q n l)) ∙ sym (idle q l))
+        (λ l. ap (λ (t : J.Task). M.unfinished (t .job .phase)) (any-task a js q h ∙ ap (λ (b : Bool). declaredBy b (taskIn a js q)) (le-ltb q n l)) ∙ sym (idle q l))
 
     working-past : (a : Arrays) (js : List Job) (q : ℕ) → 8 ≤ q → working (tasksOf a js) q ≡ false
-    working-past a js q h = ap (λ (t : J.Task). M.unfinished (t .phase)) (at-past M.noTask (tasksOf a js) q (omega (arith, tasks-size a js)))
+    working-past a js q h = ap (λ (t : J.Task). M.unfinished (t .job .phase)) (at-past M.noTask (tasksOf a js) q (omega (arith, tasks-size a js)))
 
-    module _ (a : Arrays) (js : List Job) (idle : (p : ℕ) → n ≤ p → busy js p ≡ false) where
-      pub nobody-runs : ((q : ℕ) → q < 8 → busy js q ≡ false) → M.runningOf (tasksOf a js) ≡ M.nobody
-      nobody-runs f = none-nobody (tasksOf a js) (λ q. below? q 8 (λ l. working-view a js idle q l ∙ f q l) (λ l. working-past a js q l))
+    -- of a machine with these tasks
+    module _ (m : M.Machine) (a : Arrays) (js : List Job) (is : m .tasks ≡ tasksOf a js) (idle : (p : ℕ) → n ≤ p → busy js p ≡ false) where
+      working-at : (q : ℕ) → q < 8 → working (m .tasks) q ≡ busy js q
+      working-at q l = ap (λ (ts : List J.Task). working ts q) is ∙ working-view a js idle q l
 
-      pub top-runs : (p : ℕ) → TopTask 8 js p → M.runningOf (tasksOf a js) ≡ M.running p
+      working-none : (q : ℕ) → 8 ≤ q → working (m .tasks) q ≡ false
+      working-none q l = ap (λ (ts : List J.Task). working ts q) is ∙ working-past a js q l
+
+      pub nobody-runs : ((q : ℕ) → q < 8 → busy js q ≡ false) → M.runningOf m ≡ M.nobody
+      nobody-runs f = none-nobody m (λ q. below? q 8 (λ l. working-at q l ∙ f q l) (λ l. working-none q l))
+
+      -- no higher task works, so whoever else works has a lower number
+      lower : (p q : ℕ) → TopTask 8 js p → q ≢ p → working (m .tasks) q ≡ true → q < p
+      lower p q t d u = below? q p (λ l. l) (λ l. absurd (true≢false (sym u ∙ idle-above (omega arith))))
+        where
+          idle-above : p < q → working (m .tasks) q ≡ false
+          idle-above l = below? q 8 (λ g. working-at q g ∙ t .above q l g) (λ g. working-none q g)
+
+      pub top-runs : (p : ℕ) → TopTask 8 js p → M.runningOf m ≡ M.running p
       top-runs p t =
-          highest-running (record {
-            below = omega (arith, tasks-size a js, t .below);
-            unfinished = working-view a js idle p (t .below) ∙ t .unfinished;
-            above = λ q l. below? q 8 (λ g. working-view a js idle q g ∙ t .above q l g) (λ g. working-past a js q g);
+          foremost-running (record {
+            below = omega (arith, ap length is, tasks-size a js, t .below);
+            unfinished = working-at p (t .below) ∙ t .unfinished;
+            first = λ q d u. lt-ltb q p (lower p q t d u);
           })
