@@ -8,7 +8,7 @@ use native.Mathlib.Omega.{arith}
 use lib.ListN.{length, take, drop}
 use borrow.Author.Tests.{eq-eqb, ne-eqb}
 use Rattle.model.specs.Lists.{at}
-use Rattle.model.specs.Word.{Memory, fresh, saved, current, currentOf}
+use Rattle.model.specs.Word.{Memory, saved, current, currentOf, freshWord}
 use Rattle.model.specs.Transaction.{bank, versionOf, storeOf}
 use Rattle.model.specs.Report.{line, wordLine, blockLine}
 use Rattle.model.proofs.Lists.{at-past}
@@ -52,7 +52,7 @@ module _ (status saves : List ℕ) (w : ℕ) where
       rw (e, ← t, ← k, ← f, ne-eqb _ _ other) (sym (saved-flat saves _ count whole small))
 
 -- a cell that there is
-pub unpacked : (cells : List ℕ) (c : ℕ) → c < length cells → at (fresh 0) (map unpack cells) c ≡ unpack (at 0 cells c)
+pub unpacked : (cells : List ℕ) (c : ℕ) → c < length cells → at (freshWord 0) (map unpack cells) c ≡ unpack (at 0 cells c)
 unfolding at
 unpacked (w ∷ cells) zero h = refl
 unpacked (w ∷ cells) (suc c) h = unpacked cells c (omega arith)

@@ -38,7 +38,7 @@ pub record Reported (text before after : List ℕ) (answer : ℕ) : Type 0 where
 
 -- a task's row of counts
 abbrev pub countsOf : Task → List ℕ
-countsOf t = t .finished ∷ t .spent ∷ t .rejected ∷ t .ticks ∷ []
+countsOf t = t .counts .finished ∷ t .counts .spent ∷ t .counts .rejected ∷ t .counts .ticks ∷ []
 
 -- The arrays and totals are those of a machine that ran a sheet: its memory, and of each task with a body the registers and counts.
 pub record Holds (s : Sheet) (m : Machine) (cells status saves stores registers counts : List ℕ) (t : Totals) : Type 0 where
@@ -46,7 +46,7 @@ pub record Holds (s : Sheet) (m : Machine) (cells status saves stores registers 
   pub blocks : t .blocks ≡ length (s .blocks)
   pub tasks : t .tasks ≡ length (s .bodies)
   pub memory : m .memory ≡ memoryOf cells status saves stores
-  pub registerRows : (p : ℕ) → p < length (s .bodies) → taskAt (m .tasks) p .registers ≡ row 8 p registers
+  pub registerRows : (p : ℕ) → p < length (s .bodies) → taskAt (m .tasks) p .job .registers ≡ row 8 p registers
   pub countRows : (p : ℕ) → p < length (s .bodies) → countsOf (taskAt (m .tasks) p) ≡ row 4 p counts
   pub now : m .now ≡ t .now
   pub dropped : m .dropped ≡ t .dropped

@@ -9,8 +9,8 @@ use lib.ListN.{length, getD, set, length-map, length-set}
 use Rattle.model.specs.Lists.{at, replace}
 use Rattle.model.specs.Command.{Block, bigEndian, operand, blockOf}
 use Rattle.model.specs.Sheet.{Sheet, sheetOf, verdict, accepted}
-use Rattle.model.specs.Word.{fresh}
 use Rattle.model.specs.Machine.{copiesOf}
+use Rattle.model.specs.Word.{freshWord}
 use Rattle.model.proofs.Lists.{same?, at-map, at-past, replace-same, replace-other, length-replace}
 use Rattle.model.proofs.Fit.Sheet.{SheetFit, noBlock, blockAt}
 use Rattle.model.proofs.Fit.Accepted.{accepted-fit}
@@ -49,13 +49,13 @@ pub full : {A : Type 0} {size : ℕ} {view : ℕ → A} {f : ℕ → A} {l : Lis
 full {size = size} {view} {f} {l} {n} h e = let z : n ≡ size = omega (arith, h .most) in subst (λ (k : ℕ). Filled size view f l k) z h
 
 -- the word or the bank word that a cell is
-pub cell-word : (s : Sheet) {v : ℕ} (c : ℕ) → c < 32 → v ≡ at 0 (s .words) c → fresh v ≡ fresh (cellStart s c)
+pub cell-word : (s : Sheet) {v : ℕ} (c : ℕ) → c < 32 → v ≡ at 0 (s .words) c → freshWord v ≡ freshWord (cellStart s c)
 unfolding cellStart
-cell-word s c h e = ap fresh (e ∙ ap (λ t. cellBy t s c) (sym (lt-ltb c 32 h)))
+cell-word s c h e = ap freshWord (e ∙ ap (λ t. cellBy t s c) (sym (lt-ltb c 32 h)))
 
-pub cell-bank : (s : Sheet) {v : ℕ} (c : ℕ) → 32 ≤ c → v ≡ bankStart s (c - 32) → fresh v ≡ fresh (cellStart s c)
+pub cell-bank : (s : Sheet) {v : ℕ} (c : ℕ) → 32 ≤ c → v ≡ bankStart s (c - 32) → freshWord v ≡ freshWord (cellStart s c)
 unfolding cellStart
-cell-bank s c h e = ap fresh (e ∙ ap (λ t. cellBy t s c) (sym (le-ltb c 32 h)))
+cell-bank s c h e = ap freshWord (e ∙ ap (λ t. cellBy t s c) (sym (le-ltb c 32 h)))
 
 below-default : {A : Type 0} (d e : A) (l : List A) (i : ℕ) → i < length l → at d l i ≡ at e l i
 unfolding at
@@ -67,12 +67,12 @@ module _ {s : List ℕ} {n : Counts} (c : Counted s n) where
   fit : SheetFit (sheetOf s)
   fit = accepted-fit s (c .sound)
 
-  pub cells-filled : {l : List ℕ} → Filled 48 unpack (λ i. fresh (cellStart (sheetOf s) i)) l 48 → Cells s l
+  pub cells-filled : {l : List ℕ} → Filled 48 unpack (λ i. freshWord (cellStart (sheetOf s) i)) l 48 → Cells s l
   cells-filled {l} h =
       record {
         size = h .length;
         start = cells-started fit (map unpack l) (length-map l unpack ∙ h .length) (λ i b.
-            below-default (fresh 0) (unpack 0) (map unpack l) i (rw (length-map l unpack, h .length) b) ∙ at-map unpack 0 l i ∙ h .each i b);
+            below-default (freshWord 0) (unpack 0) (map unpack l) i (rw (length-map l unpack, h .length) b) ∙ at-map unpack 0 l i ∙ h .each i b);
       }
 
   pub stores-filled : {l : List ℕ} → Filled 384 (λ v. v) (storedStart (sheetOf s)) l 384 → Stores s l

@@ -11,10 +11,9 @@ use lib.Seq.{ext-getD, getD-append-add}
 use Rattle.model.specs.Lists.{at}
 use Rattle.model.specs.Command.{Block}
 use Rattle.model.specs.Sheet.{Sheet}
-use Rattle.model.specs.Word.{Word}
-use Rattle.model.specs.Word.{fresh as freshWord}
+use Rattle.model.specs.Word.{Word, freshWord}
 use Rattle.model.specs.Transaction.{bankValue}
-use Rattle.model.specs.Machine.{startMemory, filled, banksFrom, zeros, valuesOf}
+use Rattle.model.specs.Machine.{startMemory, filled, banksFrom, zeros, startValues}
 use Rattle.model.proofs.Lists.{at-append, at-replicate, at-past, at-map}
 use Rattle.model.proofs.Fit.Elements.{below?, at-filled}
 use Rattle.model.proofs.Fit.Sheet.{SheetFit, noBlock}
@@ -96,7 +95,7 @@ module _ {s : Sheet} (c : SheetFit s) where
   taken = replicate (4 * length (s .bodies)) (zeros 8)
 
   abbrev blockStores : List (List ℕ)
-  blockStores = map valuesOf (s .blocks)
+  blockStores = map startValues (s .blocks)
 
   start-stores : startMemory s .stores ≡ filled 48 (zeros 8) (taken ++ blockStores)
   unfolding startMemory
@@ -110,7 +109,7 @@ module _ {s : Sheet} (c : SheetFit s) where
   zero-at k h = at-replicate 0 0 8 k h
 
   stores-size : length (taken ++ blockStores) ≡ 4 * length (s .bodies) + length (s .blocks)
-  stores-size = omega (arith, length-append taken blockStores, length-replicate (4 * length (s .bodies)) (zeros 8), length-map (s .blocks) valuesOf)
+  stores-size = omega (arith, length-append taken blockStores, length-replicate (4 * length (s .bodies)) (zeros 8), length-map (s .blocks) startValues)
 
   -- place k of store r
   stored-at : (r k : ℕ) → r < 48 → k < 8 → at 0 (at [] (startMemory s .stores) r) k ≡ storedStart s (8 * r + k)
@@ -128,7 +127,7 @@ module _ {s : Sheet} (c : SheetFit s) where
       ∙ zeros-here
       ∙ ap (λ t. storedBy t s (8 * r + k)) (sym (lt-ltb ((8 * r + k) / 8) (4 * length (s .bodies)) (rw row h))))
       (λ h. below? r (4 * length (s .bodies) + length (s .blocks))
-      (λ b. ap (λ (l : List ℕ). at 0 l k) (at-append [] (taken ++ blockStores) rest r (omega arith) ∙ behind [] taken blockStores (4 * length (s .bodies)) r size h ∙ at-map valuesOf noBlock (s .blocks) (r - 4 * length (s .bodies))))
+      (λ b. ap (λ (l : List ℕ). at 0 l k) (at-append [] (taken ++ blockStores) rest r (omega arith) ∙ behind [] taken blockStores (4 * length (s .bodies)) r size h ∙ at-map startValues noBlock (s .blocks) (r - 4 * length (s .bodies))))
       (λ b. ap (λ (l : List ℕ). at 0 l k) (behind [] (taken ++ blockStores) rest (4 * length (s .bodies) + length (s .blocks)) r whole b ∙ at-replicate [] (zeros 8) (48 - length (taken ++ blockStores)) (r - (4 * length (s .bodies) + length (s .blocks))) (omega arith))
       ∙ zeros-here
       ∙ sym (ap (λ (z : Block). at 0 (z .values) k) (at-past noBlock (s .blocks) (r - 4 * length (s .bodies)) (omega arith)) ∙ none-at k))

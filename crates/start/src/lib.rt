@@ -3,7 +3,7 @@ ghost use mathlib.Core.Path.{_≡_};
 ghost use Prim.Native.Nat.{_<_, _≤_};
 ghost use Rattle.model.specs.Lists.{at};
 ghost use Rattle.model.specs.Sheet.{sheetOf};
-ghost use Rattle.model.specs.Word.{fresh};
+ghost use Rattle.model.specs.Word.{freshWord};
 ghost use Rattle.memory.specs.Packed.{unpack};
 ghost use Rattle.start.specs.Start.{bankStart, cellStart, storedStart};
 ghost use Rattle.start.specs.Contract.{Counted, Cells, Stores, Copies};
@@ -40,14 +40,14 @@ fn bank_start(sheet: &[u8], n: Counts, b: usize) -> u32
 }
 
 fn packed_fresh(value: u32) -> u64
-    ensures { λ r. ⌜ unpack r ≡ fresh value ⌝ }
+    ensures { λ r. ⌜ unpack r ≡ freshWord value ⌝ }
 {
     Word::fresh(value).pack()
 }
 
 fn cell_start(sheet: &[u8], n: Counts, c: usize) -> u64
     requires { ⌜ Counted (now sheet) n ⌝ }
-    ensures { λ r. ⌜ unpack r ≡ fresh (cellStart (sheetOf (now (sheet .entry))) c) ⌝ }
+    ensures { λ r. ⌜ unpack r ≡ freshWord (cellStart (sheetOf (now (sheet .entry))) c) ⌝ }
 {
     if c < 32 {
         return packed_fresh(word_start(sheet, n, c));

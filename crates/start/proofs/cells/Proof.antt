@@ -4,7 +4,7 @@ use native.Mathlib.Omega.{arith}
 use mathlib.Core.Path.{refl}
 use borrow.Author.Needs.{needs}
 use Rattle.model.specs.Sheet.{sheetOf}
-use Rattle.model.specs.Word.{fresh}
+use Rattle.model.specs.Word.{freshWord}
 use Rattle.memory.specs.Packed.{unpack}
 use Rattle.start.specs.Start.{cellStart}
 use Rattle.start.proofs.Arrays.{Filled, nothing-filled, filled-next, full, cells-filled}
@@ -12,7 +12,7 @@ use Rattle.start.proofs.cells.Statement.{statement}
 use Rattle.start.proofs.cells.Tie as tie
 
 abbrev Inv-loop : tie.InvT-loop
-Inv-loop sheet n cells₀ c₀ cells c = Filled 48 unpack (λ i. fresh (cellStart (sheetOf sheet) i)) cells c
+Inv-loop sheet n cells₀ c₀ cells c = Filled 48 unpack (λ i. freshWord (cellStart (sheetOf sheet) i)) cells c
 
 abbrev μ-loop : tie.MeasureT-loop
 μ-loop sheet n cells₀ c₀ cells c = 48 - c
