@@ -10,17 +10,13 @@ use Rattle.model.specs.Word.{current, currentOf, stored}
 use Rattle.model.specs.Transaction.{bank, versionOf, storeOf}
 use Rattle.model.specs.Machine.{Machine, run, startMachine, taskAt}
 use Rattle.model.specs.Sheet.{sheetOf}
-use Rattle.model.specs.Answer.{Answer, runAnswer, finalOf}
+use Rattle.model.specs.Answer.{Checked, checkAnswer, Answer, runAnswer, finalOf}
 use Rattle.model.proofs.WholeCases.{sameNumbers}
 use Rattle.model.proofs.Sheets.{body₁, bodyTwoWords, bodyRead, sheetA, against, sheetU, sheetUU}
 use Rattle.model.proofs.Bytes.{join, word, block, task, release, end, load, add, pair, begin, get}
 
--- FIGURES
+-- FIGURES of the machine when the run has stopped
 pub data Figure : Type 0 where
-  -- number and place
-  refusal : ℕ → ℕ → Figure
-  -- the report byte for byte, the rest of the buffer unchanged
-  prints : List ℕ → Figure
   -- word, current value
   wordIs : ℕ → ℕ → Figure
   -- block, version
@@ -37,54 +33,81 @@ pub data Figure : Type 0 where
   ticksDone : ℕ → Figure
   dropsAre : ℕ → Figure
 
+-- WHAT BOTH ENTRIES ANSWER
+pub data Outcome : Type 0 where
+  -- the sheet check and the run refuse the sheet: number and place
+  sheetRefused : ℕ → ℕ → Outcome
+  -- the sheet is accepted, the run refused: number and place
+  runRefused : ℕ → ℕ → Outcome
+  -- the report byte for byte, the rest of the buffer unchanged
+  prints : List ℕ → Outcome
+  -- the run is answered with number 0 and its machine has these figures
+  ends : List Figure → Outcome
+
 pub record Case : Type 0 where
   pub sheet : List ℕ
   pub limit : ℕ
   pub buffer : List ℕ
-  pub figures : List Figure
+  pub outcome : Outcome
 
 fill : ℕ
 fill = 0x2E
 
-holds : Answer → Machine → Figure → Bool
-unfolding at current sameNumbers fill
-holds a m (refusal n place) = eqb (a .number) n && eqb (a .place) place
-holds a m (prints text) = eqb (a .number) 0 && eqb (a .place) (length text) && sameNumbers (a .buffer) (text ++ fill ∷ fill ∷ [])
-holds a m (wordIs w v) = eqb (currentOf (m .memory) w) v
-holds a m (versionIs b v) = eqb (versionOf (currentOf (m .memory) (bank b))) v
-holds a m (valueIs b o v) = eqb (stored (m .memory .stores) (storeOf (currentOf (m .memory) (bank b))) o) v
-holds a m (registerIs p r v) = eqb (at 0 (taskAt (m .tasks) p .job .registers) r) v
-holds a m (finishedAre p n) = eqb (taskAt (m .tasks) p .counts .finished) n
-holds a m (spentAre p n) = eqb (taskAt (m .tasks) p .counts .spent) n
-holds a m (rejectedAre p n) = eqb (taskAt (m .tasks) p .counts .rejected) n
-holds a m (ticksUsed p n) = eqb (taskAt (m .tasks) p .counts .ticks) n
-holds a m (ticksDone n) = eqb (m .now) n
-holds a m (dropsAre n) = eqb (m .dropped) n
+holds : Machine → Figure → Bool
+unfolding at current
+holds m (wordIs w v) = eqb (currentOf (m .memory) w) v
+holds m (versionIs b v) = eqb (versionOf (currentOf (m .memory) (bank b))) v
+holds m (valueIs b o v) = eqb (stored (m .memory .stores) (storeOf (currentOf (m .memory) (bank b))) o) v
+holds m (registerIs p r v) = eqb (at 0 (taskAt (m .tasks) p .job .registers) r) v
+holds m (finishedAre p n) = eqb (taskAt (m .tasks) p .counts .finished) n
+holds m (spentAre p n) = eqb (taskAt (m .tasks) p .counts .spent) n
+holds m (rejectedAre p n) = eqb (taskAt (m .tasks) p .counts .rejected) n
+holds m (ticksUsed p n) = eqb (taskAt (m .tasks) p .counts .ticks) n
+holds m (ticksDone n) = eqb (m .now) n
+holds m (dropsAre n) = eqb (m .dropped) n
 
-all : Answer → Machine → List Figure → Bool
+all : Machine → List Figure → Bool
 unfolding holds
-all a m [] = true
-all a m (f ∷ l) = holds a m f && all a m l
+all m [] = true
+all m (f ∷ l) = holds m f && all m l
+
+checkIs : Checked → ℕ → ℕ → Bool
+checkIs c n place = eqb (c .number) n && eqb (c .place) place
+
+runIs : Answer → ℕ → ℕ → Bool
+runIs a n place = eqb (a .number) n && eqb (a .place) place
+
+-- by what the sheet check and the run answer, and by the run's machine
+agrees : Checked → Answer → Machine → Outcome → Bool
+unfolding checkIs runIs all sameNumbers fill
+agrees c a m (sheetRefused n place) = checkIs c n place && runIs a n place
+agrees c a m (runRefused n place) = checkIs c 0 0 && runIs a n place
+agrees c a m (prints text) = checkIs c 0 0 && runIs a 0 (length text) && sameNumbers (a .buffer) (text ++ fill ∷ fill ∷ [])
+agrees c a m (ends fs) = checkIs c 0 0 && eqb (a .number) 0 && all m fs
 
 passes : Case → Bool
-unfolding all runAnswer run startMachine sheetOf
+unfolding agrees checkAnswer runAnswer run startMachine sheetOf
 passes c =
     let a : Answer = runAnswer (c .sheet) (c .limit) (c .buffer) in
     let m : Machine = finalOf (c .sheet) (c .limit) in
-    all a m (c .figures)
+    agrees (checkAnswer (c .sheet)) a m (c .outcome)
 
 pub allPass : List Case → Bool
 unfolding passes
 allPass [] = true
 allPass (c ∷ l) = passes c && allPass l
 
--- A CASE with limit 65,535 and no report buffer, and one with all of them
+-- A CASE with limit 65,535 that is refused, one that has figures and room for its report, and one with a report
+refused : List ℕ → ℕ → ℕ → Case
+refused s n place = record { sheet = s; limit = 65535; buffer = []; outcome = sheetRefused n place }
+
 figures : List ℕ → List Figure → Case
-figures s fs = record { sheet = s; limit = 65535; buffer = []; figures = fs }
+unfolding fill
+figures s fs = record { sheet = s; limit = 65535; buffer = replicate 400 fill; outcome = ends fs }
 
 report : List ℕ → ℕ → List ℕ → Case
 unfolding fill
-report s limit text = record { sheet = s; limit = limit; buffer = replicate (length text + 2) fill; figures = prints text ∷ [] }
+report s limit text = record { sheet = s; limit = limit; buffer = replicate (length text + 2) fill; outcome = prints text }
 
 -- sheet A as document 01 writes it
 bytesA : List ℕ
@@ -114,7 +137,8 @@ untouchedA : List ℕ
 untouchedA =
     0x57 ∷ 0x20 ∷ 0x30 ∷ 0x20 ∷ 0x31 ∷ 0x32 ∷ 0x0A
     ∷ 0x54 ∷ 0x20 ∷ 0x30 ∷ 0x20 ∷ 0x30 ∷ 0x20 ∷ 0x30 ∷ 0x20 ∷ 0x30 ∷ 0x20 ∷ 0x30 ∷ 0x0A
-    ∷ 0x52 ∷ 0x20 ∷ 0x30 ∷ 0x20 ∷ 0x30 ∷ 0x20 ∷ 0x30 ∷ 0x20 ∷ 0x30 ∷ 0x20 ∷ 0x30 ∷ 0x20 ∷ 0x30 ∷ 0x20 ∷ 0x30 ∷ 0x20 ∷ 0x30 ∷ 0x20 ∷ 0x30 ∷ 0x0A
+    ∷ 0x52 ∷ 0x20 ∷ 0x30 ∷ 0x20 ∷ 0x30 ∷ 0x20 ∷ 0x30 ∷ 0x20 ∷ 0x30
+    ∷ 0x20 ∷ 0x30 ∷ 0x20 ∷ 0x30 ∷ 0x20 ∷ 0x30 ∷ 0x20 ∷ 0x30 ∷ 0x20 ∷ 0x30 ∷ 0x0A
     ∷ 0x45 ∷ 0x20 ∷ 0x30 ∷ 0x20 ∷ 0x30 ∷ 0x0A
     ∷ []
 
@@ -132,28 +156,28 @@ getsTo zero = []
 getsTo (suc n) = get 0 n 0 ∷ getsTo n
 
 pub table : List Case
-unfolding nineBlocks getsTo figures report bytesA reportA untouchedA words33
+unfolding nineBlocks getsTo refused figures report bytesA reportA untouchedA words33
 table =
     -- P1, byte for byte, and the sheet as document 01 writes it
     report sheetA 65535 reportA
     ∷ report bytesA 65535 reportA
     -- the refusal table; P2 is rows 3, 6, 7 and 8
-    ∷ figures (0xFF ∷ []) (refusal 1 0 ∷ [])
-    ∷ figures (0x01 ∷ 0x00 ∷ 0x00 ∷ []) (refusal 2 0 ∷ [])
-    ∷ figures [] (refusal 2 0 ∷ [])
-    ∷ figures (task ++ load 0 5 ++ end ++ (0x00 ∷ [])) (refusal 3 8 ∷ [])
-    ∷ figures end (refusal 4 0 ∷ [])
-    ∷ figures words33 (refusal 5 160 ∷ [])
-    ∷ figures (task ++ add 8 0) (refusal 6 1 ∷ [])
-    ∷ figures (word 0 ++ task ++ pair 0 0 1 ++ pair 0 0 1) (refusal 7 10 ∷ [])
-    ∷ figures (task ++ add 0 0 ++ release 2 0 ++ release 1 0) (refusal 8 8 ∷ [])
-    ∷ (record { sheet = sheetA; limit = 65536; buffer = []; figures = refusal 9 0 ∷ [] })
-    ∷ figures sheetA (refusal 10 (length reportA) ∷ [])
+    ∷ refused (0xFF ∷ []) 1 0
+    ∷ refused (0x01 ∷ 0x00 ∷ 0x00 ∷ []) 2 0
+    ∷ refused [] 2 0
+    ∷ refused (task ++ load 0 5 ++ end ++ (0x00 ∷ [])) 3 8
+    ∷ refused end 4 0
+    ∷ refused words33 5 160
+    ∷ refused (task ++ add 8 0) 6 1
+    ∷ refused (word 0 ++ task ++ pair 0 0 1 ++ pair 0 0 1) 7 10
+    ∷ refused (task ++ add 0 0 ++ release 2 0 ++ release 1 0) 8 8
+    ∷ (record { sheet = sheetA; limit = 65536; buffer = []; outcome = runRefused 9 0 })
+    ∷ (record { sheet = sheetA; limit = 65535; buffer = []; outcome = runRefused 10 (length reportA) })
     -- two faults at one command, the lowest number wins: 2 before 4, 4 before 6, 5 before 6, 6 before 7
-    ∷ figures (0x14 ∷ []) (refusal 2 0 ∷ [])
-    ∷ figures (release 0 0) (refusal 4 0 ∷ [])
-    ∷ figures (nineBlocks ++ task ++ begin ++ join (getsTo 8) ++ get 8 8 0) (refusal 5 367 ∷ [])
-    ∷ figures (word 0 ++ task ++ pair 0 0 1 ++ pair 0 0 8) (refusal 6 10 ∷ [])
+    ∷ refused (0x14 ∷ []) 2 0
+    ∷ refused (release 0 0) 4 0
+    ∷ refused (nineBlocks ++ task ++ begin ++ join (getsTo 8) ++ get 8 8 0) 5 367
+    ∷ refused (word 0 ++ task ++ pair 0 0 1 ++ pair 0 0 8) 6 10
     -- P3 and P4
     ∷ figures (against (word 12) body₁ 9) (registerIs 0 0 0 ∷ registerIs 1 0 1 ∷ wordIs 0 7 ∷ ticksDone 26 ∷ [])
     ∷ figures (against (word 12) body₁ 11) (registerIs 0 0 1 ∷ registerIs 1 0 0 ∷ wordIs 0 5 ∷ ticksDone 23 ∷ [])
@@ -172,7 +196,7 @@ table =
     ∷ figures sheetUU (ticksDone 75 ∷ valueIs 0 0 43 ∷ versionIs 0 5 ∷ rejectedAre 0 0 ∷ rejectedAre 1 0 ∷ dropsAre 0 ∷ [])
     ∷ []
 
--- every figure of the table holds
+-- every sheet of the table is refused or accepted as it says, with these answers and figures
 pub all-pass : allPass table ≡ true
 unfolding allPass table
 all-pass = refl

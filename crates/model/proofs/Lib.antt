@@ -1,4 +1,6 @@
 pub mod Lists
+-- the decimal numbers of a report
+pub mod Decimal
 -- two tables proved by computation: demand 3 on small runs, document 01's figures
 pub mod Bytes
 pub mod Sheets

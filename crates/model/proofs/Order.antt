@@ -1,11 +1,12 @@
 -- Demand 3, history and order: the claim of a run follows once each tick justifies what it settles (Justified.antt says what that is;
 -- `whole` in Theorem.antt draws the conclusion).
--- the claim about any history, and about three small runs with their orders; the search of WholeCases decides it
+-- the claim about any history; the search of WholeCases decides it. Stated histories with orders in which it holds and does not hold
 pub mod Ordered
 pub mod Counted
 pub mod Example
 pub mod Tests
 pub mod Search
+pub mod Stated
 -- an order as a log by ticks, and how it grows with the history: the abstract theorem
 pub mod Log
 pub mod Advance

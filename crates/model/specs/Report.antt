@@ -15,7 +15,7 @@ unfoldable pub digitsBy : Bool → (ℕ → List ℕ → List ℕ) → ℕ → L
 digitsBy true go v follow = (0x30 + v) ∷ follow
 digitsBy false go v follow = go (v / 10) ((0x30 + v % 10) ∷ follow)
 
--- the decimal digits of a number of at most n digits, in front of what follows
+-- the decimal digits of v, at most n of them, in front of what follows
 unfoldable pub digits : ℕ → ℕ → List ℕ → List ℕ
 unfolding digitsBy
 digits zero v follow = follow
@@ -23,9 +23,9 @@ digits (suc n) v follow =
     let go : ℕ → List ℕ → List ℕ = digits n in
     digitsBy (ltb v 10) go v follow
 
--- no number of a report has more than ten digits
+-- of every number: v has no more than v + 1 digits
 abbrev pub decimal : ℕ → List ℕ
-decimal v = digits 10 v []
+decimal v = digits (suc v) v []
 
 unfoldable pub fields : List ℕ → List ℕ
 unfolding digits

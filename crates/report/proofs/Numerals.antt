@@ -7,16 +7,8 @@ use native.Mathlib.Numerals.{add-one}
 use native.Mathlib.Omega.{arith}
 use lib.ListN.{length, set, drop, length-set, drop-of-length-le}
 use lib.Seq.{drop-cons, drop-set-lt, getD-set-same}
-use borrow.Author.Tests.{lt-ltb, le-ltb}
 use Rattle.model.specs.Report.{decimal, digits}
-
-more : (n v : ℕ) (follow : List ℕ) → 10 ≤ v → digits (suc n) v follow ≡ digits n (v / 10) ((0x30 + v % 10) ∷ follow)
-unfolding digits
-more n v follow h = rw (le-ltb v 10 h)
-
-last : (n v : ℕ) (follow : List ℕ) → v < 10 → digits (suc n) v follow ≡ (0x30 + v) ∷ follow
-unfolding digits
-last n v follow h = rw (lt-ltb v 10 h)
+use Rattle.model.proofs.Decimal.{one-digit, last-digit}
 
 -- a digit stored before the others
 stored : (text : List ℕ) (i a : ℕ) → i < length text → drop i (set text i a) ≡ a ∷ drop (i + 1) text
@@ -29,7 +21,7 @@ pub record Left (value : ℕ) (text : List ℕ) (rest first : ℕ) : Type 0 wher
   pub whole : length text ≡ 10
   pub inside : first < 10
   pub small : rest < 10 ^ (first + 1)
-  pub same : decimal value ≡ digits (first + 1) rest (drop (first + 1) text)
+  pub same : decimal value ≡ digits (suc rest) rest (drop (first + 1) text)
 
 module _ {value rest first : ℕ} {text : List ℕ} (l : Left value text rest first) where
   pub further : 10 ≤ rest → 1 ≤ first
@@ -49,13 +41,13 @@ module _ {value rest first : ℕ} {text : List ℕ} (l : Left value text rest fi
         whole = rw length-set (l .whole);
         inside = omega (arith, l .inside);
         small = rw e (omega (arith, power, l .small));
-        same = rw (e, stored text first (0x30 + rest % 10) (omega (arith, l .whole, l .inside))) (l .same ∙ (rw add-one (more first rest (drop (suc first) text) h)));
+        same = rw (e, stored text first (0x30 + rest % 10) (omega (arith, l .whole, l .inside))) (l .same ∙ last-digit rest (drop (first + 1) text) h);
       }
 
   -- the first digit is stored
   pub stored-first : rest < 10 → drop first (set text first (0x30 + rest)) ≡ decimal value
   stored-first h =
-      rw (stored text first (0x30 + rest) (omega (arith, l .whole, l .inside)), l .same, add-one, last first rest (drop (suc first) text) h)
+      rw (stored text first (0x30 + rest) (omega (arith, l .whole, l .inside)), l .same, one-digit rest (drop (first + 1) text) h)
 
 pub whole-number : (value : ℕ) (text : List ℕ) → length text ≡ 10 → value < 4294967296 → Left value text value 9
 whole-number value text whole fits =
@@ -63,5 +55,5 @@ whole-number value text whole fits =
       whole = whole;
       inside = omega arith;
       small = omega arith;
-      same = ap (digits 10 value) (sym (drop-of-length-le text {i = 10} (omega arith)));
+      same = ap (digits (suc value) value) (sym (drop-of-length-le text {i = 10} (omega arith)));
     }

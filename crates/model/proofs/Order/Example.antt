@@ -1,55 +1,59 @@
--- The claim on three small runs: an order that time decides, an order that the answers decide, and P5, where a no rests on the free answer alone.
+-- Stated histories, each with an order of its operations: one table says in which order the claim holds, and one fact over the table
+-- says that the test `stands` gives these answers, by computation. Stated.antt proves that the test decides the claim in that order.
 use Prim.Native.Nat.{ℕ}
-use mathlib.Core.Bool.{true, false}
+use mathlib.Core.Bool.{Bool, true, false, not, _&&_}
 use mathlib.Core.Path.{_≡_, refl}
-use mathlib.Core.Logic.{_≢_, _⊎_, inl, inr}
+use mathlib.Core.Logic.{inl}
 use mathlib.Core.List.{List, [], _∷_, _++_}
 use mathlib.Core.Option.{none, some}
 use native.Mathlib.Omega.{arith}
 use lib.ListN.{replicate}
 use Rattle.model.specs.Lists.{at, replace}
-use Rattle.model.specs.Sheet.{sheetOf}
-use Rattle.model.specs.Word.{current}
-use Rattle.model.specs.Machine.{run, startMachine}
+use Rattle.model.specs.Fault.{among}
 use Rattle.model.specs.Plain.{Contents, result, plainly}
-use Rattle.model.specs.History.{Operation, History, historyOf}
-use Rattle.model.specs.Claim.{Counts, each, Interfered, Replays, plain, freely, over, then, In, EndedBefore, WholeOperations}
+use Rattle.model.specs.History.{Operation, History, operationAt}
+use Rattle.model.specs.Claim.{Interfered, EndedBefore}
 use Rattle.model.specs.Arguments.{Pair, readOf, swapOf}
-use Rattle.model.proofs.WholeCases.{listedBy, counted}
-use Rattle.model.proofs.Sheets.{body₁, bodyTwoWords, against}
-use Rattle.model.proofs.Bytes.{word, task, release, end, read}
-use Rattle.model.proofs.Order.Counted.{in-counted}
-use Rattle.model.proofs.Order.Ordered.{Ordered, whole-operations, ended-before}
+use Rattle.model.proofs.WholeCases.{sameContents, counted, timely, fed}
 
--- a history of two operations that count, x before y
-module _ (h : History) (x y : ℕ) {c c′ c″ : Contents} where
-  two-ordered : x ≢ y → (counted 0 (h .began) ≡ x ∷ y ∷ []) ⊎ (counted 0 (h .began) ≡ y ∷ x ∷ []) → (EndedBefore h y x → ⊥) → Counts h x → Counts h y → Replays h x c c′ → Replays h y c′ c″ → Ordered h c c″
-  two-ordered ne cs t cx cy rx ry = record {
-    order = x ∷ y ∷ [];
-    once = (λ i. apart i, (λ i. i, tt));
-    all = λ a e. all cs (in-counted 0 (h .began) a a (omega arith) e);
-    only = λ a i. only i;
-    timely = (λ b i e. timely i e, (λ b i e. i, tt));
-    replay = then rx (then ry over);
-  }
-    where
-      apart : In x (y ∷ []) → ⊥
-      apart (inl e) = ne e
+-- THE TEST
+unfoldable pub allAmong : List ℕ → List ℕ → Bool
+unfolding among
+allAmong [] m = true
+allAmong (a ∷ l) m = among a m && allAmong l m
 
-      turned : {a : ℕ} → In a (y ∷ x ∷ []) → In a (x ∷ y ∷ [])
-      turned (inl e) = inr (inl e)
-      turned (inr (inl e)) = inl e
+unfoldable pub once : List ℕ → Bool
+unfolding among
+once [] = true
+once (a ∷ l) = not (among a l) && once l
 
-      all : {a : ℕ} → (counted 0 (h .began) ≡ x ∷ y ∷ []) ⊎ (counted 0 (h .began) ≡ y ∷ x ∷ []) → In a (counted 0 (h .began)) → In a (x ∷ y ∷ [])
-      all (inl e) i = rw e at i
-      all (inr e) i = turned (rw e at i)
+-- one after the other, in time, the operations take the contents c to d with the answers of the history
+unfoldable pub replayed : History → Contents → List ℕ → Contents → Bool
+unfolding at timely fed sameContents
+replayed h d [] c = sameContents c d
+replayed h d (a ∷ l) c = timely h a l && fed (replayed h d l) h a (operationAt h a) c
 
-      only : {a : ℕ} → In a (x ∷ y ∷ []) → Counts h a
-      only (inl e) = rw e cx
-      only (inr (inl e)) = rw e cy
+-- the order has each operation that counts once and no other, and replays
+unfoldable pub stands : History → Contents → Contents → List ℕ → Bool
+unfolding once allAmong counted replayed
+stands h c d l = once l && allAmong (counted 0 (h .began)) l && allAmong l (counted 0 (h .began)) && replayed h d l c
 
-      timely : {b : ℕ} → In b (y ∷ []) → EndedBefore h b x → ⊥
-      timely (inl e) z = t (rw e at z)
+-- STATED: a history, the contents at first and at last, an order, and whether the claim holds in that order
+pub record Stated : Type 0 where
+  pub history : History
+  pub first : Contents
+  pub last : Contents
+  pub order : List ℕ
+  pub holds : Bool
+
+unfoldable pub agrees : Bool → Bool → Bool
+agrees true b = b
+agrees false b = not b
+
+unfoldable pub allAgree : List Stated → Bool
+unfolding agrees stands
+allAgree [] = true
+allAgree (s ∷ l) = agrees (s .holds) (stands (s .history) (s .first) (s .last) (s .order)) && allAgree l
 
 abbrev pairOf : ℕ → ℕ → ℕ → Pair
 pairOf w o n = record { word = w; old = o; new = n }
@@ -58,27 +62,16 @@ abbrev wordsAre : List ℕ → Contents
 wordsAre l = record { words = l; blocks = [] }
 
 -- TWO READS of a word by one task: only time decides their order
-pub reads : List ℕ
-reads = word 12 ++ task ++ read 0 0 ++ read 1 0 ++ release 0 0 ++ end
-
 abbrev a-read : ℕ → Operation
 a-read last = record { task = 0; arguments = readOf 0; last = some last; committed = false; spent = false; answers = 12 ∷ [] }
 
-abbrev readsHistory : History
-readsHistory = record { began = some (a-read 1) ∷ none ∷ some (a-read 3) ∷ none ∷ []; latest = 2 ∷ replicate 7 0 }
+abbrev historyReads : History
+historyReads = record { began = some (a-read 1) ∷ none ∷ some (a-read 3) ∷ none ∷ []; latest = 2 ∷ replicate 7 0 }
 
-reads-ordered : Ordered readsHistory (wordsAre (12 ∷ [])) (wordsAre (12 ∷ []))
-unfolding at plainly counted listedBy
-reads-ordered = two-ordered readsHistory 0 2 (omega arith) (inl refl) (λ e. omega (arith, ended-before {o = a-read 3} refl refl e)) refl refl (plain (a-read 1) refl refl) (plain (a-read 3) refl refl)
-
-pub reads-whole : WholeOperations reads 65535
-unfolding historyOf run startMachine sheetOf reads at current each
-reads-whole = whole-operations reads 65535 refl refl refl reads-ordered
+abbrev pub reads : List ℕ → Bool → Stated
+reads l b = record { history = historyReads; first = wordsAre (12 ∷ []); last = wordsAre (12 ∷ []); order = l; holds = b }
 
 -- P4: task 0 exchanges 12 for 5 in word 0. Task 1 comes after its Commit, finds 5 instead of 12 and says no; only the answers decide the order.
-pub sheetP4 : List ℕ
-sheetP4 = against (word 12) body₁ 11
-
 abbrev lowerP4 : Operation
 lowerP4 = record { task = 0; arguments = swapOf (pairOf 0 12 5 ∷ []); last = some 22; committed = true; spent = false; answers = 1 ∷ [] }
 
@@ -88,51 +81,69 @@ upperP4 = record { task = 1; arguments = swapOf (pairOf 0 12 7 ∷ []); last = s
 abbrev historyP4 : History
 historyP4 = record { began = replicate 3 none ++ some lowerP4 ∷ replicate 10 none ++ some upperP4 ∷ replicate 8 none; latest = 3 ∷ 14 ∷ replicate 6 0 }
 
-P4-ordered : Ordered historyP4 (wordsAre (12 ∷ [])) (wordsAre (5 ∷ []))
-unfolding at replace plainly counted listedBy
-P4-ordered = two-ordered historyP4 3 14 (omega arith) (inl refl) (λ e. omega (arith, ended-before {o = upperP4} refl refl e)) refl refl (plain lowerP4 refl refl) (plain upperP4 refl refl)
-
-pub P4-whole : WholeOperations sheetP4 65535
-unfolding historyOf run startMachine sheetOf sheetP4 at current each
-P4-whole = whole-operations sheetP4 65535 refl refl refl P4-ordered
+abbrev pub P4 : List ℕ → Bool → Stated
+P4 l b = record { history = historyP4; first = wordsAre (12 ∷ []); last = wordsAre (5 ∷ []); order = l; holds = b }
 
 -- P4 cut short after task 0's Commit: its exchange has not ended but counts, and is the only one
+abbrev lowerCut : Operation
+lowerCut = record { task = 0; arguments = swapOf (pairOf 0 12 5 ∷ []); last = none; committed = true; spent = false; answers = 1 ∷ [] }
+
 abbrev historyCut : History
-historyCut = record { began = replicate 3 none ++ some (record { task = 0; arguments = swapOf (pairOf 0 12 5 ∷ []); last = none; committed = true; spent = false; answers = 1 ∷ [] }) ∷ replicate 7 none; latest = 3 ∷ replicate 7 0 }
+historyCut = record { began = replicate 3 none ++ some lowerCut ∷ replicate 7 none; latest = 3 ∷ replicate 7 0 }
 
-cut-ordered : Ordered historyCut (wordsAre (12 ∷ [])) (wordsAre (5 ∷ []))
-unfolding at replace plainly counted listedBy
-cut-ordered = record {
-  order = 3 ∷ [];
-  once = (λ i. i, tt);
-  all = λ a e. in-counted 0 (historyCut .began) a a (omega arith) e;
-  only = λ a i. only i;
-  timely = (λ b i e. i, tt);
-  replay = then (plain _ refl refl) over;
-}
-  where
-    only : {a : ℕ} → In a (3 ∷ []) → Counts historyCut a
-    only (inl e) = rw e refl
-
-pub cut-whole : WholeOperations sheetP4 11
-unfolding historyOf run startMachine sheetOf sheetP4 at current each
-cut-whole = whole-operations sheetP4 11 refl refl refl cut-ordered
+abbrev pub cut : List ℕ → Bool → Stated
+cut l b = record { history = historyCut; first = wordsAre (12 ∷ []); last = wordsAre (5 ∷ []); order = l; holds = b }
 
 -- P5: task 1 also names word 1, which is 22 and not 0, so its no rests on that word. Task 0's word was 12 all the while:
 -- its no rests on the free answer alone, since task 1's exchange with a changing pair on word 0 began inside it.
-pub sheetP5 : List ℕ
-sheetP5 = against (word 12 ++ word 22) bodyTwoWords 9
-
 abbrev lowerP5 : Operation
 lowerP5 = record { task = 0; arguments = swapOf (pairOf 0 12 5 ∷ []); last = some 31; committed = false; spent = false; answers = 0 ∷ [] }
 
-abbrev upperP5 : Operation
-upperP5 = record { task = 1; arguments = swapOf (pairOf 0 12 7 ∷ pairOf 1 0 7 ∷ []); last = some 28; committed = false; spent = false; answers = 0 ∷ [] }
+abbrev upperP5 : ℕ → Operation
+upperP5 v =
+    record { task = 1; arguments = swapOf (pairOf 0 12 v ∷ pairOf 1 0 7 ∷ []); last = some 28; committed = false; spent = false; answers = 0 ∷ [] }
 
-abbrev historyP5 : History
-historyP5 = record { began = replicate 3 none ++ some lowerP5 ∷ replicate 9 none ++ some upperP5 ∷ replicate 18 none; latest = 3 ∷ 13 ∷ replicate 6 0 }
+abbrev historyP5 : ℕ → History
+historyP5 v =
+    record {
+      began = replicate 3 none ++ some lowerP5 ∷ replicate 9 none ++ some (upperP5 v) ∷ replicate 18 none;
+      latest = 3 ∷ 13 ∷ replicate 6 0;
+    }
 
-P5-interfered : Interfered historyP5 3 lowerP5
+-- task 1's new value for word 0 is 7; were it 12, its pair would change nothing and task 0's no would have no ground
+abbrev pub P5 : ℕ → List ℕ → Bool → Stated
+P5 v l b = record { history = historyP5 v; first = wordsAre (12 ∷ 22 ∷ []); last = wordsAre (12 ∷ 22 ∷ []); order = l; holds = b }
+
+-- THE TABLE
+pub table : List Stated
+table =
+    reads (0 ∷ 2 ∷ []) true
+    ∷ reads (2 ∷ 0 ∷ []) false
+    -- one left out, one twice
+    ∷ reads (0 ∷ []) false
+    ∷ reads (0 ∷ 2 ∷ 2 ∷ []) false
+    ∷ P4 (3 ∷ 14 ∷ []) true
+    ∷ P4 (14 ∷ 3 ∷ []) false
+    ∷ cut (3 ∷ []) true
+    ∷ cut [] false
+    ∷ P5 7 (3 ∷ 13 ∷ []) true
+    ∷ P5 7 (13 ∷ 3 ∷ []) true
+    -- in no order
+    ∷ P5 12 (3 ∷ 13 ∷ []) false
+    ∷ P5 12 (13 ∷ 3 ∷ []) false
+    ∷ []
+
+pub all-agree : allAgree table ≡ true
+unfolding allAgree table
+all-agree = refl
+
+-- WRITTEN OUT: the first read ended before the second began
+reads-apart : EndedBefore historyReads 0 2
+unfolding at
+reads-apart = record { operation = a-read 1; is = refl; last = 1; lasts = refl; before = omega arith }
+
+-- P5's free answer
+P5-interfered : Interfered (historyP5 7) 3 lowerP5
 unfolding at
 P5-interfered = record {
   pairs = pairOf 0 12 5 ∷ [];
@@ -142,7 +153,7 @@ P5-interfered = record {
   last = 31;
   lasts = refl;
   by = 13;
-  other = upperP5;
+  other = upperP5 7;
   began = refl;
   higher = omega arith;
   after = omega arith;
@@ -154,14 +165,6 @@ P5-interfered = record {
   on = refl;
   differs = omega arith;
 }
-
-P5-ordered : Ordered historyP5 (wordsAre (12 ∷ 22 ∷ [])) (wordsAre (12 ∷ 22 ∷ []))
-unfolding at plainly counted listedBy
-P5-ordered = two-ordered historyP5 3 13 (omega arith) (inl refl) (λ e. omega (arith, ended-before {o = upperP5} refl refl e)) refl refl (freely lowerP5 refl refl P5-interfered refl) (plain upperP5 refl refl)
-
-pub P5-whole : WholeOperations sheetP5 65535
-unfolding historyOf run startMachine sheetOf sheetP5 at current each
-P5-whole = whole-operations sheetP5 65535 refl refl refl P5-ordered
 
 -- on the plain machine alone task 0 would have said yes
 P5-not-plain : plainly (lowerP5 .arguments) (wordsAre (12 ∷ 22 ∷ [])) ≡ result (wordsAre (5 ∷ 22 ∷ [])) (1 ∷ [])

@@ -1,14 +1,12 @@
 -- The claim of demand 3 about any history between two contents, and how it gives the claim about a run.
-use Prim.Native.Nat.{ℕ, _<_}
+use Prim.Native.Nat.{ℕ}
 use mathlib.Core.Path.{_≡_}
 use mathlib.Core.List.{List}
-use mathlib.Core.Option.{some}
-use native.Mathlib.Omega.{arith}
 use Rattle.model.specs.Sheet.{sheetOf}
 use Rattle.model.specs.Machine.{run, startMachine}
 use Rattle.model.specs.Plain.{Contents}
-use Rattle.model.specs.History.{Operation, History, operationAt, historyOf}
-use Rattle.model.specs.Claim.{contentsOf, declaredContents, Counts, Sequence, In, Once, EndedBefore, RespectsTime, WholeOperations}
+use Rattle.model.specs.History.{History, historyOf}
+use Rattle.model.specs.Claim.{contentsOf, declaredContents, Counts, Sequence, In, Once, RespectsTime, WholeOperations}
 
 -- a history from the contents c to the contents c′ with the order of its operations
 pub record Ordered (h : History) (c c′ : Contents) : Type 0 where
@@ -29,7 +27,3 @@ whole-operations sheet limit eh e e′ w = record {
   timely = rw eh (w .timely);
   replay = rw (eh, e, e′) (w .replay);
 }
-
--- the last tick of an operation that ended before another began
-pub ended-before : {h : History} {b a t : ℕ} {o : Operation} → operationAt h b ≡ some o → o .last ≡ some t → EndedBefore h b a → t < a
-ended-before {t = t} is lasts e = let z : e .last ≡ t = cc in omega arith

@@ -54,7 +54,7 @@ pub record Fed (go : Contents → Bool) (h : History) (a : ℕ) (c : Contents) :
   pub follow : go leaves ≡ true
 
 module _ (go : Contents → Bool) (h : History) (a : ℕ) (c : Contents) where
-  fed-told : (o : Option Operation) → operationAt h a ≡ o → fed go h a o c ≡ true → Fed go h a c
+  pub fed-told : (o : Option Operation) → operationAt h a ≡ o → fed go h a o c ≡ true → Fed go h a c
   unfolding fed
   fed-told none e t = absurd (false≢true t)
   fed-told (some o) e t =
@@ -72,7 +72,7 @@ module _ (go : Contents → Bool) (h : History) (a : ℕ) (c : Contents) where
         follow = and-right (sameNumbers (o .answers) (0 ∷ []) && interfered h a o (o .last)) _ u;
       })
 
-  fed-found : (c′ : Contents) → Replays h a c c′ → go c′ ≡ true → fed go h a (operationAt h a) c ≡ true
+  pub fed-found : (c′ : Contents) → Replays h a c c′ → go c′ ≡ true → fed go h a (operationAt h a) c ≡ true
   unfolding fed
   fed-found c′ (plain o e f) t =
       rw e
