@@ -20,25 +20,37 @@ pub record Block : Type 0 where
   pub version : ℕ
   pub values : List ℕ
 
+-- what stands only outside a transaction
+pub data Outside : Type 0 where
+  -- register, word
+  READ : ℕ → ℕ → Outside
+  -- word, register of old, register of new
+  PAIR : ℕ → ℕ → ℕ → Outside
+  -- register for the answer
+  SWAP : ℕ → Outside
+  BEGIN : Outside
+
+-- what stands only inside one
+pub data Inside : Type 0 where
+  access : Access → Inside
+  COMMIT : Inside
+
+-- what stands only in a body
+pub data BodyCommand : Type 0 where
+  -- register, value
+  LOAD : ℕ → ℕ → BodyCommand
+  -- register, register
+  ADD : ℕ → ℕ → BodyCommand
+  outside : Outside → BodyCommand
+  inside : Inside → BodyCommand
+
 pub data Command : Type 0 where
   WORD : ℕ → Command
   BLOCK : Block → Command
   TASK : Command
   RELEASE : Release → Command
   END : Command
-  -- register, value
-  LOAD : ℕ → ℕ → Command
-  -- register, register
-  ADD : ℕ → ℕ → Command
-  -- register, word
-  READ : ℕ → ℕ → Command
-  -- word, register of old, register of new
-  PAIR : ℕ → ℕ → ℕ → Command
-  -- register for the answer
-  SWAP : ℕ → Command
-  BEGIN : Command
-  access : Access → Command
-  COMMIT : Command
+  body : BodyCommand → Command
 
 -- A row of the table: the byte, the widths of its operands, and the command that the operands make, each given by its number.
 pub record Row : Type 0 where
@@ -49,28 +61,28 @@ pub record Row : Type 0 where
 abbrev pub row : ℕ → List ℕ → ((ℕ → ℕ) → Command) → Row
 row b ws c = record { byte = b; widths = ws; command = c }
 
-abbrev pub blockOf : (ℕ → ℕ) → Block
-blockOf o = record { version = o 0; values = o 1 ∷ o 2 ∷ o 3 ∷ o 4 ∷ o 5 ∷ o 6 ∷ o 7 ∷ o 8 ∷ [] }
+abbrev pub blockFrom : (ℕ → ℕ) → Block
+blockFrom o = record { version = o 0; values = o 1 ∷ o 2 ∷ o 3 ∷ o 4 ∷ o 5 ∷ o 6 ∷ o 7 ∷ o 8 ∷ [] }
 
-abbrev pub releaseOf : (ℕ → ℕ) → Release
-releaseOf o = record { tick = o 0; task = o 1 }
+abbrev pub releaseFrom : (ℕ → ℕ) → Release
+releaseFrom o = record { tick = o 0; task = o 1 }
 
 unfoldable pub table : List Row
 table =
     row 0x01 (4 ∷ []) (λ o. WORD (o 0))
-    ∷ row 0x02 (4 ∷ 4 ∷ 4 ∷ 4 ∷ 4 ∷ 4 ∷ 4 ∷ 4 ∷ 4 ∷ []) (λ o. BLOCK (blockOf o))
+    ∷ row 0x02 (4 ∷ 4 ∷ 4 ∷ 4 ∷ 4 ∷ 4 ∷ 4 ∷ 4 ∷ 4 ∷ []) (λ o. BLOCK (blockFrom o))
     ∷ row 0x03 [] (λ o. TASK)
-    ∷ row 0x04 (2 ∷ 1 ∷ []) (λ o. RELEASE (releaseOf o))
+    ∷ row 0x04 (2 ∷ 1 ∷ []) (λ o. RELEASE (releaseFrom o))
     ∷ row 0x05 [] (λ o. END)
-    ∷ row 0x10 (1 ∷ 4 ∷ []) (λ o. LOAD (o 0) (o 1))
-    ∷ row 0x11 (1 ∷ 1 ∷ []) (λ o. ADD (o 0) (o 1))
-    ∷ row 0x12 (1 ∷ 1 ∷ []) (λ o. READ (o 0) (o 1))
-    ∷ row 0x13 (1 ∷ 1 ∷ 1 ∷ []) (λ o. PAIR (o 0) (o 1) (o 2))
-    ∷ row 0x14 (1 ∷ []) (λ o. SWAP (o 0))
-    ∷ row 0x20 [] (λ o. BEGIN)
-    ∷ row 0x21 (1 ∷ 1 ∷ 1 ∷ []) (λ o. access (GET (o 0) (o 1) (o 2)))
-    ∷ row 0x22 (1 ∷ 1 ∷ 1 ∷ []) (λ o. access (PUT (o 0) (o 1) (o 2)))
-    ∷ row 0x23 [] (λ o. COMMIT)
+    ∷ row 0x10 (1 ∷ 4 ∷ []) (λ o. body (LOAD (o 0) (o 1)))
+    ∷ row 0x11 (1 ∷ 1 ∷ []) (λ o. body (ADD (o 0) (o 1)))
+    ∷ row 0x12 (1 ∷ 1 ∷ []) (λ o. body (outside (READ (o 0) (o 1))))
+    ∷ row 0x13 (1 ∷ 1 ∷ 1 ∷ []) (λ o. body (outside (PAIR (o 0) (o 1) (o 2))))
+    ∷ row 0x14 (1 ∷ []) (λ o. body (outside (SWAP (o 0))))
+    ∷ row 0x20 [] (λ o. body (outside BEGIN))
+    ∷ row 0x21 (1 ∷ 1 ∷ 1 ∷ []) (λ o. body (inside (access (GET (o 0) (o 1) (o 2)))))
+    ∷ row 0x22 (1 ∷ 1 ∷ 1 ∷ []) (λ o. body (inside (access (PUT (o 0) (o 1) (o 2)))))
+    ∷ row 0x23 [] (λ o. body (inside COMMIT))
     ∷ []
 
 unfoldable pub rowBy : Bool → Row → Option Row → Option Row

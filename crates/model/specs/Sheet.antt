@@ -6,29 +6,32 @@ use mathlib.Core.Option.{Option, none, some}
 use lib.Dec.{ltb}
 use lib.ListN.{length}
 use Rattle.model.specs.Refusal.{Refusal, cutShort, byteAfterEnd}
-use Rattle.model.specs.Command.{Access, GET, PUT, Release, Block, Command, WORD, BLOCK, TASK, RELEASE, END, LOAD, ADD, READ, PAIR, SWAP, BEGIN, access, COMMIT, Found, found, refused, commandAt}
-use Rattle.model.specs.Fault.{Section, wordSection, blockSection, bodySection, releaseSection, Counts, Body, Known, emptyBody, nothingKnown, among, includeBy, include, faultOf}
+use Rattle.model.specs.Command.{Access, GET, PUT, Outside, READ, PAIR, SWAP, BEGIN, Inside, access, COMMIT}
+use Rattle.model.specs.Command.{BodyCommand, LOAD, ADD, outside, inside, Command, WORD, BLOCK, TASK, RELEASE, END, body}
+use Rattle.model.specs.Command.{Release, Block, Found, found, refused, commandAt}
+use Rattle.model.specs.Fault.{Section, wordSection, blockSection, bodySection, releaseSection, SheetCounts, Body, Known}
+use Rattle.model.specs.Fault.{emptyBody, nothingKnown, among, includeBy, include, faultOf}
 
 -- WHAT IS KNOWN AFTER A COMMAND
-abbrev pub known : Section → Counts → Body → Release → Known
+abbrev pub known : Section → SheetCounts → Body → Release → Known
 known s n b r = record { section = s; counts = n; body = b; last = r }
 
-abbrev pub counted : ℕ → ℕ → ℕ → ℕ → ℕ → Counts
+abbrev pub counted : ℕ → ℕ → ℕ → ℕ → ℕ → SheetCounts
 counted w b t c r = record { words = w; blocks = b; tasks = t; commands = c; releases = r }
 
-abbrev pub oneWord : Counts → Counts
+abbrev pub oneWord : SheetCounts → SheetCounts
 oneWord n = counted (suc (n .words)) (n .blocks) (n .tasks) (n .commands) (n .releases)
 
-abbrev pub oneBlock : Counts → Counts
+abbrev pub oneBlock : SheetCounts → SheetCounts
 oneBlock n = counted (n .words) (suc (n .blocks)) (n .tasks) (n .commands) (n .releases)
 
-abbrev pub oneTask : Counts → Counts
+abbrev pub oneTask : SheetCounts → SheetCounts
 oneTask n = counted (n .words) (n .blocks) (suc (n .tasks)) (n .commands) (n .releases)
 
-abbrev pub oneCommand : Counts → Counts
+abbrev pub oneCommand : SheetCounts → SheetCounts
 oneCommand n = counted (n .words) (n .blocks) (n .tasks) (suc (n .commands)) (n .releases)
 
-abbrev pub oneRelease : Counts → Counts
+abbrev pub oneRelease : SheetCounts → SheetCounts
 oneRelease n = counted (n .words) (n .blocks) (n .tasks) (n .commands) (suc (n .releases))
 
 -- the open body with the waiting PAIRs, and with the transaction's blocks
@@ -36,7 +39,7 @@ abbrev pub waiting : List ℕ → Body → Body
 waiting ps b = record { empty = false; pairs = ps; inside = b .inside; touched = b .touched; puts = b .puts }
 
 abbrev pub transaction : Bool → List ℕ → List ℕ → Body → Body
-transaction inside ts ps b = record { empty = false; pairs = b .pairs; inside = inside; touched = ts; puts = ps }
+transaction isOpen ts ps b = record { empty = false; pairs = b .pairs; inside = isOpen; touched = ts; puts = ps }
 
 abbrev pub named : Access → Body → Body
 named (GET r n o) b = transaction true (include n (b .touched)) (b .puts) b
@@ -46,21 +49,32 @@ named (PUT n o r) b = transaction true (include n (b .touched)) (include n (b .p
 abbrev pub inBody : Known → Body → Known
 inBody k b = known (k .section) (oneCommand (k .counts)) b (k .last)
 
-unfoldable pub after : Known → Command → Known
+unfoldable pub afterOutside : Body → Outside → Body
+afterOutside b (READ r w) = waiting (b .pairs) b
+afterOutside b (PAIR w old new) = waiting (b .pairs ++ (w ∷ [])) b
+afterOutside b (SWAP r) = waiting [] b
+afterOutside b BEGIN = transaction true [] [] b
+
+unfoldable pub afterInside : Body → Inside → Body
 unfolding among includeBy
+afterInside b (access a) = named a b
+afterInside b COMMIT = transaction false [] [] b
+
+unfoldable pub afterBody : Body → BodyCommand → Body
+unfolding afterOutside afterInside
+afterBody b (LOAD r v) = waiting (b .pairs) b
+afterBody b (ADD r q) = waiting (b .pairs) b
+afterBody b (outside c) = afterOutside b c
+afterBody b (inside c) = afterInside b c
+
+unfoldable pub after : Known → Command → Known
+unfolding afterBody
 after k (WORD v) = known wordSection (oneWord (k .counts)) (k .body) (k .last)
 after k (BLOCK b) = known blockSection (oneBlock (k .counts)) (k .body) (k .last)
 after k TASK = known bodySection (oneTask (k .counts)) emptyBody (k .last)
 after k (RELEASE r) = known releaseSection (oneRelease (k .counts)) (k .body) r
 after k END = k
-after k (LOAD r v) = inBody k (waiting (k .body .pairs) (k .body))
-after k (ADD r q) = inBody k (waiting (k .body .pairs) (k .body))
-after k (READ r w) = inBody k (waiting (k .body .pairs) (k .body))
-after k (PAIR w old new) = inBody k (waiting (k .body .pairs ++ (w ∷ [])) (k .body))
-after k (SWAP r) = inBody k (waiting [] (k .body))
-after k BEGIN = inBody k (transaction true [] [] (k .body))
-after k (access a) = inBody k (named a (k .body))
-after k COMMIT = inBody k (transaction false [] [] (k .body))
+after k (body c) = inBody k (afterBody (k .body) c)
 
 -- THE FIRST FAULT IN BYTE ORDER
 pub data Verdict : Type 0 where
@@ -73,14 +87,7 @@ end? (WORD v) = false
 end? (BLOCK b) = false
 end? TASK = false
 end? (RELEASE r) = false
-end? (LOAD r v) = false
-end? (ADD r q) = false
-end? (READ r w) = false
-end? (PAIR w o n) = false
-end? (SWAP r) = false
-end? BEGIN = false
-end? (access a) = false
-end? COMMIT = false
+end? (body c) = false
 
 -- a byte follows END
 unfoldable pub atEnd : Bool → ℕ → Verdict
@@ -132,18 +139,18 @@ commandsFrom (suc n) sheet place =
 pub record Sheet : Type 0 where
   pub words : List ℕ
   pub blocks : List Block
-  pub bodies : List (List Command)
+  pub bodies : List (List BodyCommand)
   pub releases : List Release
 
 -- what the commands from a place on declare; `body` are those of the body that the place lies in
 pub record Declared : Type 0 where
-  pub body : List Command
+  pub body : List BodyCommand
   pub sheet : Sheet
 
-abbrev pub declares : List Command → List ℕ → List Block → List (List Command) → List Release → Declared
+abbrev pub declares : List BodyCommand → List ℕ → List Block → List (List BodyCommand) → List Release → Declared
 declares o w b t r = record { body = o; sheet = record { words = w; blocks = b; bodies = t; releases = r } }
 
-abbrev pub inOpenBody : Command → Declared → Declared
+abbrev pub inOpenBody : BodyCommand → Declared → Declared
 inOpenBody c d = record { body = c ∷ d .body; sheet = d .sheet }
 
 unfoldable pub declare : Command → Declared → Declared
@@ -152,14 +159,7 @@ declare (BLOCK b) d = declares [] (d .sheet .words) (b ∷ d .sheet .blocks) (d 
 declare TASK d = declares [] (d .sheet .words) (d .sheet .blocks) (d .body ∷ d .sheet .bodies) (d .sheet .releases)
 declare (RELEASE r) d = declares [] (d .sheet .words) (d .sheet .blocks) (d .sheet .bodies) (r ∷ d .sheet .releases)
 declare END d = declares [] [] [] [] []
-declare (LOAD r v) d = inOpenBody (LOAD r v) d
-declare (ADD r q) d = inOpenBody (ADD r q) d
-declare (READ r w) d = inOpenBody (READ r w) d
-declare (PAIR w o n) d = inOpenBody (PAIR w o n) d
-declare (SWAP r) d = inOpenBody (SWAP r) d
-declare BEGIN d = inOpenBody BEGIN d
-declare (access a) d = inOpenBody (access a) d
-declare COMMIT d = inOpenBody COMMIT d
+declare (body c) d = inOpenBody c d
 
 unfoldable pub declared : List Command → Declared
 unfolding declare
