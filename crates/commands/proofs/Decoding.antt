@@ -10,7 +10,8 @@ use borrow.Author.Tests.{ltb-true, eqb-true, eqb-false, lt-ltb, le-ltb, le-leb, 
 use lib.Dec.{ltb, eqb}
 use lib.ListN.{length, getD}
 use Rattle.model.specs.Refusal.{cutShort, noCommand}
-use Rattle.model.specs.Command.{GET, PUT, WORD, BLOCK, TASK, RELEASE, END, LOAD, ADD, READ, PAIR, SWAP, BEGIN, access, COMMIT, Row, table, rowOf, total, bigEndian, refused, commandAt}
+use Rattle.model.specs.Command.{GET, PUT, READ, PAIR, SWAP, BEGIN, access, COMMIT, LOAD, ADD, outside, inside, WORD, BLOCK, TASK, RELEASE, END, body}
+use Rattle.model.specs.Command.{Row, table, rowOf, total, bigEndian, refused, commandAt}
 use Rattle.commands.specs.Stages.{indexOf, byteAt, widthAt, valuesFrom, widthOf, commandOf, ByteSays}
 use Rattle.commands.specs.declared.Index.{Index}
 use Rattle.commands.specs.declared.Index.the-variants.{At, Unknown}
@@ -117,10 +118,6 @@ module _ (s : List ℕ) (at : ℕ) where
 
 -- THE COMMAND OF EACH ROW
 module _ (s : List ℕ) (p : ℕ) where
-  pub one-byte : bigEndian s p 1 ≡ getD s p 0
-  unfolding bigEndian
-  one-byte = simp (add-zero, zero-add)
-
   pub block-values :
       valuesFrom s p
       ≡ (bigEndian s (p + 4) 4 ∷ bigEndian s (p + 8) 4 ∷ bigEndian s (p + 12) 4 ∷ bigEndian s (p + 16) 4
@@ -148,39 +145,39 @@ module _ (s : List ℕ) (p : ℕ) where
   unfolding commandOf
   end-command = refl
 
-  pub load-command : commandOf s p 0x10 ≡ LOAD (getD s p 0) (bigEndian s (p + 1) 4)
+  pub load-command : commandOf s p 0x10 ≡ body (LOAD (getD s p 0) (bigEndian s (p + 1) 4))
   unfolding commandOf
   load-command = simp (add-zero, zero-add)
 
-  pub sum-command : commandOf s p 0x11 ≡ ADD (getD s p 0) (getD s (p + 1) 0)
+  pub sum-command : commandOf s p 0x11 ≡ body (ADD (getD s p 0) (getD s (p + 1) 0))
   unfolding commandOf
   sum-command = simp (add-zero, zero-add)
 
-  pub read-command : commandOf s p 0x12 ≡ READ (getD s p 0) (getD s (p + 1) 0)
+  pub read-command : commandOf s p 0x12 ≡ body (outside (READ (getD s p 0) (getD s (p + 1) 0)))
   unfolding commandOf
   read-command = simp (add-zero, zero-add)
 
-  pub pair-command : commandOf s p 0x13 ≡ PAIR (getD s p 0) (getD s (p + 1) 0) (getD s (p + 2) 0)
+  pub pair-command : commandOf s p 0x13 ≡ body (outside (PAIR (getD s p 0) (getD s (p + 1) 0) (getD s (p + 2) 0)))
   unfolding commandOf
   pair-command = simp (add-zero, zero-add, add-assoc)
 
-  pub swap-command : commandOf s p 0x14 ≡ SWAP (getD s p 0)
+  pub swap-command : commandOf s p 0x14 ≡ body (outside (SWAP (getD s p 0)))
   unfolding commandOf
   swap-command = simp (add-zero, zero-add)
 
-  pub begin-command : commandOf s p 0x20 ≡ BEGIN
+  pub begin-command : commandOf s p 0x20 ≡ body (outside BEGIN)
   unfolding commandOf
   begin-command = refl
 
-  pub get-command : commandOf s p 0x21 ≡ access (GET (getD s p 0) (getD s (p + 1) 0) (getD s (p + 2) 0))
+  pub get-command : commandOf s p 0x21 ≡ body (inside (access (GET (getD s p 0) (getD s (p + 1) 0) (getD s (p + 2) 0))))
   unfolding commandOf
   get-command = simp (add-zero, zero-add, add-assoc)
 
-  pub put-command : commandOf s p 0x22 ≡ access (PUT (getD s p 0) (getD s (p + 1) 0) (getD s (p + 2) 0))
+  pub put-command : commandOf s p 0x22 ≡ body (inside (access (PUT (getD s p 0) (getD s (p + 1) 0) (getD s (p + 2) 0))))
   unfolding commandOf
   put-command = simp (add-zero, zero-add, add-assoc)
 
-  pub commit-command : commandOf s p 0x23 ≡ COMMIT
+  pub commit-command : commandOf s p 0x23 ≡ body (inside COMMIT)
   unfolding commandOf
   commit-command = refl
 

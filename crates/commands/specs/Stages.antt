@@ -6,7 +6,7 @@ use mathlib.Core.List.{List, [], _∷_}
 use mathlib.Core.Option.{Option, none, some}
 use lib.Dec.{ltb, leb, eqb}
 use lib.ListN.{length, getD}
-use Rattle.model.specs.Command.{Command, END, blockOf, Row, table, rowOf, total, operand, found, refused, commandAt}
+use Rattle.model.specs.Command.{Command, END, blockFrom, Row, table, rowOf, total, operand, found, refused, commandAt}
 use Rattle.commands.specs.View.{viewRefusal}
 use Rattle.commands.specs.declared.Access.{Access}
 use Rattle.commands.specs.declared.Access.the-variants.{Get, Put}
@@ -61,7 +61,7 @@ widthAt i = getD entries i (entry 0 0) .width
 -- the eight values of a BLOCK whose operands start at p
 unfoldable pub valuesFrom : List ℕ → ℕ → List ℕ
 unfolding operand
-valuesFrom s p = blockOf (operand s p (4 ∷ 4 ∷ 4 ∷ 4 ∷ 4 ∷ 4 ∷ 4 ∷ 4 ∷ 4 ∷ [])) .values
+valuesFrom s p = blockFrom (operand s p (4 ∷ 4 ∷ 4 ∷ 4 ∷ 4 ∷ 4 ∷ 4 ∷ 4 ∷ 4 ∷ [])) .values
 
 -- the command of a row whose operands start at p, and how many bytes they take; END and 0 for no row
 unfoldable pub commandFrom : List ℕ → ℕ → Option Row → Command

@@ -8,6 +8,12 @@ use Rattle.commands.specs.declared.Refusal.the-variants.{NoCommand, CutS
 use Rattle.commands.specs.declared.Release.{Release}
 use Rattle.commands.specs.declared.Access.{Access}
 use Rattle.commands.specs.declared.Access.the-variants.{Get, Put}
+use Rattle.commands.specs.declared.Outside.{Outside}
+use Rattle.commands.specs.declared.Outside.the-variants.{Read, Pair, Swap, Begin}
+use Rattle.commands.specs.declared.Inside.{Inside}
+use Rattle.commands.specs.declared.Inside.the-variants as I
+use Rattle.commands.specs.declared.BodyCommand.{BodyCommand}
+use Rattle.commands.specs.declared.BodyCommand.the-variants as B
 use Rattle.commands.specs.declared.Command.{Command}
 use Rattle.commands.specs.declared.Command.the-variants as C
 use Rattle.commands.specs.declared.Decoded.{Decoded}
@@ -32,6 +38,22 @@ abbrev pub viewAccess : Access → M.Access
 viewAccess (Get r b o) = M.GET r b o
 viewAccess (Put b o r) = M.PUT b o r
 
+abbrev pub viewOutside : Outside → M.Outside
+viewOutside (Read r w) = M.READ r w
+viewOutside (Pair w o n) = M.PAIR w o n
+viewOutside (Swap r) = M.SWAP r
+viewOutside Begin = M.BEGIN
+
+abbrev pub viewInside : Inside → M.Inside
+viewInside (I.Access a) = M.access (viewAccess a)
+viewInside I.Commit = M.COMMIT
+
+abbrev pub viewBodyCommand : BodyCommand → M.BodyCommand
+viewBodyCommand (B.Load r v) = M.LOAD r v
+viewBodyCommand (B.Add r q) = M.ADD r q
+viewBodyCommand (B.Outside c) = M.outside (viewOutside c)
+viewBodyCommand (B.Inside c) = M.inside (viewInside c)
+
 -- a command, with the eight values that lie beside a BLOCK
 abbrev pub viewCommand : List ℕ → Command → M.Command
 viewCommand vs (C.Word v) = M.WORD v
@@ -39,14 +61,7 @@ viewCommand vs (C.Block version) = M.BLOCK (record { version = version; values =
 viewCommand vs C.Task = M.TASK
 viewCommand vs (C.Release r) = M.RELEASE (viewRelease r)
 viewCommand vs C.End = M.END
-viewCommand vs (C.Load r v) = M.LOAD r v
-viewCommand vs (C.Add r q) = M.ADD r q
-viewCommand vs (C.Read r w) = M.READ r w
-viewCommand vs (C.Pair w o n) = M.PAIR w o n
-viewCommand vs (C.Swap r) = M.SWAP r
-viewCommand vs C.Begin = M.BEGIN
-viewCommand vs (C.Access a) = M.access (viewAccess a)
-viewCommand vs C.Commit = M.COMMIT
+viewCommand vs (C.Body c) = M.body (viewBodyCommand c)
 
 abbrev pub viewDecoded : List ℕ → Decoded → M.Found
 viewDecoded vs (Got c next) = M.found (viewCommand vs c) next

@@ -17,6 +17,28 @@ pub enum Access {
     Put { block: u8, offset: u8, register: u8 },
 }
 
+// What stands only outside a transaction.
+pub enum Outside {
+    Read { register: u8, word: u8 },
+    Pair { word: u8, old: u8, new: u8 },
+    Swap(u8),
+    Begin,
+}
+
+// What stands only inside one.
+pub enum Inside {
+    Access(Access),
+    Commit,
+}
+
+// What stands only in a body.
+pub enum BodyCommand {
+    Load { register: u8, value: u32 },
+    Add { register: u8, other: u8 },
+    Outside(Outside),
+    Inside(Inside),
+}
+
 // BLOCK carries its version; `values` gives its eight values in an array beside it.
 pub enum Command {
     Word(u32),
@@ -24,14 +46,7 @@ pub enum Command {
     Task,
     Release(Release),
     End,
-    Load { register: u8, value: u32 },
-    Add { register: u8, other: u8 },
-    Read { register: u8, word: u8 },
-    Pair { word: u8, old: u8, new: u8 },
-    Swap(u8),
-    Begin,
-    Access(Access),
-    Commit,
+    Body(BodyCommand),
 }
 
 pub enum Refusal {
@@ -302,28 +317,28 @@ fn command_of(s: &[u8], p: usize, b: u8) -> Command
             task: byte(s, p + 2),
         }),
         0x05 => Command::End,
-        0x10 => Command::Load {
+        0x10 => Command::Body(BodyCommand::Load {
             register: byte(s, p),
             value: value4(s, p + 1),
-        },
-        0x11 => Command::Add {
+        }),
+        0x11 => Command::Body(BodyCommand::Add {
             register: byte(s, p),
             other: byte(s, p + 1),
-        },
-        0x12 => Command::Read {
+        }),
+        0x12 => Command::Body(BodyCommand::Outside(Outside::Read {
             register: byte(s, p),
             word: byte(s, p + 1),
-        },
-        0x13 => Command::Pair {
+        })),
+        0x13 => Command::Body(BodyCommand::Outside(Outside::Pair {
             word: byte(s, p),
             old: byte(s, p + 1),
             new: byte(s, p + 2),
-        },
-        0x14 => Command::Swap(byte(s, p)),
-        0x20 => Command::Begin,
-        0x21 => Command::Access(access_of(s, p, b)),
-        0x22 => Command::Access(access_of(s, p, b)),
-        0x23 => Command::Commit,
+        })),
+        0x14 => Command::Body(BodyCommand::Outside(Outside::Swap(byte(s, p)))),
+        0x20 => Command::Body(BodyCommand::Outside(Outside::Begin)),
+        0x21 => Command::Body(BodyCommand::Inside(Inside::Access(access_of(s, p, b)))),
+        0x22 => Command::Body(BodyCommand::Inside(Inside::Access(access_of(s, p, b)))),
+        0x23 => Command::Body(BodyCommand::Inside(Inside::Commit)),
         _ => Command::End,
     }
 }
