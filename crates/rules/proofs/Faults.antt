@@ -7,19 +7,19 @@ use mathlib.Core.Option.{none, some}
 use Rattle.model.specs.Refusal.{Refusal, misplaced, ceilingPassed, outOfRange, wordRepeated, releasesNotRising}
 use Rattle.model.specs.Command.{Command}
 use Rattle.rules.specs.Broken.{Broken, place, ceiling, range, repeated, falling}
-use Rattle.model.specs.Fault.{Known, inPlace, underCeiling, inRange, newWord, rising, firstOf, faultOf}
+use Rattle.model.specs.Fault.{Known, inPlace, underCeiling, inRange, newWord, rising, lowest, faultOf}
 
 none≢some : {f : Refusal} → some f ≡ none → ⊥
 none≢some e = let z : _≡_ {A = ℕ} 0 1 = cc in omega arith
 
 module _ (k : Known) (c : Command) where
-  pub fault-is : faultOf k c ≡ firstOf (inPlace k c) (underCeiling k c) (inRange (k .counts) c) (newWord (k .body) c) (rising k c)
+  pub fault-is : faultOf k c ≡ lowest (inPlace k c) (underCeiling k c) (inRange (k .counts) c) (newWord (k .body) c) (rising k c)
   unfolding faultOf
   fault-is = refl
 
   -- the rule that is broken gives the fault, and the fault the rule
   pub is-fault : {f : Refusal} → Broken k c f → faultOf k c ≡ some f
-  unfolding firstOf
+  unfolding lowest
   is-fault (place a) = rw (fault-is, a)
   is-fault (ceiling a b) = rw (fault-is, a, b)
   is-fault (range a b d) = rw (fault-is, a, b, d)
@@ -28,8 +28,8 @@ module _ (k : Known) (c : Command) where
 
   broken-by :
       (x y z u v : Bool) → inPlace k c ≡ x → underCeiling k c ≡ y → inRange (k .counts) c ≡ z → newWord (k .body) c ≡ u → rising k c ≡ v
-      → {f : Refusal} → firstOf x y z u v ≡ some f → Broken k c f
-  unfolding firstOf
+      → {f : Refusal} → lowest x y z u v ≡ some f → Broken k c f
+  unfolding lowest
   broken-by false y z u v a b d e g {f} h = let is : misplaced ≡ f = cc in rw (← is) (place a)
   broken-by true false z u v a b d e g {f} h = let is : ceilingPassed ≡ f = cc in rw (← is) (ceiling a b)
   broken-by true true false u v a b d e g {f} h = let is : outOfRange ≡ f = cc in rw (← is) (range a b d)
@@ -48,8 +48,8 @@ pub record Keeps (k : Known) (c : Command) : Type 0 where
   pub new : newWord (k .body) c ≡ true
   pub rise : rising k c ≡ true
 
-all-hold : (a b c d e : Bool) → firstOf a b c d e ≡ none → (a ≡ true) × (b ≡ true) × (c ≡ true) × (d ≡ true) × (e ≡ true)
-unfolding firstOf
+all-hold : (a b c d e : Bool) → lowest a b c d e ≡ none → (a ≡ true) × (b ≡ true) × (c ≡ true) × (d ≡ true) × (e ≡ true)
+unfolding lowest
 all-hold true true true true true h = (refl, refl, refl, refl, refl)
 all-hold true true true true false h = absurd (none≢some h)
 all-hold true true true false e h = absurd (none≢some h)

@@ -8,7 +8,7 @@ use Rattle.model.specs.Fault as F
 use Rattle.commands.specs.View.{viewRefusal, viewRelease}
 use Rattle.rules.specs.declared.known.Section.{Section}
 use Rattle.rules.specs.declared.known.Section.the-variants.{Words, Blocks, Bodies, Releases}
-use Rattle.rules.specs.declared.known.Counts.{Counts}
+use Rattle.rules.specs.declared.known.SheetCounts.{SheetCounts}
 use Rattle.rules.specs.declared.known.Numbers.{Numbers}
 use Rattle.rules.specs.declared.known.Task.{Task}
 use Rattle.rules.specs.declared.known.Known.{Known}
@@ -22,7 +22,7 @@ viewSection Blocks = F.blockSection
 viewSection Bodies = F.bodySection
 viewSection Releases = F.releaseSection
 
-abbrev pub viewCounts : Counts → F.Counts
+abbrev pub viewCounts : SheetCounts → F.SheetCounts
 viewCounts n = record { words = n .words; blocks = n .blocks; tasks = n .tasks; commands = n .commands; releases = n .releases }
 
 abbrev pub viewNumbers : Numbers → List ℕ

@@ -17,7 +17,7 @@ pub enum Section {
     Releases,
 }
 
-pub struct Counts {
+pub struct SheetCounts {
     pub words: u8,
     pub blocks: u8,
     pub tasks: u8,
@@ -43,13 +43,13 @@ pub struct Task {
 
 pub struct Known {
     pub section: Section,
-    pub counts: Counts,
+    pub counts: SheetCounts,
     pub body: Task,
     pub last: Release,
 }
 
 // The ceilings of what a sheet declares, and the last version of a block.
-impl Counts {
+impl SheetCounts {
     pub const WORDS: u8 = 32;
 
     pub const BLOCKS: u8 = 16;
@@ -94,7 +94,7 @@ impl Known {
     {
         Known {
             section: Section::Words,
-            counts: Counts {
+            counts: SheetCounts {
                 words: 0,
                 blocks: 0,
                 tasks: 0,

@@ -5,15 +5,18 @@ ghost use mathlib.Core.List.{[]};
 ghost use Prim.Native.Nat.{_≤_};
 ghost use Rattle.model.specs.Command.{access};
 ghost use Rattle.model.specs.Fault as rule;
-ghost use Rattle.commands.specs.View.{viewRelease, viewAccess, viewCommand};
+ghost use Rattle.commands.specs.View.{viewRelease, viewAccess, viewOutside, viewInside, viewBodyCommand, viewCommand};
 ghost use Rattle.rules.specs.View.{viewSection, viewCounts, viewNumbers, viewBody, viewKnown, viewFlaw};
-use crate::known::Counts;
 use crate::known::Known;
 use crate::known::Numbers;
 use crate::known::Section;
+use crate::known::SheetCounts;
 use crate::known::Task;
 use commands::Access;
+use commands::BodyCommand;
 use commands::Command;
+use commands::Inside;
+use commands::Outside;
 use commands::Refusal;
 use commands::Release;
 
@@ -90,8 +93,8 @@ fn may_end(b: Task) -> bool
 }
 
 // A body is open here, and no transaction in it.
-fn outside(k: Known) -> bool
-    ensures { λ r. ⌜ r ≡ rule.outside (viewKnown k) ⌝ }
+fn outside_transaction(k: Known) -> bool
+    ensures { λ r. ⌜ r ≡ rule.outsideTransaction (viewKnown k) ⌝ }
 {
     let section = k.section;
     let body = k.body;
@@ -99,8 +102,8 @@ fn outside(k: Known) -> bool
 }
 
 // A transaction is open here.
-fn within(k: Known) -> bool
-    ensures { λ r. ⌜ r ≡ rule.within (viewKnown k) ⌝ }
+fn inside_transaction(k: Known) -> bool
+    ensures { λ r. ⌜ r ≡ rule.insideTransaction (viewKnown k) ⌝ }
 {
     let section = k.section;
     let body = k.body;
@@ -116,13 +119,35 @@ fn bodies_over(k: Known) -> bool
     either(releases(section), both(bodies(section), may_end(body)))
 }
 
-// 4
+// 4. The waiting PAIRs let it come: SWAP needs some, BEGIN none.
+fn in_place_outside(b: Task, c: Outside) -> bool
+    ensures { λ r. ⌜ r ≡ rule.inPlaceOutside (viewBody b) (viewOutside c) ⌝ }
+{
+    let pairs = b.pairs;
+    match c {
+        Outside::Swap(_) => !pairs.is_none(),
+        Outside::Begin => pairs.is_none(),
+        _ => true,
+    }
+}
+
+fn in_place_body(k: Known, c: BodyCommand) -> bool
+    ensures { λ r. ⌜ r ≡ rule.inPlaceBody (viewKnown k) (viewBodyCommand c) ⌝ }
+{
+    let section = k.section;
+    let body = k.body;
+    match c {
+        BodyCommand::Outside(o) => both(outside_transaction(k), in_place_outside(body, o)),
+        BodyCommand::Inside(_) => inside_transaction(k),
+        _ => bodies(section),
+    }
+}
+
 fn in_place(k: Known, c: Command) -> bool
     ensures { λ r. ⌜ r ≡ rule.inPlace (viewKnown k) (viewCommand [] c) ⌝ }
 {
     let section = k.section;
     let body = k.body;
-    let pairs = body.pairs;
     match c {
         Command::Word(_) => words(section),
         Command::Block(_) => either(words(section), blocks(section)),
@@ -132,14 +157,7 @@ fn in_place(k: Known, c: Command) -> bool
         ),
         Command::Release(_) => bodies_over(k),
         Command::End => bodies_over(k),
-        Command::Load { .. } => bodies(section),
-        Command::Add { .. } => bodies(section),
-        Command::Read { .. } => outside(k),
-        Command::Pair { .. } => outside(k),
-        Command::Swap(_) => both(outside(k), !pairs.is_none()),
-        Command::Begin => both(outside(k), pairs.is_none()),
-        Command::Access(_) => within(k),
-        Command::Commit => within(k),
+        Command::Body(b) => in_place_body(k, b),
     }
 }
 
@@ -166,31 +184,55 @@ fn room_for_block(b: Task, a: Access) -> bool
 }
 
 // 5
+fn under_ceiling_outside(b: Task, c: Outside) -> bool
+    ensures { λ r. ⌜ r ≡ rule.underCeilingOutside (viewBody b) (viewOutside c) ⌝ }
+{
+    let pairs = b.pairs;
+    match c {
+        Outside::Pair { .. } => pairs.below(Task::PAIRS),
+        _ => true,
+    }
+}
+
+fn under_ceiling_inside(b: Task, c: Inside) -> bool
+    ensures { λ r. ⌜ r ≡ rule.underCeilingInside (viewBody b) (viewInside c) ⌝ }
+{
+    match c {
+        Inside::Access(a) => room_for_block(b, a),
+        Inside::Commit => true,
+    }
+}
+
+fn under_ceiling_body(b: Task, c: BodyCommand) -> bool
+    ensures { λ r. ⌜ r ≡ rule.underCeilingBody (viewBody b) (viewBodyCommand c) ⌝ }
+{
+    match c {
+        BodyCommand::Outside(o) => under_ceiling_outside(b, o),
+        BodyCommand::Inside(i) => under_ceiling_inside(b, i),
+        _ => true,
+    }
+}
+
 fn under_ceiling(k: Known, c: Command) -> bool
     ensures { λ r. ⌜ r ≡ rule.underCeiling (viewKnown k) (viewCommand [] c) ⌝ }
 {
     let n = k.counts;
     let body = k.body;
-    let pairs = body.pairs;
     match c {
-        Command::Word(_) => n.words < Counts::WORDS,
-        Command::Block(_) => n.blocks < Counts::BLOCKS,
-        Command::Task => n.tasks < Counts::TASKS,
-        Command::Release(_) => n.releases < Counts::RELEASES,
+        Command::Word(_) => n.words < SheetCounts::WORDS,
+        Command::Block(_) => n.blocks < SheetCounts::BLOCKS,
+        Command::Task => n.tasks < SheetCounts::TASKS,
+        Command::Release(_) => n.releases < SheetCounts::RELEASES,
         Command::End => true,
-        Command::Load { .. } => n.commands < Counts::COMMANDS,
-        Command::Add { .. } => n.commands < Counts::COMMANDS,
-        Command::Read { .. } => n.commands < Counts::COMMANDS,
-        Command::Pair { .. } => both(n.commands < Counts::COMMANDS, pairs.below(Task::PAIRS)),
-        Command::Swap(_) => n.commands < Counts::COMMANDS,
-        Command::Begin => n.commands < Counts::COMMANDS,
-        Command::Access(a) => both(n.commands < Counts::COMMANDS, room_for_block(body, a)),
-        Command::Commit => n.commands < Counts::COMMANDS,
+        Command::Body(b) => both(
+            n.commands < SheetCounts::COMMANDS,
+            under_ceiling_body(body, b),
+        ),
     }
 }
 
-fn access_in_range(n: Counts, a: Access) -> bool
-    ensures { λ r. ⌜ r ≡ rule.inRange (viewCounts n) (access (viewAccess a)) ⌝ }
+fn access_in_range(n: SheetCounts, a: Access) -> bool
+    ensures { λ r. ⌜ r ≡ rule.inRangeInside (viewCounts n) (access (viewAccess a)) ⌝ }
 {
     match a {
         Access::Get {
@@ -213,51 +255,80 @@ fn access_in_range(n: Counts, a: Access) -> bool
 }
 
 // 6
-fn in_range(n: Counts, c: Command) -> bool
-    ensures { λ r. ⌜ r ≡ rule.inRange (viewCounts n) (viewCommand [] c) ⌝ }
+fn in_range_outside(n: SheetCounts, c: Outside) -> bool
+    ensures { λ r. ⌜ r ≡ rule.inRangeOutside (viewCounts n) (viewOutside c) ⌝ }
 {
     match c {
-        Command::Word(_) => true,
-        Command::Block(version) => version <= Counts::LAST_VERSION,
-        Command::Task => true,
-        Command::Release(r) => r.task < n.tasks,
-        Command::End => true,
-        Command::Load { register, .. } => register <= Task::LAST_REGISTER,
-        Command::Add { register, other } => both(
-            register <= Task::LAST_REGISTER,
-            other <= Task::LAST_REGISTER,
-        ),
-        Command::Read { register, word } => both(register <= Task::LAST_REGISTER, word < n.words),
-        Command::Pair { word, old, new } => both(
+        Outside::Read { register, word } => both(register <= Task::LAST_REGISTER, word < n.words),
+        Outside::Pair { word, old, new } => both(
             both(word < n.words, old <= Task::LAST_REGISTER),
             new <= Task::LAST_REGISTER,
         ),
-        Command::Swap(register) => register <= Task::LAST_REGISTER,
-        Command::Begin => true,
-        Command::Access(a) => access_in_range(n, a),
-        Command::Commit => true,
+        Outside::Swap(register) => register <= Task::LAST_REGISTER,
+        Outside::Begin => true,
+    }
+}
+
+fn in_range_inside(n: SheetCounts, c: Inside) -> bool
+    ensures { λ r. ⌜ r ≡ rule.inRangeInside (viewCounts n) (viewInside c) ⌝ }
+{
+    match c {
+        Inside::Access(a) => access_in_range(n, a),
+        Inside::Commit => true,
+    }
+}
+
+fn in_range_body(n: SheetCounts, c: BodyCommand) -> bool
+    ensures { λ r. ⌜ r ≡ rule.inRangeBody (viewCounts n) (viewBodyCommand c) ⌝ }
+{
+    match c {
+        BodyCommand::Load { register, .. } => register <= Task::LAST_REGISTER,
+        BodyCommand::Add { register, other } => both(
+            register <= Task::LAST_REGISTER,
+            other <= Task::LAST_REGISTER,
+        ),
+        BodyCommand::Outside(o) => in_range_outside(n, o),
+        BodyCommand::Inside(i) => in_range_inside(n, i),
+    }
+}
+
+fn in_range(n: SheetCounts, c: Command) -> bool
+    ensures { λ r. ⌜ r ≡ rule.inRange (viewCounts n) (viewCommand [] c) ⌝ }
+{
+    match c {
+        Command::Block(version) => version <= SheetCounts::LAST_VERSION,
+        Command::Release(r) => r.task < n.tasks,
+        Command::Body(b) => in_range_body(n, b),
+        _ => true,
     }
 }
 
 // 7
-fn new_word(b: Task, c: Command) -> bool
-    ensures { λ r. ⌜ r ≡ rule.newWord (viewBody b) (viewCommand [] c) ⌝ }
+fn new_word_outside(b: Task, c: Outside) -> bool
+    ensures { λ r. ⌜ r ≡ rule.newWordOutside (viewBody b) (viewOutside c) ⌝ }
 {
     let pairs = b.pairs;
     match c {
-        Command::Pair { word, .. } => !pairs.has(word),
-        Command::Word(_) => true,
-        Command::Block(_) => true,
-        Command::Task => true,
-        Command::Release(_) => true,
-        Command::End => true,
-        Command::Load { .. } => true,
-        Command::Add { .. } => true,
-        Command::Read { .. } => true,
-        Command::Swap(_) => true,
-        Command::Begin => true,
-        Command::Access(_) => true,
-        Command::Commit => true,
+        Outside::Pair { word, .. } => !pairs.has(word),
+        _ => true,
+    }
+}
+
+fn new_word_body(b: Task, c: BodyCommand) -> bool
+    ensures { λ r. ⌜ r ≡ rule.newWordBody (viewBody b) (viewBodyCommand c) ⌝ }
+{
+    match c {
+        BodyCommand::Outside(o) => new_word_outside(b, o),
+        _ => true,
+    }
+}
+
+fn new_word(b: Task, c: Command) -> bool
+    ensures { λ r. ⌜ r ≡ rule.newWord (viewBody b) (viewCommand [] c) ⌝ }
+{
+    match c {
+        Command::Body(d) => new_word_body(b, d),
+        _ => true,
     }
 }
 
@@ -275,24 +346,13 @@ fn rising(k: Known, c: Command) -> bool
     let last = k.last;
     match c {
         Command::Release(r) => either(n.releases == 0, before(last, r)),
-        Command::Word(_) => true,
-        Command::Block(_) => true,
-        Command::Task => true,
-        Command::End => true,
-        Command::Load { .. } => true,
-        Command::Add { .. } => true,
-        Command::Read { .. } => true,
-        Command::Pair { .. } => true,
-        Command::Swap(_) => true,
-        Command::Begin => true,
-        Command::Access(_) => true,
-        Command::Commit => true,
+        _ => true,
     }
 }
 
 // At one command the lowest number wins.
-fn first_of(place: bool, under: bool, range: bool, new: bool, rise: bool) -> Flaw
-    ensures { λ r. ⌜ viewFlaw r ≡ rule.firstOf place under range new rise ⌝ }
+fn lowest(place: bool, under: bool, range: bool, new: bool, rise: bool) -> Flaw
+    ensures { λ r. ⌜ viewFlaw r ≡ rule.lowest place under range new rise ⌝ }
 {
     if !place {
         return Flaw::Some(Refusal::Misplaced);
@@ -317,7 +377,7 @@ pub fn fault(k: Known, c: Command) -> Flaw
 {
     let counts = k.counts;
     let body = k.body;
-    first_of(
+    lowest(
         in_place(k, c),
         under_ceiling(k, c),
         in_range(counts, c),

@@ -1,5 +1,5 @@
 -- `access_in_range` meets its contract.
-use Rattle.model.specs.Fault.{inRange}
+use Rattle.model.specs.Fault.{inRangeInside}
 use borrow.Author.Needs.{needs}
 use Rattle.rules.proofs.access_in_range.Statement.{statement}
 use Rattle.rules.proofs.access_in_range.Tie as tie
@@ -23,11 +23,11 @@ both-requires-4 : tie.Need-both-requires-4
 both-requires-4 c κs = search needs
 
 returns : tie.Need-returns
-unfolding inRange
+unfolding inRangeInside
 returns c = rw (c .before .before .before .before .a .given .1) (cc)
 
 returns-2 : tie.Need-returns-2
-unfolding inRange
+unfolding inRangeInside
 returns-2 c = rw (c .before .before .before .before .a2 .given .1) (cc)
 
 pub access-in-range-spec : {M : Type 1} → statement M

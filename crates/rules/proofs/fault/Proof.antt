@@ -20,11 +20,11 @@ new-word-requires c κs = search needs
 rising-requires : tie.Need-rising-requires
 rising-requires c κs = search needs
 
-first-of-requires : tie.Need-first-of-requires
-first-of-requires c κs = search needs
+lowest-requires : tie.Need-lowest-requires
+lowest-requires c κs = search needs
 
 returns : tie.Need-returns
-returns c = c .first-of .ensures ∙ rw (c .before .before .before .before .before .in-place .ensures, c .before .before .before .before .under-ceiling .ensures, c .before .before .before .in-range .ensures, c .before .before .new-word .ensures, c .before .rising .ensures) (sym (fault-is _ _))
+returns c = c .lowest .ensures ∙ rw (c .before .before .before .before .before .in-place .ensures, c .before .before .before .before .under-ceiling .ensures, c .before .before .before .in-range .ensures, c .before .before .new-word .ensures, c .before .rising .ensures) (sym (fault-is _ _))
 
 pub fault-spec : {M : Type 1} → statement M
 fault-spec =
@@ -35,5 +35,5 @@ fault-spec =
     in-range-requires
     new-word-requires
     rising-requires
-    first-of-requires
+    lowest-requires
     returns)

@@ -1,147 +1,64 @@
 -- `in_range` meets its contract.
-use Rattle.model.specs.Fault.{inRange}
+use Rattle.model.specs.Fault.{inRange, SheetCounts}
+use Rattle.commands.specs.declared.Command.{Command}
+use Rattle.commands.specs.declared.Command.the-variants.{Word, Block, Task, Release, End, Body}
+use Rattle.commands.proofs.Command.{the-type}
+use denote.Enum.Declared.{tagOf}
+use types.Run.{OneOf, miss}
+use mathlib.Core.Path.{_≡_, refl}
+use mathlib.Core.List.{[], _∷_}
+use Rattle.commands.specs.View.{viewCommand}
+use mathlib.Core.Bool.{true}
 use borrow.Author.Needs.{needs}
 use Rattle.rules.proofs.in_range.Statement.{statement}
 use Rattle.rules.proofs.in_range.Tie as tie
 
-enum-told : tie.Need-enum-told
-enum-told c = search needs
+-- the commands whose operands have no range
+others : (n : SheetCounts) (c : Command) → OneOf (0 ∷ 2 ∷ 4 ∷ []) (tagOf the-type c) → true ≡ inRange n (viewCommand [] c)
+unfolding inRange
+others n (Word v) h = refl
+others n (Block v) h = absurd (miss (0 ∷ 2 ∷ 4 ∷ []) 1 tt h)
+others n Task h = refl
+others n (Release r) h = absurd (miss (0 ∷ 2 ∷ 4 ∷ []) 3 tt h)
+others n End h = refl
+others n (Body d) h = absurd (miss (0 ∷ 2 ∷ 4 ∷ []) 5 tt h)
 
 enum-known-c : tie.Need-enum-known-c
 enum-known-c c = search needs
 
-enum-told-2 : tie.Need-enum-told-2
-enum-told-2 c = search needs
-
 enum-known-c-2 : tie.Need-enum-known-c-2
 enum-known-c-2 c = search needs
-
-enum-told-3 : tie.Need-enum-told-3
-enum-told-3 c = search needs
 
 enum-known-c-3 : tie.Need-enum-known-c-3
 enum-known-c-3 c = search needs
 
-enum-known-c-4 : tie.Need-enum-known-c-4
-enum-known-c-4 c = search needs
-
-both-requires : tie.Need-both-requires
-both-requires c κs = search needs
-
-enum-known-c-5 : tie.Need-enum-known-c-5
-enum-known-c-5 c = search needs
-
-both-requires-2 : tie.Need-both-requires-2
-both-requires-2 c κs = search needs
-
-enum-known-c-6 : tie.Need-enum-known-c-6
-enum-known-c-6 c = search needs
-
-both-requires-3 : tie.Need-both-requires-3
-both-requires-3 c κs = search needs
-
-both-requires-4 : tie.Need-both-requires-4
-both-requires-4 c κs = search needs
-
-enum-known-c-7 : tie.Need-enum-known-c-7
-enum-known-c-7 c = search needs
-
-enum-told-4 : tie.Need-enum-told-4
-enum-told-4 c = search needs
-
-enum-known-c-8 : tie.Need-enum-known-c-8
-enum-known-c-8 c = search needs
-
-access-in-range-requires : tie.Need-access-in-range-requires
-access-in-range-requires c κs = search needs
-
-enum-told-5 : tie.Need-enum-told-5
-enum-told-5 c = search needs
+in-range-body-requires : tie.Need-in-range-body-requires
+in-range-body-requires c κs = search needs
 
 returns : tie.Need-returns
 unfolding inRange
-returns c = rw (c .enum-told .given .1)
+returns c = rw (c .before .c .given .1)
 
 returns-2 : tie.Need-returns-2
 unfolding inRange
-returns-2 c = rw (c .before .c .given .1)
+returns-2 c = rw (c .before .before .before .c2 .given .1)
 
 returns-3 : tie.Need-returns-3
 unfolding inRange
-returns-3 c = rw (c .enum-told2 .given .1)
+returns-3 c = rw (c .before .before .c3 .given .1) (c .in-range-body .ensures)
 
 returns-4 : tie.Need-returns-4
-unfolding inRange
-returns-4 c = rw (c .before .before .before .c2 .given .1)
-
-returns-5 : tie.Need-returns-5
-unfolding inRange
-returns-5 c = rw (c .enum-told3 .given .1)
-
-returns-6 : tie.Need-returns-6
-unfolding inRange
-returns-6 c = rw (c .before .c3 .given .1)
-
-returns-7 : tie.Need-returns-7
-unfolding inRange
-returns-7 c = rw (c .before .before .c4 .given .1) (cc)
-
-returns-8 : tie.Need-returns-8
-unfolding inRange
-returns-8 c = rw (c .before .before .before .c5 .given .1) (cc)
-
-returns-9 : tie.Need-returns-9
-unfolding inRange
-returns-9 c = rw (c .before .before .before .before .c6 .given .1) (cc)
-
-returns-10 : tie.Need-returns-10
-unfolding inRange
-returns-10 c = rw (c .before .c7 .given .1)
-
-returns-11 : tie.Need-returns-11
-unfolding inRange
-returns-11 c = rw (c .enum-told4 .given .1)
-
-returns-12 : tie.Need-returns-12
-unfolding inRange
-returns-12 c = rw (c .before .before .c8 .given .1) (c .access-in-range .ensures)
-
-returns-13 : tie.Need-returns-13
-unfolding inRange
-returns-13 c = rw (c .enum-told5 .given .1)
+returns-4 c = others _ (c .before .args .c) (c .match .keys4)
 
 pub in-range-spec : {M : Type 1} → statement M
 in-range-spec =
     tie.close
     (tie.spec
-    enum-told
     enum-known-c
-    enum-told-2
     enum-known-c-2
-    enum-told-3
     enum-known-c-3
-    enum-known-c-4
-    both-requires
-    enum-known-c-5
-    both-requires-2
-    enum-known-c-6
-    both-requires-3
-    both-requires-4
-    enum-known-c-7
-    enum-told-4
-    enum-known-c-8
-    access-in-range-requires
-    enum-told-5
+    in-range-body-requires
     returns
     returns-2
     returns-3
-    returns-4
-    returns-5
-    returns-6
-    returns-7
-    returns-8
-    returns-9
-    returns-10
-    returns-11
-    returns-12
-    returns-13)
+    returns-4)

@@ -1,131 +1,40 @@
 -- `new_word` meets its contract.
-use Rattle.model.specs.Fault.{newWord}
+use Rattle.model.specs.Fault.{newWord, Body as OpenBody}
+use Rattle.commands.specs.declared.Command.{Command}
+use Rattle.commands.specs.declared.Command.the-variants.{Word, Block, Task, Release, End, Body}
+use Rattle.commands.proofs.Command.{the-type}
+use denote.Enum.Declared.{tagOf}
+use types.Run.{OneOf, miss}
+use mathlib.Core.Path.{_≡_, refl}
+use mathlib.Core.List.{[], _∷_}
+use Rattle.commands.specs.View.{viewCommand}
+use mathlib.Core.Bool.{true}
 use borrow.Author.Needs.{needs}
 use Rattle.rules.proofs.new_word.Statement.{statement}
 use Rattle.rules.proofs.new_word.Tie as tie
 
+-- the commands that add no word to the waiting PAIRs
+others : (b : OpenBody) (c : Command) → OneOf (0 ∷ 1 ∷ 2 ∷ 3 ∷ 4 ∷ []) (tagOf the-type c) → true ≡ newWord b (viewCommand [] c)
+unfolding newWord
+others b (Word v) h = refl
+others b (Block v) h = refl
+others b Task h = refl
+others b (Release r) h = refl
+others b End h = refl
+others b (Body d) h = absurd (miss (0 ∷ 1 ∷ 2 ∷ 3 ∷ 4 ∷ []) 5 tt h)
+
 enum-known-c : tie.Need-enum-known-c
 enum-known-c c = search needs
 
-has-requires : tie.Need-has-requires
-has-requires c κs = search needs
-
-enum-told : tie.Need-enum-told
-enum-told c = search needs
-
-enum-told-2 : tie.Need-enum-told-2
-enum-told-2 c = search needs
-
-enum-told-3 : tie.Need-enum-told-3
-enum-told-3 c = search needs
-
-enum-told-4 : tie.Need-enum-told-4
-enum-told-4 c = search needs
-
-enum-told-5 : tie.Need-enum-told-5
-enum-told-5 c = search needs
-
-enum-told-6 : tie.Need-enum-told-6
-enum-told-6 c = search needs
-
-enum-told-7 : tie.Need-enum-told-7
-enum-told-7 c = search needs
-
-enum-told-8 : tie.Need-enum-told-8
-enum-told-8 c = search needs
-
-enum-told-9 : tie.Need-enum-told-9
-enum-told-9 c = search needs
-
-enum-told-10 : tie.Need-enum-told-10
-enum-told-10 c = search needs
-
-enum-told-11 : tie.Need-enum-told-11
-enum-told-11 c = search needs
-
-enum-told-12 : tie.Need-enum-told-12
-enum-told-12 c = search needs
+new-word-body-requires : tie.Need-new-word-body-requires
+new-word-body-requires c κs = search needs
 
 returns : tie.Need-returns
 unfolding newWord
-returns c = rw (c .before .before .c .given .1, c .has .ensures)
+returns c = rw (c .before .before .c .given .1) (c .new-word-body .ensures)
 
 returns-2 : tie.Need-returns-2
-unfolding newWord
-returns-2 c = rw (c .enum-told .given .1)
-
-returns-3 : tie.Need-returns-3
-unfolding newWord
-returns-3 c = rw (c .enum-told2 .given .1)
-
-returns-4 : tie.Need-returns-4
-unfolding newWord
-returns-4 c = rw (c .enum-told3 .given .1)
-
-returns-5 : tie.Need-returns-5
-unfolding newWord
-returns-5 c = rw (c .enum-told4 .given .1)
-
-returns-6 : tie.Need-returns-6
-unfolding newWord
-returns-6 c = rw (c .enum-told5 .given .1)
-
-returns-7 : tie.Need-returns-7
-unfolding newWord
-returns-7 c = rw (c .enum-told6 .given .1)
-
-returns-8 : tie.Need-returns-8
-unfolding newWord
-returns-8 c = rw (c .enum-told7 .given .1)
-
-returns-9 : tie.Need-returns-9
-unfolding newWord
-returns-9 c = rw (c .enum-told8 .given .1)
-
-returns-10 : tie.Need-returns-10
-unfolding newWord
-returns-10 c = rw (c .enum-told9 .given .1)
-
-returns-11 : tie.Need-returns-11
-unfolding newWord
-returns-11 c = rw (c .enum-told10 .given .1)
-
-returns-12 : tie.Need-returns-12
-unfolding newWord
-returns-12 c = rw (c .enum-told11 .given .1)
-
-returns-13 : tie.Need-returns-13
-unfolding newWord
-returns-13 c = rw (c .enum-told12 .given .1)
+returns-2 c = others _ (c .before .args .c) (c .match .keys2)
 
 pub new-word-spec : {M : Type 1} → statement M
-new-word-spec =
-    tie.close
-    (tie.spec
-    enum-known-c
-    has-requires
-    enum-told
-    enum-told-2
-    enum-told-3
-    enum-told-4
-    enum-told-5
-    enum-told-6
-    enum-told-7
-    enum-told-8
-    enum-told-9
-    enum-told-10
-    enum-told-11
-    enum-told-12
-    returns
-    returns-2
-    returns-3
-    returns-4
-    returns-5
-    returns-6
-    returns-7
-    returns-8
-    returns-9
-    returns-10
-    returns-11
-    returns-12
-    returns-13)
+new-word-spec = tie.close (tie.spec enum-known-c new-word-body-requires returns returns-2)

@@ -1,8 +1,27 @@
 -- `rising` meets its contract.
-use Rattle.model.specs.Fault.{rising}
+use Rattle.model.specs.Fault.{rising, Known}
+use Rattle.commands.specs.declared.Command.{Command}
+use Rattle.commands.specs.declared.Command.the-variants.{Word, Block, Task, Release, End, Body}
+use Rattle.commands.proofs.Command.{the-type}
+use denote.Enum.Declared.{tagOf}
+use types.Run.{OneOf, miss}
+use mathlib.Core.Path.{_≡_, refl}
+use mathlib.Core.List.{[], _∷_}
+use Rattle.commands.specs.View.{viewCommand}
+use mathlib.Core.Bool.{true}
 use borrow.Author.Needs.{needs}
 use Rattle.rules.proofs.rising.Statement.{statement}
 use Rattle.rules.proofs.rising.Tie as tie
+
+-- all commands but RELEASE
+others : (k : Known) (c : Command) → OneOf (0 ∷ 1 ∷ 2 ∷ 4 ∷ 5 ∷ []) (tagOf the-type c) → true ≡ rising k (viewCommand [] c)
+unfolding rising
+others k (Word v) h = refl
+others k (Block v) h = refl
+others k Task h = refl
+others k (Release r) h = absurd (miss (0 ∷ 1 ∷ 2 ∷ 4 ∷ 5 ∷ []) 3 tt h)
+others k End h = refl
+others k (Body d) h = refl
 
 enum-known-c : tie.Need-enum-known-c
 enum-known-c c = search needs
@@ -13,123 +32,12 @@ before-requires c κs = search needs
 either-requires : tie.Need-either-requires
 either-requires c κs = search needs
 
-enum-told : tie.Need-enum-told
-enum-told c = search needs
-
-enum-told-2 : tie.Need-enum-told-2
-enum-told-2 c = search needs
-
-enum-told-3 : tie.Need-enum-told-3
-enum-told-3 c = search needs
-
-enum-told-4 : tie.Need-enum-told-4
-enum-told-4 c = search needs
-
-enum-told-5 : tie.Need-enum-told-5
-enum-told-5 c = search needs
-
-enum-told-6 : tie.Need-enum-told-6
-enum-told-6 c = search needs
-
-enum-told-7 : tie.Need-enum-told-7
-enum-told-7 c = search needs
-
-enum-told-8 : tie.Need-enum-told-8
-enum-told-8 c = search needs
-
-enum-told-9 : tie.Need-enum-told-9
-enum-told-9 c = search needs
-
-enum-told-10 : tie.Need-enum-told-10
-enum-told-10 c = search needs
-
-enum-told-11 : tie.Need-enum-told-11
-enum-told-11 c = search needs
-
-enum-told-12 : tie.Need-enum-told-12
-enum-told-12 c = search needs
-
 returns : tie.Need-returns
 unfolding rising
 returns c = rw (c .before .before .before .before .c .given .1) (cc)
 
 returns-2 : tie.Need-returns-2
-unfolding rising
-returns-2 c = rw (c .enum-told .given .1)
-
-returns-3 : tie.Need-returns-3
-unfolding rising
-returns-3 c = rw (c .enum-told2 .given .1)
-
-returns-4 : tie.Need-returns-4
-unfolding rising
-returns-4 c = rw (c .enum-told3 .given .1)
-
-returns-5 : tie.Need-returns-5
-unfolding rising
-returns-5 c = rw (c .enum-told4 .given .1)
-
-returns-6 : tie.Need-returns-6
-unfolding rising
-returns-6 c = rw (c .enum-told5 .given .1)
-
-returns-7 : tie.Need-returns-7
-unfolding rising
-returns-7 c = rw (c .enum-told6 .given .1)
-
-returns-8 : tie.Need-returns-8
-unfolding rising
-returns-8 c = rw (c .enum-told7 .given .1)
-
-returns-9 : tie.Need-returns-9
-unfolding rising
-returns-9 c = rw (c .enum-told8 .given .1)
-
-returns-10 : tie.Need-returns-10
-unfolding rising
-returns-10 c = rw (c .enum-told9 .given .1)
-
-returns-11 : tie.Need-returns-11
-unfolding rising
-returns-11 c = rw (c .enum-told10 .given .1)
-
-returns-12 : tie.Need-returns-12
-unfolding rising
-returns-12 c = rw (c .enum-told11 .given .1)
-
-returns-13 : tie.Need-returns-13
-unfolding rising
-returns-13 c = rw (c .enum-told12 .given .1)
+returns-2 c = others _ (c .before .before .before .args .c) (c .match .keys2)
 
 pub rising-spec : {M : Type 1} → statement M
-rising-spec =
-    tie.close
-    (tie.spec
-    enum-known-c
-    before-requires
-    either-requires
-    enum-told
-    enum-told-2
-    enum-told-3
-    enum-told-4
-    enum-told-5
-    enum-told-6
-    enum-told-7
-    enum-told-8
-    enum-told-9
-    enum-told-10
-    enum-told-11
-    enum-told-12
-    returns
-    returns-2
-    returns-3
-    returns-4
-    returns-5
-    returns-6
-    returns-7
-    returns-8
-    returns-9
-    returns-10
-    returns-11
-    returns-12
-    returns-13)
+rising-spec = tie.close (tie.spec enum-known-c before-requires either-requires returns returns-2)

@@ -19,41 +19,14 @@ enum-told-4 c = search needs
 enum-told-5 : tie.Need-enum-told-5
 enum-told-5 c = search needs
 
-enum-told-6 : tie.Need-enum-told-6
-enum-told-6 c = search needs
-
-enum-told-7 : tie.Need-enum-told-7
-enum-told-7 c = search needs
-
-enum-told-8 : tie.Need-enum-told-8
-enum-told-8 c = search needs
-
-enum-told-9 : tie.Need-enum-told-9
-enum-told-9 c = search needs
-
-below-requires : tie.Need-below-requires
-below-requires c κs = search needs
-
-both-requires : tie.Need-both-requires
-both-requires c κs = search needs
-
-enum-told-10 : tie.Need-enum-told-10
-enum-told-10 c = search needs
-
-enum-told-11 : tie.Need-enum-told-11
-enum-told-11 c = search needs
-
 enum-known-c : tie.Need-enum-known-c
 enum-known-c c = search needs
 
-room-for-block-requires : tie.Need-room-for-block-requires
-room-for-block-requires c κs = search needs
+under-ceiling-body-requires : tie.Need-under-ceiling-body-requires
+under-ceiling-body-requires c κs = search needs
 
-both-requires-2 : tie.Need-both-requires-2
-both-requires-2 c κs = search needs
-
-enum-told-12 : tie.Need-enum-told-12
-enum-told-12 c = search needs
+both-requires : tie.Need-both-requires
+both-requires c κs = search needs
 
 returns : tie.Need-returns
 unfolding underCeiling
@@ -77,35 +50,7 @@ returns-5 c = rw (c .enum-told5 .given .1)
 
 returns-6 : tie.Need-returns-6
 unfolding underCeiling
-returns-6 c = rw (c .before .enum-told6 .given .1)
-
-returns-7 : tie.Need-returns-7
-unfolding underCeiling
-returns-7 c = rw (c .before .enum-told7 .given .1)
-
-returns-8 : tie.Need-returns-8
-unfolding underCeiling
-returns-8 c = rw (c .before .enum-told8 .given .1)
-
-returns-9 : tie.Need-returns-9
-unfolding underCeiling
-returns-9 c = rw (c .before .before .before .enum-told9 .given .1) (cc)
-
-returns-10 : tie.Need-returns-10
-unfolding underCeiling
-returns-10 c = rw (c .before .enum-told10 .given .1)
-
-returns-11 : tie.Need-returns-11
-unfolding underCeiling
-returns-11 c = rw (c .before .enum-told11 .given .1)
-
-returns-12 : tie.Need-returns-12
-unfolding underCeiling
-returns-12 c = rw (c .before .before .before .before .c .given .1) (cc)
-
-returns-13 : tie.Need-returns-13
-unfolding underCeiling
-returns-13 c = rw (c .before .enum-told12 .given .1)
+returns-6 c = rw (c .before .before .before .before .c .given .1) (cc)
 
 pub under-ceiling-spec : {M : Type 1} → statement M
 under-ceiling-spec =
@@ -116,28 +61,12 @@ under-ceiling-spec =
     enum-told-3
     enum-told-4
     enum-told-5
-    enum-told-6
-    enum-told-7
-    enum-told-8
-    enum-told-9
-    below-requires
-    both-requires
-    enum-told-10
-    enum-told-11
     enum-known-c
-    room-for-block-requires
-    both-requires-2
-    enum-told-12
+    under-ceiling-body-requires
+    both-requires
     returns
     returns-2
     returns-3
     returns-4
     returns-5
-    returns-6
-    returns-7
-    returns-8
-    returns-9
-    returns-10
-    returns-11
-    returns-12
-    returns-13)
+    returns-6)
