@@ -1,3 +1,4 @@
+pub mod Ends
 pub mod Lists
 -- the decimal numbers of a report
 pub mod Decimal
