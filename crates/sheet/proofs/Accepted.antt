@@ -1,7 +1,7 @@
 -- A sheet is accepted exactly when it is well formed, and turned down exactly where and for what is wrong.
 use Prim.Native.Nat.{ℕ, zero, suc, _+_, _-_, _<_, _≤_}
 use mathlib.Core.Path.{_≡_, refl, sym, _∙_, ap, subst}
-use mathlib.Core.Bool.{Bool, true, false, false≢true}
+use mathlib.Core.Bool.{Bool, true, false}
 use mathlib.Core.List.{List, [], _∷_, _++_}
 use mathlib.Core.Option.{Option, none, some}
 use mathlib.Core.Logic.{_↔_}
@@ -11,10 +11,11 @@ use borrow.Author.Tests.{ltb-true, ltb-false, lt-ltb, le-ltb}
 use lib.Dec.{ltb}
 use lib.ListN.{length}
 use Rattle.model.specs.Refusal.{Refusal}
-use Rattle.model.specs.Command.{Command, WORD, BLOCK, TASK, RELEASE, END, LOAD, ADD, READ, PAIR, SWAP, BEGIN, access, COMMIT, Found, found, refused, commandAt}
+use Rattle.model.specs.Command.{Command, END, Found, found, refused, commandAt}
 use Rattle.model.specs.Fault.{Known, nothingKnown, faultOf}
 use Rattle.model.specs.Sheet.{Verdict, accepted, turnedDown, end?, atEnd, verdictFrom, verdict, after}
 use Rattle.sheet.specs.WellFormed.{Stand, nothing, first, Faultless, unread, good, Read, WellFormed, Wrong, missing, faulty, followed, TurnedDown}
+use Rattle.model.proofs.Ends.{is-end}
 use Rattle.rules.proofs.Faults.{is-fault, is-broken}
 use Rattle.sheet.proofs.Gaps.{is-missing, is-refused-there}
 use Rattle.sheet.proofs.Reading.{stops-at-fault, stops-at-end, goes-on, judged-refused, judged-found, next-after}
@@ -32,21 +33,6 @@ more-faultless c (good g h r) e f = good g h (more-faultless c r e f)
 
 more : {s : List ℕ} {p next : ℕ} {k : Known} {c : Command} → Read s p k → commandAt s p ≡ found c next → faultOf k c ≡ none → end? c ≡ false → Read s next (after k c)
 more {c = c} r e f g = record { commands = _; stand = more-stand (r .stand) e; faultless = more-faultless c (r .faultless) f g }
-
-is-end : (c : Command) → end? c ≡ true → c ≡ END
-is-end END e = refl
-is-end (WORD v) e = absurd (false≢true e)
-is-end (BLOCK b) e = absurd (false≢true e)
-is-end TASK e = absurd (false≢true e)
-is-end (RELEASE r) e = absurd (false≢true e)
-is-end (LOAD r v) e = absurd (false≢true e)
-is-end (ADD r q) e = absurd (false≢true e)
-is-end (READ r w) e = absurd (false≢true e)
-is-end (PAIR w o n) e = absurd (false≢true e)
-is-end (SWAP r) e = absurd (false≢true e)
-is-end BEGIN e = absurd (false≢true e)
-is-end (access a) e = absurd (false≢true e)
-is-end COMMIT e = absurd (false≢true e)
 
 -- FROM THE VERDICT
 data Outcome (s : List ℕ) : Verdict → Type 0 where

@@ -1,46 +1,25 @@
 -- Where the words and blocks of an accepted sheet stand: the words first, five bytes each, then the blocks, 37 bytes each.
 use Prim.Native.Nat.{ℕ, zero, suc, _+_, _*_, _<_, _≤_}
 use mathlib.Core.Path.{_≡_, refl, _∙_, ap}
-use mathlib.Core.Bool.{true, false≢true}
 use mathlib.Core.List.{List, [], _∷_, _++_}
 use native.Mathlib.Omega.{arith}
 use lib.ListN.{length, getD}
-use Rattle.model.specs.Command.{Block, Command, WORD, BLOCK, TASK, RELEASE, END, LOAD, ADD, READ, PAIR, SWAP, BEGIN, access, COMMIT, bigEndian, found, commandAt}
+use Rattle.model.specs.Command.{Block, Command, WORD, BLOCK, TASK, RELEASE, END, bigEndian, found, commandAt}
 use Rattle.model.specs.Fault.{Known}
 use Rattle.model.specs.Sheet.{Sheet, Declared, after, declared, verdict, accepted, sheetOf}
 use Rattle.commands.specs.Stages.{valuesFrom}
-use Rattle.sheet.specs.Places.{ofBody, commandsAt}
+use Rattle.sheet.specs.Places.{commandsAt}
 use Rattle.sheet.specs.WellFormed.{Stand, nothing, first, Faultless, unread, good, WellFormed}
 use Rattle.commands.proofs.Decoding.{past-the-end}
 use Rattle.rules.proofs.Faults.{keeps}
 use Rattle.sheet.proofs.Reading.{next-after}
-use Rattle.sheet.proofs.Places.{declared-cons, declare-body, commands-found, commands-refused, commands-stand, declared-is, sheet-is}
+use Rattle.sheet.proofs.Places.{commands-found, commands-refused, commands-stand, declared-is, sheet-is}
 use Rattle.sheet.proofs.Sections.{rank, Kind, isWord, isBlock, isTask, isRelease, isBody, kind, word-at, block-at}
 use Rattle.sheet.proofs.Accepted.{accepted-when-well-formed}
 
 -- what commands declare that END follows
 abbrev pub whole : List Command → Sheet
 whole l = declared (l ++ (END ∷ [])) .sheet
-
--- a body command keeps the section, and declares nothing beside its body
-after-body : (k : Known) (c : Command) → ofBody c ≡ true → after k c .section ≡ k .section
-unfolding after
-after-body k (LOAD r v) e = refl
-after-body k (ADD r q) e = refl
-after-body k (READ r w) e = refl
-after-body k (PAIR w o n) e = refl
-after-body k (SWAP r) e = refl
-after-body k BEGIN e = refl
-after-body k (access a) e = refl
-after-body k COMMIT e = refl
-after-body k (WORD v) e = absurd (false≢true e)
-after-body k (BLOCK b) e = absurd (false≢true e)
-after-body k TASK e = absurd (false≢true e)
-after-body k (RELEASE r) e = absurd (false≢true e)
-after-body k END e = absurd (false≢true e)
-
-pub whole-body : (c : Command) (l : List Command) → ofBody c ≡ true → whole (c ∷ l) ≡ whole l
-whole-body c l e = ap (λ (d : Declared). d .sheet) (declared-cons c (l ++ (END ∷ [])) ∙ declare-body c (declared (l ++ (END ∷ []))) e)
 
 -- NO WORDS after the word section, NO BLOCKS after the block section
 module _ (k : Known) (l : List Command) where
@@ -50,7 +29,7 @@ module _ (k : Known) (l : List Command) where
   words-none-by c (isBlock e) h go = go (omega arith)
   words-none-by c (isTask e) h go = go (omega arith)
   words-none-by c (isRelease e) h go = go (omega arith)
-  words-none-by c (isBody b e) h go = ap (λ (s : Sheet). s .words) (whole-body c l b) ∙ go (rw (after-body k c b) h)
+  words-none-by c (isBody e) h go = go h
 
 words-none : {k m : Known} {l : List Command} → Faultless k l m → 0 < rank (k .section) → whole l .words ≡ []
 unfolding declared
@@ -64,7 +43,7 @@ module _ (k : Known) (l : List Command) where
   blocks-none-by c (isBlock e) h go = absurd (omega arith)
   blocks-none-by c (isTask e) h go = go (omega arith)
   blocks-none-by c (isRelease e) h go = go (omega arith)
-  blocks-none-by c (isBody b e) h go = ap (λ (s : Sheet). s .blocks) (whole-body c l b) ∙ go (rw (after-body k c b) h)
+  blocks-none-by c (isBody e) h go = go h
 
 blocks-none : {k m : Known} {l : List Command} → Faultless k l m → 1 < rank (k .section) → whole l .blocks ≡ []
 unfolding declared
@@ -90,7 +69,7 @@ module _ (s : List ℕ) (o : ℕ) (k : Known) (l : List Command) (next : ℕ) wh
   words-by c (isBlock e) f h go ends i less = empty (ends (omega arith)) less
   words-by c (isTask e) f h go ends i less = empty (ends (omega arith)) less
   words-by c (isRelease e) f h go ends i less = absurd (omega arith)
-  words-by c (isBody b e) f h go ends i less = absurd (omega arith)
+  words-by c (isBody e) f h go ends i less = absurd (omega arith)
 
 words-from :
     {s : List ℕ} {o p : ℕ} {k m : Known} {l : List Command} → Stand s o l p → Faultless k l m → rank (k .section) ≡ 0
@@ -102,12 +81,12 @@ words-from {s} {o} {k = k} (first {next = next} {c = c} {l = l} f r) (good g e q
 
 -- THE BLOCKS
 -- the block whose command stands at a place
-abbrev pub blockFrom : List ℕ → ℕ → Block
-blockFrom s p = record { version = bigEndian s (suc p) 4; values = valuesFrom s (suc p) }
+abbrev pub readBlock : List ℕ → ℕ → Block
+readBlock s p = record { version = bigEndian s (suc p) 4; values = valuesFrom s (suc p) }
 
 module _ (s : List ℕ) (o : ℕ) (k : Known) (l : List Command) (next : ℕ) (d : Block) where
   abbrev BlocksAt : ℕ → Sheet → Type 0
-  BlocksAt p x = (i : ℕ) → i < length (x .blocks) → getD (x .blocks) i d ≡ blockFrom s (p + 5 * length (x .words) + 37 * i)
+  BlocksAt p x = (i : ℕ) → i < length (x .blocks) → getD (x .blocks) i d ≡ readBlock s (p + 5 * length (x .words) + 37 * i)
 
   blocks-by :
       (c : Command) → Kind k c → commandAt s o ≡ found c next → rank (k .section) ≤ 1
@@ -116,18 +95,18 @@ module _ (s : List ℕ) (o : ℕ) (k : Known) (l : List Command) (next : ℕ) (d
       → BlocksAt o (whole (c ∷ l))
   unfolding declared after
   blocks-by c (isWord e) f h go words blocks i less =
-      go (omega arith) i less ∙ ap (blockFrom s) (omega (arith, word-at s o f .1))
+      go (omega arith) i less ∙ ap (readBlock s) (omega (arith, word-at s o f .1))
   blocks-by c (isBlock e) f h go words blocks zero less =
-      block-at s o f .0 ∙ ap (blockFrom s) (omega (arith, ap length (words (omega arith))))
+      block-at s o f .0 ∙ ap (readBlock s) (omega (arith, ap length (words (omega arith))))
   blocks-by c (isBlock e) f h go words blocks (suc i) less =
-      go (omega arith) i (omega arith) ∙ ap (blockFrom s) (omega (arith, block-at s o f .1))
+      go (omega arith) i (omega arith) ∙ ap (readBlock s) (omega (arith, block-at s o f .1))
   blocks-by c (isTask e) f h go words blocks i less = empty (blocks (omega arith)) less
   blocks-by c (isRelease e) f h go words blocks i less = absurd (omega arith)
-  blocks-by c (isBody b e) f h go words blocks i less = absurd (omega arith)
+  blocks-by c (isBody e) f h go words blocks i less = absurd (omega arith)
 
 blocks-from :
     {s : List ℕ} {o p : ℕ} {k m : Known} {l : List Command} (d : Block) → Stand s o l p → Faultless k l m → rank (k .section) ≤ 1
-    → (i : ℕ) → i < length (whole l .blocks) → getD (whole l .blocks) i d ≡ blockFrom s (o + 5 * length (whole l .words) + 37 * i)
+    → (i : ℕ) → i < length (whole l .blocks) → getD (whole l .blocks) i d ≡ readBlock s (o + 5 * length (whole l .words) + 37 * i)
 unfolding declared
 blocks-from d nothing unread h i less = absurd (omega arith)
 blocks-from {s} {o} {k = k} d (first {next = next} {c = c} {l = l} f r) (good g e q) h i less =
@@ -145,10 +124,10 @@ module _ (s : List ℕ) (e : verdict s ≡ accepted) (i : ℕ) where
       let w : WellFormed s = accepted-when-well-formed s .0 e in
       rw (whole-sheet w) (words-from (w .read .stand) (w .read .faultless) refl i (rw (whole-sheet w) at h) ∙ ap (λ (p : ℕ). bigEndian s (suc p) 4) (omega arith))
 
-  pub block-of : (d : Block) → i < length (sheetOf s .blocks) → getD (sheetOf s .blocks) i d ≡ blockFrom s (5 * length (sheetOf s .words) + 37 * i)
+  pub block-of : (d : Block) → i < length (sheetOf s .blocks) → getD (sheetOf s .blocks) i d ≡ readBlock s (5 * length (sheetOf s .words) + 37 * i)
   block-of d h =
       let w : WellFormed s = accepted-when-well-formed s .0 e in
-      rw (whole-sheet w) (blocks-from d (w .read .stand) (w .read .faultless) (omega arith) i (rw (whole-sheet w) at h) ∙ ap (blockFrom s) (omega arith))
+      rw (whole-sheet w) (blocks-from d (w .read .stand) (w .read .faultless) (omega arith) i (rw (whole-sheet w) at h) ∙ ap (readBlock s) (omega arith))
 
 -- ROOM: the words and blocks lie within the sheet
 module _ (s : List ℕ) (o place : ℕ) (k : Known) (l : List Command) (next : ℕ) where
@@ -161,7 +140,7 @@ module _ (s : List ℕ) (o place : ℕ) (k : Known) (l : List Command) (next : �
   fits-by c (isBlock e) f h = omega (arith, block-at s o f .1)
   fits-by c (isTask e) f h = omega (arith, next-after s o f .0)
   fits-by c (isRelease e) f h = omega (arith, next-after s o f .0)
-  fits-by c (isBody b e) f h = rw (whole-body c l b) (omega (arith, next-after s o f .0))
+  fits-by c (isBody e) f h = omega (arith, next-after s o f .0)
 
 fits-from :
     {s : List ℕ} {o p : ℕ} {k m : Known} {l : List Command} → Stand s o l p → Faultless k l m

@@ -1,7 +1,7 @@
 -- The index of an accepted sheet, command by command: what it has counted, and what the commands to come declare.
 use Prim.Native.Nat.{ℕ, _+_, _<_, _≤_}
 use mathlib.Core.Path.{_≡_, refl, sym, _∙_, ap, subst}
-use mathlib.Core.Bool.{Bool, true, false, false≢true}
+use mathlib.Core.Bool.{Bool, true, false}
 use mathlib.Core.List.{List, [], _∷_, _++_}
 use native.Mathlib.Omega.{arith}
 use borrow.Author.Tests.{eqb-true, eqb-false, ltb-true}
@@ -9,11 +9,11 @@ use lib.Dec.{eqb}
 use lib.ListN.{length, getD, set, length-set}
 use lib.Seq.{getD-set-same, getD-set-other}
 use Rattle.model.specs.Refusal.{Refusal}
-use Rattle.model.specs.Command.{Block, Release, Command, WORD, BLOCK, TASK, RELEASE, END, LOAD, ADD, READ, PAIR, SWAP, BEGIN, access, COMMIT, found, refused, commandAt}
-use Rattle.model.specs.Fault.{Counts, Known, nothingKnown, underCeiling}
+use Rattle.model.specs.Command.{Block, Release, BodyCommand, Command, WORD, BLOCK, TASK, RELEASE, END, body, found, refused, commandAt}
+use Rattle.model.specs.Fault.{SheetCounts, Known, nothingKnown, underCeiling}
 use Rattle.model.specs.Sheet as M
-use Rattle.model.specs.Sheet.{Declared, after, oneCommand, declared, verdict, accepted, sheetOf}
-use Rattle.sheet.specs.Places.{ofBody, declaredAt, bodyAt, releasesAt, commandsAt}
+use Rattle.model.specs.Sheet.{Declared, after, declared, verdict, accepted, sheetOf}
+use Rattle.sheet.specs.Places.{declaredAt, bodyAt, releasesAt, commandsAt}
 use Rattle.sheet.specs.WellFormed.{Stand, nothing, first, Faultless, unread, good, WellFormed}
 use Rattle.sheet.specs.Indexed.{OnlyReleases, ReleasesStand, Indexed, emptyIndex, placeOr, counted, Room}
 use Rattle.sheet.specs.declared.index.Sheet.{Sheet}
@@ -24,7 +24,7 @@ use Rattle.sheet.proofs.Reading.{next-after}
 use Rattle.sheet.proofs.Passing.{Passed, passed-all, passed-here, passed-one, none-passed}
 use Rattle.sheet.proofs.Places.{declared-is, commands-found, commands-refused, commands-stand}
 use Rattle.sheet.proofs.Sections.{rank, Kind, isWord, isBlock, isTask, isRelease, isBody, kind}
-use Rattle.sheet.proofs.Declared.{whole, whole-body, whole-sheet}
+use Rattle.sheet.proofs.Declared.{whole, whole-sheet}
 
 -- WHAT IS COUNTED
 pub record Left (all : M.Sheet) (x : Sheet) (rest : M.Sheet) : Type 0 where
@@ -33,7 +33,7 @@ pub record Left (all : M.Sheet) (x : Sheet) (rest : M.Sheet) : Type 0 where
   pub bodies : Passed (all .bodies) (x .tasks) (rest .bodies)
   pub releases : Passed (all .releases) (x .releases) (rest .releases)
 
-pub record Match (x : Sheet) (n : Counts) : Type 0 where
+pub record Match (x : Sheet) (n : SheetCounts) : Type 0 where
   pub words : x .words ≡ n .words
   pub blocks : x .blocks ≡ n .blocks
   pub tasks : x .tasks ≡ n .tasks
@@ -103,7 +103,7 @@ only-by k l c (isWord e) h go = absurd (omega arith)
 only-by k l c (isBlock e) h go = absurd (omega arith)
 only-by k l c (isTask e) h go = absurd (omega arith)
 only-by k l c (isRelease e) h go = go refl
-only-by k l c (isBody b e) h go = absurd (omega arith)
+only-by k l c (isBody e) h go = absurd (omega arith)
 
 only-releases : {k m : Known} {l : List Command} → Faultless k l m → rank (k .section) ≡ 3 → OnlyReleases (l ++ (END ∷ []))
 only-releases unread h = refl
@@ -116,27 +116,6 @@ first-release :
 first-release s at n q rest p e only before true h = record { all = (rw (eqb-true n 0 h) at (p .left)) ∙ e; only = only }
 first-release s at n q rest p e only before false h = before (omega (arith, eqb-false n 0 h))
 
--- A BODY COMMAND
-module _ (k : Known) (x : Sheet) (at next : ℕ) where
-  counted-body : (c : Command) → ofBody c ≡ true → (counted x c at next ≡ x) × (after k c .counts ≡ oneCommand (k .counts))
-  unfolding counted after
-  counted-body (LOAD r v) e = (refl, refl)
-  counted-body (ADD r q) e = (refl, refl)
-  counted-body (READ r w) e = (refl, refl)
-  counted-body (PAIR w o n) e = (refl, refl)
-  counted-body (SWAP r) e = (refl, refl)
-  counted-body BEGIN e = (refl, refl)
-  counted-body (access a) e = (refl, refl)
-  counted-body COMMIT e = (refl, refl)
-  counted-body (WORD v) e = absurd (false≢true e)
-  counted-body (BLOCK b) e = absurd (false≢true e)
-  counted-body TASK e = absurd (false≢true e)
-  counted-body (RELEASE r) e = absurd (false≢true e)
-  counted-body END e = absurd (false≢true e)
-
-  match-body : (c : Command) → ofBody c ≡ true → Match x (k .counts) → Match x (after k c .counts)
-  match-body c e h = rw (counted-body c e .1) (record { words = h .words; blocks = h .blocks; tasks = h .tasks; releases = h .releases })
-
 -- there is room for a command that passes no ceiling
 pub room-for : (k : Known) (x : Sheet) (c : Command) → Match x (k .counts) → underCeiling k c ≡ true → Room x c
 unfolding underCeiling
@@ -145,14 +124,7 @@ room-for k x (BLOCK b) m h = rw (m .blocks) (ltb-true _ _ h)
 room-for k x TASK m h = rw (m .tasks) (ltb-true _ _ h)
 room-for k x (RELEASE r) m h = rw (m .releases) (ltb-true _ _ h)
 room-for k x END m h = omega arith
-room-for k x (LOAD r v) m h = omega arith
-room-for k x (ADD r q) m h = omega arith
-room-for k x (READ r w) m h = omega arith
-room-for k x (PAIR w o n) m h = omega arith
-room-for k x (SWAP r) m h = omega arith
-room-for k x BEGIN m h = omega arith
-room-for k x (access a) m h = omega arith
-room-for k x COMMIT m h = omega arith
+room-for k x (body c) m h = omega arith
 
 -- ONE MORE COMMAND
 module _
@@ -214,9 +186,9 @@ module _
 
     -- the body that TASK opens stands from the next place on
     opened :
-        (body : List Command) (rest : List (List Command)) → Passed (sheetOf s .bodies) (x .tasks) (body ∷ rest) → bodyAt s next ≡ body → x .tasks < 8
+        (b : List BodyCommand) (rest : List (List BodyCommand)) → Passed (sheetOf s .bodies) (x .tasks) (b ∷ rest) → bodyAt s next ≡ b → x .tasks < 8
         → (p : ℕ) → p < x .tasks + 1 → getD (sheetOf s .bodies) p [] ≡ bodyAt s (getD (set (x .bodies) (x .tasks) next) p 0)
-    opened body rest passed is room p h =
+    opened b rest passed is room p h =
         cases (eqb p (x .tasks))
         (λ e. rw (eqb-true p (x .tasks) e, getD-set-same (x .bodies) (x .tasks) next 0 (omega arith)) (passed-here passed [] ∙ sym is))
         (λ e. let ne : p ≡ x .tasks → ⊥ = eqb-false p (x .tasks) e in rw (getD-set-other (x .bodies) (x .tasks) p next 0 ne) (bodies p (omega arith)))
@@ -257,10 +229,10 @@ module _
           released = λ h. first-release s at (x .releases) (x .released) _ (left .releases) (sym (ap (λ (d : Declared). d .sheet .releases) (rest-declared (first e stand) last))) (subst OnlyReleases (sym (rest-commands (first e stand) last)) (only-releases faultless refl)) released (eqb (x .releases) 0) refl;
         }
 
-    one-of-body : (c : Command) → ofBody c ≡ true → More c
-    one-of-body c b e faultless left room =
-        rw (counted-body k x at next c b .0)
-        (record {
+    one-of-body : (c : BodyCommand) → More (body c)
+    unfolding counted declared after
+    one-of-body c e faultless left room =
+        record {
           known = _;
           rest = l;
           after = m;
@@ -268,19 +240,19 @@ module _
           stand = stand;
           faultless = faultless;
           last = last;
-          left = subst (Left (sheetOf s) x) (whole-body c l b) left;
-          match = match-body k x at next c b match;
+          left = record { words = left .words; blocks = left .blocks; bodies = left .bodies; releases = left .releases };
+          match = record { words = match .words; blocks = match .blocks; tasks = match .tasks; releases = match .releases };
           full = full;
           bodies = bodies;
           released = released;
-        })
+        }
 
     one-more : (c : Command) → Kind k c → More c
     one-more c (isWord {v = v} h) = one-word v
     one-more c (isBlock {b = b} h) = one-block b
     one-more c (isTask h) = one-task
     one-more c (isRelease {r = r} h) = one-release r
-    one-more c (isBody b h) = one-of-body c b
+    one-more c (isBody {c = b} h) = one-of-body b
 
 -- A command is found at each place of the walk, there is room for it, and the walk goes on behind it.
 pub record Here (s : List ℕ) (x : Sheet) (at : ℕ) : Type 0 where

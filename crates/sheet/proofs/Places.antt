@@ -1,14 +1,13 @@
--- The commands from a place on are the command there and those from the next place on; so are a body's commands and the releases.
+-- The commands from a place on are the command there and those from the next place on.
 use Prim.Native.Nat.{ℕ, zero, suc, _+_, _<_, _≤_}
 use mathlib.Core.Path.{_≡_, refl, sym, _∙_, ap}
-use mathlib.Core.Bool.{true, false, false≢true}
 use mathlib.Core.List.{List, [], _∷_, _++_}
 use native.Mathlib.Omega.{arith}
 use lib.ListN.{length}
 use Rattle.model.specs.Refusal.{Refusal}
-use Rattle.model.specs.Command.{Command, WORD, BLOCK, TASK, RELEASE, END, LOAD, ADD, READ, PAIR, SWAP, BEGIN, access, COMMIT, Found, found, refused, commandAt}
-use Rattle.model.specs.Sheet.{listed, commandsFrom, Declared, declares, inOpenBody, declare, declared, sheetOf}
-use Rattle.sheet.specs.Places.{commandsAt, declaredAt, bodyAt, ofBody}
+use Rattle.model.specs.Command.{Command, Found, found, refused, commandAt}
+use Rattle.model.specs.Sheet.{listed, commandsFrom, declared, sheetOf}
+use Rattle.sheet.specs.Places.{commandsAt, declaredAt}
 use Rattle.sheet.specs.WellFormed.{Stand, nothing, first}
 use Rattle.commands.proofs.Decoding.{past-the-end}
 use Rattle.sheet.proofs.Reading.{next-after}
@@ -68,66 +67,6 @@ pub declared-is : (s : List ℕ) (p : ℕ) → declaredAt s p ≡ declared (comm
 unfolding declaredAt
 declared-is s p = refl
 
-pub declared-cons : (c : Command) (l : List Command) → declared (c ∷ l) ≡ declare c (declared l)
-unfolding declared
-declared-cons c l = refl
-
-declared-nil : declared [] ≡ declares [] [] [] [] []
-unfolding declared
-declared-nil = refl
-
-module _ (s : List ℕ) (p : ℕ) where
-  pub declared-found : {c : Command} {next : ℕ} → commandAt s p ≡ found c next → declaredAt s p ≡ declare c (declaredAt s next)
-  declared-found {c} {next} e =
-      declared-is s p ∙ ap declared (commands-found s p e) ∙ declared-cons c (commandsAt s next) ∙ ap (declare c) (sym (declared-is s next))
-
-  pub declared-refused : {f : Refusal} {q : ℕ} → commandAt s p ≡ refused f q → declaredAt s p ≡ declares [] [] [] [] []
-  declared-refused e = declared-is s p ∙ ap declared (commands-refused s p e) ∙ declared-nil
-
 pub sheet-is : (s : List ℕ) → sheetOf s ≡ declaredAt s 0 .sheet
 unfolding sheetOf declaredAt
 sheet-is s = refl
-
--- A BODY
-pub declare-body : (c : Command) (d : Declared) → ofBody c ≡ true → declare c d ≡ inOpenBody c d
-unfolding declare
-declare-body (LOAD r v) d e = refl
-declare-body (ADD r q) d e = refl
-declare-body (READ r w) d e = refl
-declare-body (PAIR w o n) d e = refl
-declare-body (SWAP r) d e = refl
-declare-body BEGIN d e = refl
-declare-body (access a) d e = refl
-declare-body COMMIT d e = refl
-declare-body (WORD v) d e = absurd (false≢true e)
-declare-body (BLOCK b) d e = absurd (false≢true e)
-declare-body TASK d e = absurd (false≢true e)
-declare-body (RELEASE r) d e = absurd (false≢true e)
-declare-body END d e = absurd (false≢true e)
-
-pub declare-other : (c : Command) (d : Declared) → ofBody c ≡ false → declare c d .body ≡ []
-unfolding declare
-declare-other (WORD v) d e = refl
-declare-other (BLOCK b) d e = refl
-declare-other TASK d e = refl
-declare-other (RELEASE r) d e = refl
-declare-other END d e = refl
-declare-other (LOAD r v) d e = absurd (false≢true (sym e))
-declare-other (ADD r q) d e = absurd (false≢true (sym e))
-declare-other (READ r w) d e = absurd (false≢true (sym e))
-declare-other (PAIR w o n) d e = absurd (false≢true (sym e))
-declare-other (SWAP r) d e = absurd (false≢true (sym e))
-declare-other BEGIN d e = absurd (false≢true (sym e))
-declare-other (access a) d e = absurd (false≢true (sym e))
-declare-other COMMIT d e = absurd (false≢true (sym e))
-
-module _ (s : List ℕ) (p : ℕ) {c : Command} {next : ℕ} (e : commandAt s p ≡ found c next) where
-  -- a body command is the first of the body's rest; any other command ends the body
-  pub body-found : ofBody c ≡ true → bodyAt s p ≡ c ∷ bodyAt s next
-  body-found b = ap (λ (d : Declared). d .body) (declared-found s p e ∙ declare-body c (declaredAt s next) b)
-
-  pub body-over : ofBody c ≡ false → bodyAt s p ≡ []
-  body-over b = ap (λ (d : Declared). d .body) (declared-found s p e) ∙ declare-other c (declaredAt s next) b
-
-pub body-refused : (s : List ℕ) (p : ℕ) {f : Refusal} {q : ℕ} → commandAt s p ≡ refused f q → bodyAt s p ≡ []
-body-refused s p e = ap (λ (d : Declared). d .body) (declared-refused s p e)

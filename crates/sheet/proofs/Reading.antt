@@ -8,7 +8,7 @@ use native.Mathlib.Omega.{arith}
 use borrow.Author.Tests.{leb-true}
 use lib.Dec.{ltb, leb}
 use lib.ListN.{length, getD}
-use Rattle.model.specs.Refusal.{Refusal, cutShort}
+use Rattle.model.specs.Refusal.{Refusal}
 use Rattle.model.specs.Command.{Command, Row, rowOf, table, total, found, refused, foundWhole, foundRow, foundByte, commandAt}
 use Rattle.model.specs.Fault.{Known, nothingKnown, faultOf}
 use Rattle.model.specs.Sheet.{Verdict, turnedDown, end?, atEnd, judgeFault, judge, verdictFrom, verdict, after}
@@ -16,7 +16,6 @@ use Rattle.model.specs.Answer.{checkedBy, checkAnswer}
 use Rattle.sheet.specs.View.{viewVerdict, checkedOf}
 use Rattle.sheet.specs.declared.check.Verdict as Answer
 use Rattle.sheet.specs.declared.check.Verdict.the-variants.{Accepted, TurnedDown}
-use Rattle.commands.proofs.Decoding.{past-the-end}
 
 -- The reading has come to a place, with what is known there: the verdict from there on, at enough commands, is that of the sheet.
 pub record Reached (s : List ℕ) (at : ℕ) (k : Known) : Type 0 where
@@ -60,9 +59,6 @@ module _ (n : ℕ) (s : List ℕ) (at : ℕ) (k : Known) where
 module _ (s : List ℕ) (at : ℕ) (k : Known) (r : Reached s at k) where
   pub is-refused : {f : Refusal} {p : ℕ} → commandAt s at ≡ refused f p → turnedDown f p ≡ verdict s
   is-refused e = sym (judged-refused (r .left) s at k e) ∙ r .same
-
-  pub is-cut-short : length s ≤ at → turnedDown cutShort (length s) ≡ verdict s
-  is-cut-short h = is-refused (past-the-end s at h)
 
   pub is-judged :
       {c : Command} {next : ℕ} {v : Verdict} → commandAt s at ≡ found c next

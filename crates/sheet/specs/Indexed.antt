@@ -5,7 +5,7 @@ use mathlib.Core.Bool.{Bool, true, false}
 use mathlib.Core.List.{List, [], _∷_}
 use lib.Dec.{eqb}
 use lib.ListN.{length, getD, set, replicate}
-use Rattle.model.specs.Command.{Block, Command, WORD, BLOCK, TASK, RELEASE, END, LOAD, ADD, READ, PAIR, SWAP, BEGIN, access, COMMIT}
+use Rattle.model.specs.Command.{Block, Command, WORD, BLOCK, TASK, RELEASE, END, body}
 use Rattle.model.specs.Sheet.{verdict, accepted, sheetOf}
 use Rattle.sheet.specs.Places.{bodyAt, releasesAt, commandsAt}
 use Rattle.sheet.specs.declared.index.Sheet.{Sheet}
@@ -18,14 +18,7 @@ OnlyReleases (END ∷ l) = l ≡ []
 OnlyReleases (WORD v ∷ l) = ⊥
 OnlyReleases (BLOCK b ∷ l) = ⊥
 OnlyReleases (TASK ∷ l) = ⊥
-OnlyReleases (LOAD r v ∷ l) = ⊥
-OnlyReleases (ADD r q ∷ l) = ⊥
-OnlyReleases (READ r w ∷ l) = ⊥
-OnlyReleases (PAIR w o n ∷ l) = ⊥
-OnlyReleases (SWAP r ∷ l) = ⊥
-OnlyReleases (BEGIN ∷ l) = ⊥
-OnlyReleases (access a ∷ l) = ⊥
-OnlyReleases (COMMIT ∷ l) = ⊥
+OnlyReleases (body c ∷ l) = ⊥
 
 -- all releases of the sheet stand from a place on, and only they
 pub record ReleasesStand (s : List ℕ) (place : ℕ) : Type 0 where
@@ -60,14 +53,7 @@ counted x (BLOCK b) at next = index (x .words) (x .blocks + 1) (x .tasks) (x .re
 counted x TASK at next = index (x .words) (x .blocks) (x .tasks + 1) (x .releases) (set (x .bodies) (x .tasks) next) (x .released)
 counted x (RELEASE r) at next = index (x .words) (x .blocks) (x .tasks) (x .releases + 1) (x .bodies) (placeOr (eqb (x .releases) 0) at (x .released))
 counted x END at next = index (x .words) (x .blocks) (x .tasks) (x .releases) (x .bodies) (placeOr (eqb (x .releases) 0) at (x .released))
-counted x (LOAD r v) at next = x
-counted x (ADD r q) at next = x
-counted x (READ r w) at next = x
-counted x (PAIR w o n) at next = x
-counted x (SWAP r) at next = x
-counted x BEGIN at next = x
-counted x (access a) at next = x
-counted x COMMIT at next = x
+counted x (body c) at next = x
 
 -- there is room for one more command
 abbrev pub Room : Sheet → Command → Type 0
@@ -76,14 +62,7 @@ Room x (BLOCK b) = x .blocks < 16
 Room x TASK = x .tasks < 8
 Room x (RELEASE r) = x .releases < 256
 Room x END = 0 ≤ 0
-Room x (LOAD r v) = 0 ≤ 0
-Room x (ADD r q) = 0 ≤ 0
-Room x (READ r w) = 0 ≤ 0
-Room x (PAIR w o n) = 0 ≤ 0
-Room x (SWAP r) = 0 ≤ 0
-Room x BEGIN = 0 ≤ 0
-Room x (access a) = 0 ≤ 0
-Room x COMMIT = 0 ≤ 0
+Room x (body c) = 0 ≤ 0
 
 abbrev pub noBlock : Block
 noBlock = record { version = 0; values = [] }

@@ -33,14 +33,7 @@ fn is_end(c: Command) -> bool
         Command::Block(_) => false,
         Command::Task => false,
         Command::Release(_) => false,
-        Command::Load { .. } => false,
-        Command::Add { .. } => false,
-        Command::Read { .. } => false,
-        Command::Pair { .. } => false,
-        Command::Swap(_) => false,
-        Command::Begin => false,
-        Command::Access(_) => false,
-        Command::Commit => false,
+        Command::Body(_) => false,
     }
 }
 

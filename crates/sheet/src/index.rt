@@ -64,14 +64,7 @@ fn count(x: Sheet, c: Command, at: usize, next: usize) -> Sheet
             y.released = first_place(x, at);
             y
         }
-        Command::Load { .. } => y,
-        Command::Add { .. } => y,
-        Command::Read { .. } => y,
-        Command::Pair { .. } => y,
-        Command::Swap(_) => y,
-        Command::Begin => y,
-        Command::Access(_) => y,
-        Command::Commit => y,
+        Command::Body(_) => y,
     }
 }
 

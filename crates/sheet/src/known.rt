@@ -5,21 +5,24 @@ ghost use mathlib.Core.List.{[]};
 ghost use Prim.Native.Nat.{_<_};
 ghost use Rattle.model.specs.Fault as rule;
 ghost use Rattle.model.specs.Sheet as next;
-ghost use Rattle.commands.specs.View.{viewAccess, viewCommand};
+ghost use Rattle.commands.specs.View.{viewAccess, viewOutside, viewInside, viewBodyCommand, viewCommand};
 ghost use Rattle.rules.specs.View.{viewCounts, viewNumbers, viewBody, viewKnown};
 use commands::Access;
+use commands::BodyCommand;
 use commands::Command;
-use rules::known::Counts;
+use commands::Inside;
+use commands::Outside;
 use rules::known::Known;
 use rules::known::Numbers;
 use rules::known::Section;
+use rules::known::SheetCounts;
 use rules::known::Task;
 
-fn one_word(n: Counts) -> Counts
+fn one_word(n: SheetCounts) -> SheetCounts
     requires { ⌜ n .words < 32 ⌝ }
     ensures { λ r. ⌜ viewCounts r ≡ next.oneWord (viewCounts n) ⌝ }
 {
-    Counts {
+    SheetCounts {
         words: n.words + 1,
         blocks: n.blocks,
         tasks: n.tasks,
@@ -28,11 +31,11 @@ fn one_word(n: Counts) -> Counts
     }
 }
 
-fn one_block(n: Counts) -> Counts
+fn one_block(n: SheetCounts) -> SheetCounts
     requires { ⌜ n .blocks < 16 ⌝ }
     ensures { λ r. ⌜ viewCounts r ≡ next.oneBlock (viewCounts n) ⌝ }
 {
-    Counts {
+    SheetCounts {
         words: n.words,
         blocks: n.blocks + 1,
         tasks: n.tasks,
@@ -41,11 +44,11 @@ fn one_block(n: Counts) -> Counts
     }
 }
 
-fn one_task(n: Counts) -> Counts
+fn one_task(n: SheetCounts) -> SheetCounts
     requires { ⌜ n .tasks < 8 ⌝ }
     ensures { λ r. ⌜ viewCounts r ≡ next.oneTask (viewCounts n) ⌝ }
 {
-    Counts {
+    SheetCounts {
         words: n.words,
         blocks: n.blocks,
         tasks: n.tasks + 1,
@@ -54,11 +57,11 @@ fn one_task(n: Counts) -> Counts
     }
 }
 
-fn one_command(n: Counts) -> Counts
+fn one_command(n: SheetCounts) -> SheetCounts
     requires { ⌜ n .commands < 512 ⌝ }
     ensures { λ r. ⌜ viewCounts r ≡ next.oneCommand (viewCounts n) ⌝ }
 {
-    Counts {
+    SheetCounts {
         words: n.words,
         blocks: n.blocks,
         tasks: n.tasks,
@@ -67,11 +70,11 @@ fn one_command(n: Counts) -> Counts
     }
 }
 
-fn one_release(n: Counts) -> Counts
+fn one_release(n: SheetCounts) -> SheetCounts
     requires { ⌜ n .releases < 256 ⌝ }
     ensures { λ r. ⌜ viewCounts r ≡ next.oneRelease (viewCounts n) ⌝ }
 {
-    Counts {
+    SheetCounts {
         words: n.words,
         blocks: n.blocks,
         tasks: n.tasks,
@@ -96,14 +99,14 @@ fn waiting(pairs: Numbers, b: Task) -> Task
 }
 
 // The open body with these blocks of a transaction.
-fn transaction(inside: bool, touched: Numbers, puts: Numbers, b: Task) -> Task
-    ensures { λ r. ⌜ viewBody r ≡ next.transaction inside (viewNumbers touched) (viewNumbers puts) (viewBody b) ⌝ }
+fn transaction(is_open: bool, touched: Numbers, puts: Numbers, b: Task) -> Task
+    ensures { λ r. ⌜ viewBody r ≡ next.transaction is_open (viewNumbers touched) (viewNumbers puts) (viewBody b) ⌝ }
 {
     let pairs = b.pairs;
     Task {
         empty: false,
         pairs,
-        inside,
+        inside: is_open,
         touched,
         puts,
     }
@@ -124,6 +127,42 @@ fn named(a: Access, b: Task) -> Task
             puts.include(block),
             b,
         ),
+    }
+}
+
+fn after_outside(b: Task, c: Outside) -> Task
+    requires { ⌜ rule.underCeilingOutside (viewBody b) (viewOutside c) ≡ true ⌝ }
+    ensures { λ r. ⌜ viewBody r ≡ next.afterOutside (viewBody b) (viewOutside c) ⌝ }
+{
+    let pairs = b.pairs;
+    match c {
+        Outside::Read { .. } => waiting(pairs, b),
+        Outside::Pair { word, .. } => waiting(pairs.with(word), b),
+        Outside::Swap(_) => waiting(Numbers::none(), b),
+        Outside::Begin => transaction(true, Numbers::none(), Numbers::none(), b),
+    }
+}
+
+fn after_inside(b: Task, c: Inside) -> Task
+    requires { ⌜ rule.underCeilingInside (viewBody b) (viewInside c) ≡ true ⌝ }
+    ensures { λ r. ⌜ viewBody r ≡ next.afterInside (viewBody b) (viewInside c) ⌝ }
+{
+    match c {
+        Inside::Access(a) => named(a, b),
+        Inside::Commit => transaction(false, Numbers::none(), Numbers::none(), b),
+    }
+}
+
+// The open body after one of its commands.
+fn after_body(b: Task, c: BodyCommand) -> Task
+    requires { ⌜ rule.underCeilingBody (viewBody b) (viewBodyCommand c) ≡ true ⌝ }
+    ensures { λ r. ⌜ viewBody r ≡ next.afterBody (viewBody b) (viewBodyCommand c) ⌝ }
+{
+    let pairs = b.pairs;
+    match c {
+        BodyCommand::Outside(o) => after_outside(b, o),
+        BodyCommand::Inside(i) => after_inside(b, i),
+        _ => waiting(pairs, b),
     }
 }
 
@@ -150,7 +189,6 @@ pub fn after(k: Known, c: Command) -> Known
     let counts = k.counts;
     let body = k.body;
     let last = k.last;
-    let pairs = body.pairs;
     match c {
         Command::Word(_) => Known {
             section: Section::Words,
@@ -177,16 +215,6 @@ pub fn after(k: Known, c: Command) -> Known
             last: r,
         },
         Command::End => k,
-        Command::Load { .. } => in_body(k, waiting(pairs, body)),
-        Command::Add { .. } => in_body(k, waiting(pairs, body)),
-        Command::Read { .. } => in_body(k, waiting(pairs, body)),
-        Command::Pair { word, .. } => in_body(k, waiting(pairs.with(word), body)),
-        Command::Swap(_) => in_body(k, waiting(Numbers::none(), body)),
-        Command::Begin => in_body(k, transaction(true, Numbers::none(), Numbers::none(), body)),
-        Command::Access(a) => in_body(k, named(a, body)),
-        Command::Commit => in_body(
-            k,
-            transaction(false, Numbers::none(), Numbers::none(), body),
-        ),
+        Command::Body(b) => in_body(k, after_body(body, b)),
     }
 }

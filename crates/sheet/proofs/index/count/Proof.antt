@@ -1,6 +1,5 @@
 -- `count` meets its contract.
 use Prim.Native.Nat.{_<_}
-use Rattle.model.specs.Fault.{room}
 use Rattle.sheet.specs.Indexed.{counted}
 use native.Mathlib.Omega.{arith}
 use borrow.Author.Needs.{needs}
@@ -52,27 +51,6 @@ first-place-requires-2 c κs = search needs
 enum-told-6 : tie.Need-enum-told-6
 enum-told-6 c = search needs
 
-enum-told-7 : tie.Need-enum-told-7
-enum-told-7 c = search needs
-
-enum-told-8 : tie.Need-enum-told-8
-enum-told-8 c = search needs
-
-enum-told-9 : tie.Need-enum-told-9
-enum-told-9 c = search needs
-
-enum-told-10 : tie.Need-enum-told-10
-enum-told-10 c = search needs
-
-enum-told-11 : tie.Need-enum-told-11
-enum-told-11 c = search needs
-
-enum-told-12 : tie.Need-enum-told-12
-enum-told-12 c = search needs
-
-enum-told-13 : tie.Need-enum-told-13
-enum-told-13 c = search needs
-
 returns : tie.Need-returns
 unfolding counted
 returns c = rw (c .before .enum-told .given .1)
@@ -97,34 +75,6 @@ returns-6 : tie.Need-returns-6
 unfolding counted
 returns-6 c = rw (c .enum-told6 .given .1)
 
-returns-7 : tie.Need-returns-7
-unfolding counted
-returns-7 c = rw (c .enum-told7 .given .1)
-
-returns-8 : tie.Need-returns-8
-unfolding counted
-returns-8 c = rw (c .enum-told8 .given .1)
-
-returns-9 : tie.Need-returns-9
-unfolding counted
-returns-9 c = rw (c .enum-told9 .given .1)
-
-returns-10 : tie.Need-returns-10
-unfolding counted
-returns-10 c = rw (c .enum-told10 .given .1)
-
-returns-11 : tie.Need-returns-11
-unfolding counted
-returns-11 c = rw (c .enum-told11 .given .1)
-
-returns-12 : tie.Need-returns-12
-unfolding counted
-returns-12 c = rw (c .enum-told12 .given .1)
-
-returns-13 : tie.Need-returns-13
-unfolding counted
-returns-13 c = rw (c .enum-told13 .given .1)
-
 pub count-spec : {M : Type 1} → statement M
 count-spec =
     tie.close
@@ -144,23 +94,9 @@ count-spec =
     enum-told-5
     first-place-requires-2
     enum-told-6
-    enum-told-7
-    enum-told-8
-    enum-told-9
-    enum-told-10
-    enum-told-11
-    enum-told-12
-    enum-told-13
     returns
     returns-2
     returns-3
     returns-4
     returns-5
-    returns-6
-    returns-7
-    returns-8
-    returns-9
-    returns-10
-    returns-11
-    returns-12
-    returns-13)
+    returns-6)
