@@ -7,7 +7,7 @@ use native.Mathlib.Omega.{arith}
 use borrow.Author.Tests.{lt-ltb, le-ltb}
 use lib.ListN.{length, getD, set, length-map, length-set}
 use Rattle.model.specs.Lists.{at, replace}
-use Rattle.model.specs.Command.{Block, bigEndian, operand, blockOf}
+use Rattle.model.specs.Command.{Block, bigEndian, operand, blockFrom}
 use Rattle.model.specs.Sheet.{Sheet, sheetOf, verdict, accepted}
 use Rattle.model.specs.Machine.{copiesOf}
 use Rattle.model.specs.Word.{freshWord}
