@@ -91,4 +91,5 @@ accessFrom s p b =
 -- what the byte at a place says of the command there
 abbrev pub ByteSays : List ℕ → ℕ → Opcode → Type 0
 ByteSays s at (opcode.Refused f) = commandAt s at ≡ refused (viewRefusal (f .refusal)) (f .place)
-ByteSays s at (opcode.Known b) = (suc at + widthOf b ≤ length s) × (commandAt s at ≡ found (commandOf s (suc at) b) (suc at + widthOf b))
+ByteSays s at (opcode.Known b) =
+    (suc at + widthOf b ≤ length s) × (commandAt s at ≡ found (commandOf s (suc at) b) (suc at + widthOf b))

@@ -4,7 +4,8 @@ use mathlib.Core.List.{List}
 use Rattle.model.specs.Refusal as R
 use Rattle.model.specs.Command as M
 use Rattle.commands.specs.declared.Refusal.{Refusal}
-use Rattle.commands.specs.declared.Refusal.the-variants.{NoCommand, CutShort, ByteAfterEnd, Misplaced, CeilingPassed, OutOfRange, WordRepeated, ReleasesNotRising, LimitTooHigh, BufferTooShort}
+use Rattle.commands.specs.declared.Refusal.the-variants.{NoCommand, CutShort, ByteAfterEnd, Misplaced, CeilingPassed}
+use Rattle.commands.specs.declared.Refusal.the-variants.{OutOfRange, WordRepeated, ReleasesNotRising, LimitTooHigh, BufferTooShort}
 use Rattle.commands.specs.declared.Release.{Release}
 use Rattle.commands.specs.declared.Access.{Access}
 use Rattle.commands.specs.declared.Access.the-variants.{Get, Put}

@@ -39,7 +39,8 @@ viewBody b =
     }
 
 abbrev pub viewKnown : Known → F.Known
-viewKnown k = record { section = viewSection (k .section); counts = viewCounts (k .counts); body = viewBody (k .body); last = viewRelease (k .last) }
+viewKnown k =
+    record { section = viewSection (k .section); counts = viewCounts (k .counts); body = viewBody (k .body); last = viewRelease (k .last) }
 
 -- the first rule that a command breaks
 abbrev pub viewFlaw : Flaw → Option R.Refusal

@@ -4,7 +4,7 @@ use mathlib.Core.Path.{_≡_, refl, _∙_, ap}
 use mathlib.Core.List.{List, [], _∷_, _++_}
 use native.Mathlib.Omega.{arith}
 use lib.ListN.{length, getD}
-use Rattle.model.specs.Command.{Block, Command, WORD, BLOCK, TASK, RELEASE, END, bigEndian, found, commandAt}
+use Rattle.model.specs.Command.{Block, Command, END, bigEndian, found, commandAt}
 use Rattle.model.specs.Fault.{Known}
 use Rattle.model.specs.Sheet.{Sheet, Declared, after, declared, verdict, accepted, sheetOf}
 use Rattle.commands.specs.Stages.{valuesFrom}

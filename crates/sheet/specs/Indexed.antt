@@ -51,7 +51,8 @@ unfoldable pub counted : Sheet → Command → ℕ → ℕ → Sheet
 counted x (WORD v) at next = index (x .words + 1) (x .blocks) (x .tasks) (x .releases) (x .bodies) (x .released)
 counted x (BLOCK b) at next = index (x .words) (x .blocks + 1) (x .tasks) (x .releases) (x .bodies) (x .released)
 counted x TASK at next = index (x .words) (x .blocks) (x .tasks + 1) (x .releases) (set (x .bodies) (x .tasks) next) (x .released)
-counted x (RELEASE r) at next = index (x .words) (x .blocks) (x .tasks) (x .releases + 1) (x .bodies) (placeOr (eqb (x .releases) 0) at (x .released))
+counted x (RELEASE r) at next =
+    index (x .words) (x .blocks) (x .tasks) (x .releases + 1) (x .bodies) (placeOr (eqb (x .releases) 0) at (x .released))
 counted x END at next = index (x .words) (x .blocks) (x .tasks) (x .releases) (x .bodies) (placeOr (eqb (x .releases) 0) at (x .released))
 counted x (body c) at next = x
 
