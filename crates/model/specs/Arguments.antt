@@ -1,7 +1,7 @@
 -- The operations of a run and what they are fed: READ its word, SWAP its PAIRs, a transaction the registers at BEGIN and its commands.
 use Prim.Native.Nat.{ℕ}
 use mathlib.Core.List.{List, [], _∷_}
-use Rattle.model.specs.Command.{Command, WORD, BLOCK, TASK, RELEASE, END, LOAD, ADD, READ, PAIR, SWAP, BEGIN, access, COMMIT}
+use Rattle.model.specs.Command.{access, COMMIT, BodyCommand, LOAD, ADD, outside, inside}
 
 -- a PAIR as recorded
 pub record Pair : Type 0 where
@@ -12,21 +12,13 @@ pub record Pair : Type 0 where
 pub data Arguments : Type 0 where
   readOf : ℕ → Arguments
   swapOf : List Pair → Arguments
-  transactionOf : List ℕ → List Command → Arguments
+  transactionOf : List ℕ → List BodyCommand → Arguments
 
 -- a transaction's commands: those before COMMIT
-unfoldable pub untilCommit : List Command → List Command
+unfoldable pub untilCommit : List BodyCommand → List BodyCommand
 untilCommit [] = []
-untilCommit (COMMIT ∷ l) = []
 untilCommit (LOAD r v ∷ l) = LOAD r v ∷ untilCommit l
 untilCommit (ADD r q ∷ l) = ADD r q ∷ untilCommit l
-untilCommit (access a ∷ l) = access a ∷ untilCommit l
-untilCommit (WORD v ∷ l) = []
-untilCommit (BLOCK b ∷ l) = []
-untilCommit (TASK ∷ l) = []
-untilCommit (RELEASE r ∷ l) = []
-untilCommit (END ∷ l) = []
-untilCommit (READ r w ∷ l) = []
-untilCommit (PAIR w o n ∷ l) = []
-untilCommit (SWAP r ∷ l) = []
-untilCommit (BEGIN ∷ l) = []
+untilCommit (inside (access a) ∷ l) = inside (access a) ∷ untilCommit l
+untilCommit (inside COMMIT ∷ l) = []
+untilCommit (outside c ∷ l) = []

@@ -4,7 +4,7 @@ use mathlib.Core.Bool.{Bool}
 use mathlib.Core.List.{List, [], _∷_}
 use lib.ListN.{replicate}
 use Rattle.model.specs.Ceilings.{registers}
-use Rattle.model.specs.Command.{Access, Command}
+use Rattle.model.specs.Command.{Access, BodyCommand}
 use Rattle.model.specs.Word.{Memory, Reading}
 use Rattle.model.specs.Exchange.{Entry, Exchange}
 use Rattle.model.specs.Arguments.{Arguments}
@@ -18,7 +18,7 @@ pub data Touched : Type 0 where
 -- The registers that BEGIN kept, the commands after BEGIN, the blocks by their numbers, and how many copy slots are used.
 pub record Transaction : Type 0 where
   pub kept : List ℕ
-  pub commands : List Command
+  pub commands : List BodyCommand
   pub blocks : List Touched
   pub used : ℕ
 
@@ -42,11 +42,11 @@ pub data Phase : Type 0 where
 -- THE JOB: its phase, the commands still to do, the one at work first, the registers and the waiting PAIRs.
 pub record Job : Type 0 where
   pub phase : Phase
-  pub commands : List Command
+  pub commands : List BodyCommand
   pub registers : List ℕ
   pub pairs : List Entry
 
-abbrev pub job : Phase → List Command → List ℕ → List Entry → Job
+abbrev pub job : Phase → List BodyCommand → List ℕ → List Entry → Job
 job f l rs ps = record { phase = f; commands = l; registers = rs; pairs = ps }
 
 -- no job yet: all registers 0
@@ -78,12 +78,12 @@ raised ticks c = counts (c .finished) (c .spent) (c .rejected) (suc (c .ticks))
 
 -- A TASK: its body, its copy slots, which hold the numbers of block stores, its counts and its job.
 pub record Task : Type 0 where
-  pub body : List Command
+  pub body : List BodyCommand
   pub copies : List ℕ
   pub counts : Counts
   pub job : Job
 
-abbrev pub task : List Command → List ℕ → Counts → Job → Task
+abbrev pub task : List BodyCommand → List ℕ → Counts → Job → Task
 task b cs n j = record { body = b; copies = cs; counts = n; job = j }
 
 -- the task with that job, and with a count raised
@@ -96,12 +96,12 @@ counting c t = task (t .body) (t .copies) (raised c (t .counts)) (t .job)
 abbrev pub inPhase : Task → Phase → Task
 inPhase t f = withJob t (job f (t .job .commands) (t .job .registers) (t .job .pairs))
 
-abbrev pub rest : List Command → List Command
+abbrev pub rest : List BodyCommand → List BodyCommand
 rest [] = []
 rest (c ∷ l) = l
 
 -- the command is done: the job goes on with the next, or is finished
-unfoldable pub doneBy : List Command → Task → List ℕ → List Entry → List ℕ → Task
+unfoldable pub doneBy : List BodyCommand → Task → List ℕ → List Entry → List ℕ → Task
 doneBy [] t rs ps cs = task (t .body) cs (raised finished (t .counts)) (job idle [] rs ps)
 doneBy (c ∷ l) t rs ps cs = task (t .body) cs (t .counts) (job plain (c ∷ l) rs ps)
 

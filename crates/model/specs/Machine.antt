@@ -6,7 +6,7 @@ use lib.Dec.{eqb, ltb}
 use lib.ListN.{length, replicate}
 use Rattle.model.specs.Ceilings.{maxWords, maxBlocks, maxTasks, registers, savePlaces, blockValues}
 use Rattle.model.specs.Lists.{at, replace}
-use Rattle.model.specs.Command.{Release, Block, Command, WORD, BLOCK, TASK, RELEASE, END, LOAD, ADD, READ, PAIR, SWAP, BEGIN, access, COMMIT}
+use Rattle.model.specs.Command.{Release, Block, Outside, READ, PAIR, SWAP, BEGIN, BodyCommand, LOAD, ADD, outside, inside}
 use Rattle.model.specs.Sheet.{Sheet}
 use Rattle.model.specs.Word.{Word, freshWord, Memory, memory, Reading, loading, Read, reads, gives, readTick}
 use Rattle.model.specs.Exchange.{Entry, entry, Exchange, exchangeOf, commitSaidYes, Exchanged, goes, ends, exchangeTick, start}
@@ -48,27 +48,27 @@ abbrev pub recorded : Task → ℕ → ℕ → ℕ → List Entry
 recorded t w o n = t .job .pairs ++ (entry w (at 0 (t .job .registers) o) (at 0 (t .job .registers) n) ∷ [])
 
 -- BEGIN keeps the registers
-abbrev pub begun : Task → List Command → Task
+abbrev pub begun : Task → List BodyCommand → Task
 begun t l = within t l (t .job .registers) (freshTransaction (t .job .registers) l) between
 
--- the command at work outside a transaction; the sheet check lets no other command stand there
-unfoldable pub plainTick : ℕ → Memory → Task → List Command → Turn
-unfolding at replace doneBy readTick readBy exchangeTick swapBy untilCommit
+-- a command that stands only outside a transaction, with those after it
+unfoldable pub outsideTick : ℕ → Memory → Task → List BodyCommand → Outside → Turn
+unfolding at doneBy readTick readBy exchangeTick swapBy untilCommit
+outsideTick p m t l (READ r w) = beginning (readOf w) (readBy m t r w (readTick m w loading))
+outsideTick p m t l (PAIR w o n) = turn m (done t (t .job .registers) (recorded t w o n) (t .copies)) nothingDone
+outsideTick p m t l (SWAP r) =
+    let x : Exchange = exchangeOf (t .job .pairs) in
+    beginning (swapOf (map pairOf (t .job .pairs))) (swapBy t r x (exchangeTick p m x start))
+outsideTick p m t l BEGIN = turn m (begun t l) (began (transactionOf (t .job .registers) (untilCommit l)))
+
+-- the command at work outside a transaction; the sheet check lets none of inside stand there
+unfoldable pub plainTick : ℕ → Memory → Task → List BodyCommand → Turn
+unfolding at replace doneBy outsideTick
 plainTick p m t [] = turn m t nothingDone
 plainTick p m t (LOAD r v ∷ l) = turn m (done t (loaded (t .job .registers) r v) (t .job .pairs) (t .copies)) nothingDone
 plainTick p m t (ADD r q ∷ l) = turn m (done t (added (t .job .registers) r q) (t .job .pairs) (t .copies)) nothingDone
-plainTick p m t (READ r w ∷ l) = beginning (readOf w) (readBy m t r w (readTick m w loading))
-plainTick p m t (PAIR w o n ∷ l) = turn m (done t (t .job .registers) (recorded t w o n) (t .copies)) nothingDone
-plainTick p m t (SWAP r ∷ l) =
-    beginning (swapOf (map pairOf (t .job .pairs))) (swapBy t r (exchangeOf (t .job .pairs)) (exchangeTick p m (exchangeOf (t .job .pairs)) start))
-plainTick p m t (BEGIN ∷ l) = turn m (begun t l) (began (transactionOf (t .job .registers) (untilCommit l)))
-plainTick p m t (access a ∷ l) = turn m t nothingDone
-plainTick p m t (COMMIT ∷ l) = turn m t nothingDone
-plainTick p m t (WORD v ∷ l) = turn m t nothingDone
-plainTick p m t (BLOCK b ∷ l) = turn m t nothingDone
-plainTick p m t (TASK ∷ l) = turn m t nothingDone
-plainTick p m t (RELEASE r ∷ l) = turn m t nothingDone
-plainTick p m t (END ∷ l) = turn m t nothingDone
+plainTick p m t (outside c ∷ l) = outsideTick p m t l c
+plainTick p m t (inside c ∷ l) = turn m t nothingDone
 
 -- one statement of task p
 unfoldable pub statement : ℕ → Memory → Task → Phase → Turn
@@ -242,7 +242,7 @@ banksFrom store (b ∷ l) = freshWord (bankValue (b .version) store) ∷ banksFr
 abbrev pub startValues : Block → List ℕ
 startValues b = b .values
 
-unfoldable pub tasksFrom : ℕ → List (List Command) → List Task
+unfoldable pub tasksFrom : ℕ → List (List BodyCommand) → List Task
 tasksFrom p [] = []
 tasksFrom p (b ∷ l) = task b (copiesOf p) noCounts noJob ∷ tasksFrom (suc p) l
 

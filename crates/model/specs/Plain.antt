@@ -6,7 +6,7 @@ use mathlib.Core.Option.{Option, none, some}
 use lib.Dec.{eqb}
 use lib.ListN.{length, replicate}
 use Rattle.model.specs.Lists.{at, replace}
-use Rattle.model.specs.Command.{GET, PUT, Block, Command, WORD, BLOCK, TASK, RELEASE, END, LOAD, ADD, READ, PAIR, SWAP, BEGIN, access, COMMIT}
+use Rattle.model.specs.Command.{GET, PUT, Block, access, COMMIT, BodyCommand, LOAD, ADD, outside, inside}
 use Rattle.model.specs.Arguments.{Pair, Arguments, readOf, swapOf, transactionOf}
 use Rattle.model.specs.Transaction.{loaded, added}
 
@@ -68,25 +68,17 @@ gets q r v = record { registers = loaded (q .registers) r v; copies = q .copies;
 abbrev pub puts : Pass → ℕ → List ℕ → Pass
 puts q b vs = record { registers = q .registers; copies = replace (q .copies) b (some vs); answers = q .answers }
 
--- a command of a transaction; no other stands there
-unfoldable pub passBy : List Block → Pass → Command → Pass
+-- a command of a transaction; none of outside stands there, and COMMIT comes after them
+unfoldable pub passBy : List Block → Pass → BodyCommand → Pass
 unfolding at replace
 passBy bs q (LOAD r v) = computes q (loaded (q .registers) r v)
 passBy bs q (ADD r s) = computes q (added (q .registers) r s)
-passBy bs q (access (GET r b o)) = gets q r (at 0 (valuesOf bs q b) o)
-passBy bs q (access (PUT b o r)) = puts q b (replace (valuesOf bs q b) o (at 0 (q .registers) r))
-passBy bs q (WORD v) = q
-passBy bs q (BLOCK b) = q
-passBy bs q TASK = q
-passBy bs q (RELEASE r) = q
-passBy bs q END = q
-passBy bs q (READ r w) = q
-passBy bs q (PAIR w o n) = q
-passBy bs q (SWAP r) = q
-passBy bs q BEGIN = q
-passBy bs q COMMIT = q
+passBy bs q (inside (access (GET r b o))) = gets q r (at 0 (valuesOf bs q b) o)
+passBy bs q (inside (access (PUT b o r))) = puts q b (replace (valuesOf bs q b) o (at 0 (q .registers) r))
+passBy bs q (inside COMMIT) = q
+passBy bs q (outside c) = q
 
-unfoldable pub passed : List Block → Pass → List Command → Pass
+unfoldable pub passed : List Block → Pass → List BodyCommand → Pass
 unfolding passBy
 passed bs q [] = q
 passed bs q (c ∷ l) = passed bs (passBy bs q c) l
@@ -101,7 +93,7 @@ commitBlocks (b ∷ l) (some vs ∷ cs) = (record { version = suc (b .version); 
 abbrev pub commits : Contents → Pass → Result
 commits c q = result (record { words = c .words; blocks = commitBlocks (c .blocks) (q .copies) }) (q .answers)
 
-abbrev pub passOf : List Block → List ℕ → List Command → Pass
+abbrev pub passOf : List Block → List ℕ → List BodyCommand → Pass
 passOf bs rs l = passed bs (record { registers = rs; copies = noCopies bs; answers = [] }) l
 
 -- an operation whole

@@ -6,7 +6,7 @@ use lib.Dec.{eqb}
 use lib.ListN.{replicate}
 use Rattle.model.specs.Ceilings.{maxWords, maxBlocks, blockValues, lastVersion, valueRange}
 use Rattle.model.specs.Lists.{at, replace}
-use Rattle.model.specs.Command.{Access, GET, PUT, Command, WORD, BLOCK, TASK, RELEASE, END, LOAD, ADD, READ, PAIR, SWAP, BEGIN, access, COMMIT}
+use Rattle.model.specs.Command.{Access, GET, PUT, Inside, access, COMMIT, BodyCommand, LOAD, ADD, outside, inside}
 use Rattle.model.specs.Word.{Memory, stored, setStored, Reading, loading, Read, reads, gives, readTick}
 use Rattle.model.specs.Exchange.{Entry, entry, Exchange, exchangeOf, commitSaidYes, Exchanged, goes, ends, exchangeTick}
 use Rattle.model.specs.Job.{Touched, untouched, remembered, copied, Transaction, Inner, between, first, copying, again, committing, transacting}
@@ -40,14 +40,14 @@ abbrev pub touchedOf : Transaction → ℕ → Touched
 touchedOf x b = at untouched (x .blocks) b
 
 -- nothing touched
-abbrev pub freshTransaction : List ℕ → List Command → Transaction
+abbrev pub freshTransaction : List ℕ → List BodyCommand → Transaction
 freshTransaction kept l = record { kept = kept; commands = l; blocks = replicate maxBlocks untouched; used = 0 }
 
 abbrev pub touch : Transaction → ℕ → Touched → ℕ → Transaction
 touch x b s n = record { kept = x .kept; commands = x .commands; blocks = replace (x .blocks) b s; used = n }
 
 -- the task in its transaction, at that command with those registers; no PAIRs wait there
-abbrev pub within : Task → List Command → List ℕ → Transaction → Inner → Task
+abbrev pub within : Task → List BodyCommand → List ℕ → Transaction → Inner → Task
 within t l rs x s = withJob t (job (transacting x s) l rs [])
 
 abbrev pub stays : Task → Transaction → Inner → Task
@@ -161,23 +161,20 @@ committingBy t x e (goes m e′) = turn m (stays t x (committing e′)) (committ
 committingBy t x e (ends m true) = turn m (done t (t .job .registers) [] (takenBack (t .copies) (x .blocks))) transactionEnded
 committingBy t x e (ends m false) = turn m (counting rejected (restarted t x)) passLost
 
--- the command at work, between its inner steps; the sheet check lets no other command stand inside a transaction
-unfoldable pub commandTick : Memory → Task → Transaction → List Command → Turn
-unfolding at replace accessTick commitCommandBy nothing? spent?
+-- a command that stands only inside a transaction
+unfoldable pub insideTick : Memory → Task → Transaction → Inside → Turn
+unfolding at accessTick commitCommandBy nothing? spent?
+insideTick m t x (access a) = accessTick m t x a (touchedOf x (blockOf a))
+insideTick m t x COMMIT = commitCommandBy (nothing? (x .blocks)) (spent? (x .blocks)) m t x
+
+-- the command at work, between its inner steps; the sheet check lets none of outside stand there
+unfoldable pub commandTick : Memory → Task → Transaction → List BodyCommand → Turn
+unfolding at replace insideTick
 commandTick m t x [] = turn m t nothingDone
 commandTick m t x (LOAD r v ∷ l) = turn m (goesOn t (loaded (t .job .registers) r v) x) nothingDone
 commandTick m t x (ADD r q ∷ l) = turn m (goesOn t (added (t .job .registers) r q) x) nothingDone
-commandTick m t x (access a ∷ l) = accessTick m t x a (touchedOf x (blockOf a))
-commandTick m t x (COMMIT ∷ l) = commitCommandBy (nothing? (x .blocks)) (spent? (x .blocks)) m t x
-commandTick m t x (READ r w ∷ l) = turn m t nothingDone
-commandTick m t x (PAIR w o n ∷ l) = turn m t nothingDone
-commandTick m t x (SWAP r ∷ l) = turn m t nothingDone
-commandTick m t x (BEGIN ∷ l) = turn m t nothingDone
-commandTick m t x (WORD v ∷ l) = turn m t nothingDone
-commandTick m t x (BLOCK b ∷ l) = turn m t nothingDone
-commandTick m t x (TASK ∷ l) = turn m t nothingDone
-commandTick m t x (RELEASE r ∷ l) = turn m t nothingDone
-commandTick m t x (END ∷ l) = turn m t nothingDone
+commandTick m t x (inside c ∷ l) = insideTick m t x c
+commandTick m t x (outside c ∷ l) = turn m t nothingDone
 
 unfoldable pub transactionTick : ℕ → Memory → Task → Transaction → Inner → Turn
 unfolding commandTick readTick firstRead copyTick againRead exchangeTick committingBy

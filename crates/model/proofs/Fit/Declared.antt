@@ -8,7 +8,7 @@ use lib.Dec.{eqb, ltb}
 use lib.ListN.{length}
 use borrow.Author.Tests.{ltb-true, eqb-true}
 use Rattle.model.specs.Lists.{at}
-use Rattle.model.specs.Command.{Release, Block, Command, WORD, BLOCK, TASK, RELEASE, END, LOAD, ADD, READ, PAIR, SWAP, BEGIN, access, COMMIT}
+use Rattle.model.specs.Command.{Release, Block, Command, WORD, BLOCK, TASK, RELEASE, END, body}
 use Rattle.model.specs.Fault.{Section, wordSection, blockSection, bodySection, releaseSection, Known, words?, blocks?, body?, releases?, before}
 use Rattle.model.specs.Sheet.{Declared}
 use Rattle.model.proofs.Fit.Elements.{and-left, and-right, or-cases}
@@ -22,14 +22,7 @@ EightValues (WORD v) = Unit {0}
 EightValues TASK = Unit {0}
 EightValues (RELEASE r) = Unit {0}
 EightValues END = Unit {0}
-EightValues (LOAD r v) = Unit {0}
-EightValues (ADD r q) = Unit {0}
-EightValues (READ r w) = Unit {0}
-EightValues (PAIR w o n) = Unit {0}
-EightValues (SWAP r) = Unit {0}
-EightValues BEGIN = Unit {0}
-EightValues (access a) = Unit {0}
-EightValues COMMIT = Unit {0}
+EightValues (body c) = Unit {0}
 
 -- by section: what may still come, and the rest of an open body
 pub record InWords (d : Declared) : Type 0 where

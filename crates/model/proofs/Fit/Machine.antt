@@ -5,7 +5,7 @@ use mathlib.Core.Bool.{false}
 use mathlib.Core.List.{List, [], _∷_, map}
 use lib.ListN.{length}
 use Rattle.model.specs.Lists.{at}
-use Rattle.model.specs.Command.{Command, READ, SWAP}
+use Rattle.model.specs.Command.{READ, SWAP, BodyCommand, outside}
 use Rattle.model.specs.Fault.{Known}
 use Rattle.model.specs.Sheet.{Sheet}
 use Rattle.model.specs.Exchange.{Entry, Exchange}
@@ -21,12 +21,12 @@ abbrev pub wordOf : Entry → ℕ
 wordOf e = e .cell
 
 -- a job with no command left, in which no PAIR waits
-pub record IdleFit (l : List Command) (ps : List Entry) : Type 0 where
+pub record IdleFit (l : List BodyCommand) (ps : List Entry) : Type 0 where
   pub commands : l ≡ []
   pub noPairs : ps ≡ []
 
 -- a job outside a transaction, with its waiting PAIRs
-pub record OutsideFit (words blocks : ℕ) (l : List Command) (ps : List Entry) : Type 0 where
+pub record OutsideFit (words blocks : ℕ) (l : List BodyCommand) (ps : List Entry) : Type 0 where
   pub known : Known
   pub opened : Open words blocks known
   pub outside : known .body .inside ≡ false
@@ -35,28 +35,28 @@ pub record OutsideFit (words blocks : ℕ) (l : List Command) (ps : List Entry) 
   pub pairs : EntriesFit 0 words ps
   pub unloaded : Unloaded ps
 
-pub record PlainFit (words blocks : ℕ) (l : List Command) (ps : List Entry) : Type 0 where
-  pub command : Command
-  pub others : List Command
+pub record PlainFit (words blocks : ℕ) (l : List BodyCommand) (ps : List Entry) : Type 0 where
+  pub command : BodyCommand
+  pub others : List BodyCommand
   pub commands : l ≡ command ∷ others
   pub outside : OutsideFit words blocks l ps
 
-pub record ReadingFit (words blocks : ℕ) (l : List Command) (ps : List Entry) (r w : ℕ) : Type 0 where
-  pub others : List Command
-  pub commands : l ≡ READ r w ∷ others
+pub record ReadingFit (words blocks : ℕ) (l : List BodyCommand) (ps : List Entry) (r w : ℕ) : Type 0 where
+  pub others : List BodyCommand
+  pub commands : l ≡ outside (READ r w) ∷ others
   pub register : r < 8
   pub word : w < words
   pub outside : OutsideFit words blocks l ps
 
-pub record ExchangingFit (words blocks : ℕ) (l : List Command) (ps : List Entry) (r : ℕ) (x : Exchange) : Type 0 where
-  pub others : List Command
-  pub commands : l ≡ SWAP r ∷ others
+pub record ExchangingFit (words blocks : ℕ) (l : List BodyCommand) (ps : List Entry) (r : ℕ) (x : Exchange) : Type 0 where
+  pub others : List BodyCommand
+  pub commands : l ≡ outside (SWAP r) ∷ others
   pub register : r < 8
   pub exchange : ExchangeFit 0 words ps x
   pub outside : OutsideFit words blocks l ps
 
 -- in a sheet with that many words and blocks: copy slots, the job's commands, waiting PAIRs, phase
-abbrev pub PhaseFit : ℕ → ℕ → List ℕ → List Command → List Entry → Phase → Type 0
+abbrev pub PhaseFit : ℕ → ℕ → List ℕ → List BodyCommand → List Entry → Phase → Type 0
 PhaseFit words blocks copies l ps idle = IdleFit l ps
 PhaseFit words blocks copies l ps plain = PlainFit words blocks l ps
 PhaseFit words blocks copies l ps (reading r w s) = ReadingFit words blocks l ps r w
@@ -64,7 +64,7 @@ PhaseFit words blocks copies l ps (exchanging r x) = ExchangingFit words blocks 
 PhaseFit words blocks copies l ps (transacting x s) = TransactionFit words blocks copies l ps x s
 
 -- a declared task with that body, after `now` ticks
-pub record TaskFit (words blocks : ℕ) (text : List Command) (now : ℕ) (t : Task) : Type 0 where
+pub record TaskFit (words blocks : ℕ) (text : List BodyCommand) (now : ℕ) (t : Task) : Type 0 where
   pub body : t .body ≡ text
   pub registers : length (t .job .registers) ≡ 8
   pub copies : length (t .copies) ≡ 4

@@ -12,8 +12,8 @@ use Rattle.model.specs.Lists.{at, replace}
 use Rattle.model.specs.Fault.{among, Body, Known, mayEnd, none?}
 use Rattle.model.specs.Word.{Memory, Read, reads, gives, freshWord}
 use Rattle.model.specs.Exchange.{Entry, entry, Exchanged, goes, ends, Exchange}
-use Rattle.model.specs.Command.{Command, LOAD, ADD, READ, PAIR, SWAP}
-use Rattle.model.specs.Sheet.{after, inBody, waiting}
+use Rattle.model.specs.Command.{READ, PAIR, SWAP, BodyCommand, LOAD, ADD, outside, body}
+use Rattle.model.specs.Sheet.{after, inBody, waiting, afterBody, afterOutside}
 use Rattle.model.specs.Job.{Phase, reading, exchanging, Task, Turn, turn, rest, done, doneBy, inPhase, Deed}
 use Rattle.model.specs.Machine.{answer, readBy, swapBy, beginning}
 use Rattle.model.specs.Arguments.{Arguments}
@@ -114,13 +114,13 @@ none-waiting (x ∷ ps) b e q =
     absurd (false≢true (rw e at z))
 
 -- the command is done, and the job is outside a transaction
-pub done-fit : {words blocks : ℕ} {m : Memory} {d : Deed} (t : Task) (l : List Command) (rs : List ℕ) (ps : List Entry) (cs : List ℕ) → rest (t .job .commands) ≡ l
+pub done-fit : {words blocks : ℕ} {m : Memory} {d : Deed} (t : Task) (l : List BodyCommand) (rs : List ℕ) (ps : List Entry) (cs : List ℕ) → rest (t .job .commands) ≡ l
     → MemoryFit m → length rs ≡ 8 → length cs ≡ 4 → OutsideFit words blocks l ps → TurnFit words blocks t (turn m (done t rs ps cs) d)
 unfolding doneBy
 done-fit {words} {blocks} {m} {d} t l rs ps cs e g hr hc o =
-    subst (λ (z : List Command). TurnFit words blocks t (turn m (doneBy z t rs ps cs) d)) (sym e) (go l o)
+    subst (λ (z : List BodyCommand). TurnFit words blocks t (turn m (doneBy z t rs ps cs) d)) (sym e) (go l o)
   where
-    go : (l : List Command) → OutsideFit words blocks l ps → TurnFit words blocks t (turn m (doneBy l t rs ps cs) d)
+    go : (l : List BodyCommand) → OutsideFit words blocks l ps → TurnFit words blocks t (turn m (doneBy l t rs ps cs) d)
     go [] o = record { memory = g; body = refl; registers = hr; copies = hc; counts = omega arith; ticks = refl; phase = record { commands = refl; noPairs = none-waiting ps (o .known .body) (o .waiting) (o .faultless) } }
     go (c ∷ l) o = record { memory = g; body = refl; registers = hr; copies = hc; counts = omega arith; ticks = refl; phase = record { command = c; others = l; commands = refl; outside = o } }
 
@@ -130,11 +130,11 @@ open-next b o = record { section = o .section; wordCount = o .wordCount; blockCo
 
 module _ {words blocks : ℕ} {ps : List Entry} where
   -- what the check says of the first command
-  pub first-fits : {c : Command} {l : List Command} (o : OutsideFit words blocks (c ∷ l) ps) → CommandFits words blocks (o .known .body) c
-  first-fits {c} o = command-fits (o .known) words blocks (o .opened) c (o .faultless .command) (o .faultless .faultless)
+  pub first-fits : {c : BodyCommand} {l : List BodyCommand} (o : OutsideFit words blocks (c ∷ l) ps) → CommandFits words blocks (o .known .body) c
+  first-fits {c} o = command-fits (o .known) words blocks (o .opened) c (o .faultless .faultless)
 
   -- after a command that leaves the waiting PAIRs as they are
-  pub keeps-pairs : {c : Command} {l : List Command} (o : OutsideFit words blocks (c ∷ l) ps) → after (o .known) c ≡ inBody (o .known) (waiting (o .known .body .pairs) (o .known .body)) → OutsideFit words blocks l ps
+  pub keeps-pairs : {c : BodyCommand} {l : List BodyCommand} (o : OutsideFit words blocks (c ∷ l) ps) → after (o .known) (body c) ≡ inBody (o .known) (waiting (o .known .body .pairs) (o .known .body)) → OutsideFit words blocks l ps
   keeps-pairs {c} {l} o e =
       record {
         known = inBody (o .known) (waiting (o .known .body .pairs) (o .known .body));
@@ -146,22 +146,22 @@ module _ {words blocks : ℕ} {ps : List Entry} where
         unloaded = o .unloaded;
       }
 
-  pub after-load : {r v : ℕ} {l : List Command} → OutsideFit words blocks (LOAD r v ∷ l) ps → OutsideFit words blocks l ps
-  unfolding after
+  pub after-load : {r v : ℕ} {l : List BodyCommand} → OutsideFit words blocks (LOAD r v ∷ l) ps → OutsideFit words blocks l ps
+  unfolding after afterBody afterOutside
   after-load o = keeps-pairs o refl
 
-  pub after-add : {r q : ℕ} {l : List Command} → OutsideFit words blocks (ADD r q ∷ l) ps → OutsideFit words blocks l ps
-  unfolding after
+  pub after-add : {r q : ℕ} {l : List BodyCommand} → OutsideFit words blocks (ADD r q ∷ l) ps → OutsideFit words blocks l ps
+  unfolding after afterBody afterOutside
   after-add o = keeps-pairs o refl
 
-  pub after-read : {r w : ℕ} {l : List Command} → OutsideFit words blocks (READ r w ∷ l) ps → OutsideFit words blocks l ps
-  unfolding after
+  pub after-read : {r w : ℕ} {l : List BodyCommand} → OutsideFit words blocks (outside (READ r w) ∷ l) ps → OutsideFit words blocks l ps
+  unfolding after afterBody afterOutside
   after-read o = keeps-pairs o refl
 
-  pub after-pair : {w old new : ℕ} {l : List Command} (a b : ℕ) → OutsideFit words blocks (PAIR w old new ∷ l) ps → OutsideFit words blocks l (ps ++ (entry w a b ∷ []))
-  unfolding after
+  pub after-pair : {w old new : ℕ} {l : List BodyCommand} (a b : ℕ) → OutsideFit words blocks (outside (PAIR w old new) ∷ l) ps → OutsideFit words blocks l (ps ++ (entry w a b ∷ []))
+  unfolding after afterBody afterOutside
   after-pair {w} a b o =
-      let f = first-fits o in
+      let f = first-fits o .fits in
       let words : List ℕ = o .known .body .pairs ++ (w ∷ []) in
       let room : length ps < 8 = omega (arith, f .room, ap length (o .waiting), length-map ps wordOf) in
       record {
@@ -175,8 +175,8 @@ module _ {words blocks : ℕ} {ps : List Entry} where
       }
 
   -- no PAIR waits after a SWAP
-  pub after-swap : {r : ℕ} {l : List Command} → OutsideFit words blocks (SWAP r ∷ l) ps → OutsideFit words blocks l []
-  unfolding after
+  pub after-swap : {r : ℕ} {l : List BodyCommand} → OutsideFit words blocks (outside (SWAP r) ∷ l) ps → OutsideFit words blocks l []
+  unfolding after afterBody afterOutside
   after-swap o =
       record {
         known = inBody (o .known) (waiting [] (o .known .body));
@@ -201,12 +201,12 @@ unfolding readBy
 read-fit g t hr hc r w f (reads s) = phase-fit t (reading r w s) g hr hc f
 read-fit {words} {blocks} g t hr hc r w f (gives v) =
     done-fit t (f .others) (replace (t .job .registers) r v) (t .job .pairs) (t .copies) (ap rest (f .commands)) g (length-replace (t .job .registers) r v ∙ hr) hc
-    (after-read (subst (λ (z : List Command). OutsideFit words blocks z (t .job .pairs)) (f .commands) (f .outside)))
+    (after-read (subst (λ (z : List BodyCommand). OutsideFit words blocks z (t .job .pairs)) (f .commands) (f .outside)))
 
 -- what an exchange needs of its task, besides the exchange itself
-pub record SwapAt (words blocks : ℕ) (l : List Command) (ps : List Entry) (r : ℕ) : Type 0 where
-  pub others : List Command
-  pub commands : l ≡ SWAP r ∷ others
+pub record SwapAt (words blocks : ℕ) (l : List BodyCommand) (ps : List Entry) (r : ℕ) : Type 0 where
+  pub others : List BodyCommand
+  pub commands : l ≡ outside (SWAP r) ∷ others
   pub register : r < 8
   pub outside : OutsideFit words blocks l ps
 
@@ -216,4 +216,4 @@ unfolding swapBy
 swap-fit t hr hc r f y (goes m x) e = phase-fit t (exchanging r x) (e .memory) hr hc (record { others = f .others; commands = f .commands; register = f .register; exchange = e .exchange; outside = f .outside })
 swap-fit {words} {blocks} t hr hc r f y (ends m yes?) e =
     done-fit t (f .others) (replace (t .job .registers) r (answer yes?)) [] (t .copies) (ap rest (f .commands)) e (length-replace (t .job .registers) r (answer yes?) ∙ hr) hc
-    (after-swap (subst (λ (z : List Command). OutsideFit words blocks z (t .job .pairs)) (f .commands) (f .outside)))
+    (after-swap (subst (λ (z : List BodyCommand). OutsideFit words blocks z (t .job .pairs)) (f .commands) (f .outside)))

@@ -3,7 +3,7 @@ use Prim.Native.Nat.{ℕ, _<_, _≤_}
 use mathlib.Core.List.{List, [], _∷_}
 use Rattle.model.specs.Ceilings.{valueRange}
 use Rattle.model.specs.Lists.{at}
-use Rattle.model.specs.Command.{Command, WORD, BLOCK, TASK, RELEASE, END, LOAD, ADD, READ, PAIR, SWAP, BEGIN, access, COMMIT}
+use Rattle.model.specs.Command.{BodyCommand, LOAD, ADD, outside, inside}
 use Rattle.model.specs.Word.{Word, Memory, cellOf, statusOf, saved, stored, Reading, loading, looking, fetching, Read, reads, gives}
 use Rattle.model.specs.Exchange.{Entry, Step, start, test, load, look, fetch, fail, mark, install, commit, save, clean, cleanMark, Exchange}
 use Rattle.model.specs.Job.{Touched, untouched, remembered, copied, Transaction, Inner, between, first, copying, again, committing, Phase, idle, plain, reading, exchanging, transacting, Task}
@@ -64,26 +64,17 @@ TouchedRange (remembered v) = Value v
 TouchedRange (copied v k) = Value v
 
 -- of a command: the value that LOAD writes
-abbrev pub CommandRange : Command → Type 0
+abbrev pub CommandRange : BodyCommand → Type 0
 CommandRange (LOAD r v) = Value v
-CommandRange (WORD v) = Unit {0}
-CommandRange (BLOCK b) = Unit {0}
-CommandRange TASK = Unit {0}
-CommandRange (RELEASE r) = Unit {0}
-CommandRange END = Unit {0}
 CommandRange (ADD r q) = Unit {0}
-CommandRange (READ r w) = Unit {0}
-CommandRange (PAIR w o n) = Unit {0}
-CommandRange (SWAP r) = Unit {0}
-CommandRange BEGIN = Unit {0}
-CommandRange (access a) = Unit {0}
-CommandRange COMMIT = Unit {0}
+CommandRange (outside c) = Unit {0}
+CommandRange (inside c) = Unit {0}
 
-pub record Ranged (c : Command) (Others : Type 0) : Type 0 where
+pub record Ranged (c : BodyCommand) (Others : Type 0) : Type 0 where
   pub command : CommandRange c
   pub others : Others
 
-abbrev pub CommandsRange : List Command → Type 0
+abbrev pub CommandsRange : List BodyCommand → Type 0
 CommandsRange [] = Unit {0}
 CommandsRange (c ∷ l) = Ranged c (CommandsRange l)
 

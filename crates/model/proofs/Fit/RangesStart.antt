@@ -5,7 +5,7 @@ use mathlib.Core.List.{List, [], _∷_, _++_, map}
 use native.Mathlib.Omega.{arith}
 use lib.ListN.{length, replicate, getD}
 use Rattle.model.specs.Lists.{at}
-use Rattle.model.specs.Command.{Block, Command, Release, blockOf, WORD, BLOCK, TASK, RELEASE, END, LOAD, ADD, READ, PAIR, SWAP, BEGIN, access, COMMIT, Row, table, operand, bigEndian}
+use Rattle.model.specs.Command.{Block, Release, BodyCommand, Command, WORD, BLOCK, TASK, RELEASE, END, body, blockFrom, Row, table, operand, bigEndian}
 use Rattle.model.specs.Sheet.{Sheet, Declared, declares, inOpenBody, declare, declared, accepted, verdict, sheetOf}
 use Rattle.model.specs.Transaction.{bankValue}
 use Rattle.model.specs.Machine.{noTask, taskAt, filled, zeros, copiesOf, banksFrom, tasksFrom, startMemory, startMachine, run, startValues}
@@ -81,7 +81,7 @@ module _ {s : Sheet} (c : SheetFit s) (f : SheetRange s) where
   unfolding at
   no-task = record { body = tt; commands = tt; register = zeros-range 8; pair = no-entry-range; copy = λ k. omega arith; phase = tt }
 
-  tasks-range : (p : ℕ) (bodies : List (List Command)) → p + length bodies ≤ 8 → ((i : ℕ) → CommandsRange (at [] bodies i)) → (q : ℕ) → TaskRange (taskAt (tasksFrom p bodies) q)
+  tasks-range : (p : ℕ) (bodies : List (List BodyCommand)) → p + length bodies ≤ 8 → ((i : ℕ) → CommandsRange (at [] bodies i)) → (q : ℕ) → TaskRange (taskAt (tasksFrom p bodies) q)
   unfolding tasksFrom at
   tasks-range p [] h r q = no-task
   tasks-range p (b ∷ bodies) h r zero = record { body = r 0; commands = tt; register = zeros-range 8; pair = no-entry-range; copy = copies-range p (omega arith); phase = tt }
@@ -97,18 +97,11 @@ abbrev pub Numbers : Command → Type 0
 Numbers (WORD v) = Value v
 Numbers (BLOCK b) = (n : ℕ) → Value (at 0 (b .values) n)
 Numbers (RELEASE r) = r .tick < 65536
-Numbers (LOAD r v) = Value v
 Numbers TASK = Unit {0}
 Numbers END = Unit {0}
-Numbers (ADD r q) = Unit {0}
-Numbers (READ r w) = Unit {0}
-Numbers (PAIR w o n) = Unit {0}
-Numbers (SWAP r) = Unit {0}
-Numbers BEGIN = Unit {0}
-Numbers (access a) = Unit {0}
-Numbers COMMIT = Unit {0}
+Numbers (body c) = CommandRange c
 
-block-values : (o : ℕ → ℕ) → ((n : ℕ) → Value (o n)) → (n : ℕ) → Value (at 0 (blockOf o .values) n)
+block-values : (o : ℕ → ℕ) → ((n : ℕ) → Value (o n)) → (n : ℕ) → Value (at 0 (blockFrom o .values) n)
 block-values o h = first-every 0 Value (o 1) _ (h 1) (first-every 0 Value (o 2) _ (h 2) (first-every 0 Value (o 3) _ (h 3) (first-every 0 Value (o 4) _ (h 4) (first-every 0 Value (o 5) _ (h 5) (first-every 0 Value (o 6) _ (h 6) (first-every 0 Value (o 7) _ (h 7) (first-every 0 Value (o 8) _ (h 8) none-range)))))))
 
 module _ (sheet : List ℕ) (bytes : (i : ℕ) → getD sheet i 0 < 256) where
@@ -147,9 +140,6 @@ no-range : DeclaredRange (declares [] [] [] [] [])
 unfolding at
 no-range = record { sheet = record { word = λ w. omega arith; value = λ b n. omega arith; body = λ p. tt; tick = λ i. omega arith }; body = tt }
 
-open-range : (c : Command) (d : Declared) → CommandRange c → DeclaredRange d → DeclaredRange (inOpenBody c d)
-open-range c d h f = record { sheet = f .sheet; body = record { command = h; others = f .body } }
-
 step-range : (c : Command) (d : Declared) → Numbers c → DeclaredRange d → DeclaredRange (declare c d)
 unfolding declare
 step-range (WORD v) d h f = let s = f .sheet in record { sheet = record { word = first-every 0 Value v (d .sheet .words) h (s .word); value = s .value; body = s .body; tick = s .tick }; body = tt }
@@ -157,14 +147,7 @@ step-range (BLOCK b) d h f = let s = f .sheet in record { sheet = record { word 
 step-range TASK d h f = let s = f .sheet in record { sheet = record { word = s .word; value = s .value; body = first-every [] CommandsRange (d .body) (d .sheet .bodies) (f .body) (s .body); tick = s .tick }; body = tt }
 step-range (RELEASE r) d h f = let s = f .sheet in record { sheet = record { word = s .word; value = s .value; body = s .body; tick = first-every noRelease (λ (z : Release). z .tick < 65536) r (d .sheet .releases) h (s .tick) }; body = tt }
 step-range END d h f = no-range
-step-range (LOAD r v) d h f = open-range (LOAD r v) d h f
-step-range (ADD r q) d h f = open-range (ADD r q) d h f
-step-range (READ r w) d h f = open-range (READ r w) d h f
-step-range (PAIR w o n) d h f = open-range (PAIR w o n) d h f
-step-range (SWAP r) d h f = open-range (SWAP r) d h f
-step-range BEGIN d h f = open-range BEGIN d h f
-step-range (access a) d h f = open-range (access a) d h f
-step-range COMMIT d h f = open-range COMMIT d h f
+step-range (body c) d h f = record { sheet = f .sheet; body = record { command = h; others = f .body } }
 
 walk-range : {k : Known} {l : List Command} → Good Numbers k l → DeclaredRange (declared l)
 unfolding declared

@@ -7,13 +7,13 @@ use native.Mathlib.Omega.{arith}
 use lib.Dec.{eqb}
 use lib.ListN.{length, replicate}
 use Rattle.model.specs.Lists.{at, replace}
-use Rattle.model.specs.Command.{Release, Command, WORD, BLOCK, TASK, RELEASE, END, LOAD, ADD, READ, PAIR, SWAP, BEGIN, access, COMMIT}
+use Rattle.model.specs.Command.{Release, Outside, READ, PAIR, SWAP, BEGIN, BodyCommand, LOAD, ADD, outside, inside}
 use Rattle.model.specs.Word.{Memory, loading, Read, reads, gives, readTick}
 use Rattle.model.specs.Sheet.{Sheet}
 use Rattle.model.specs.Exchange.{Entry, entry, Exchanged, goes, ends, exchangeOf, start, exchangeTick, Exchange}
 use Rattle.model.specs.Job.{between, Phase, idle, plain, reading, exchanging, transacting, Task, turn, started, counting, ticks, Deed, Turn}
 use Rattle.model.specs.Transaction.{loaded, added, freshTransaction}
-use Rattle.model.specs.Machine.{answer, readBy, swapBy, plainTick, statement, Machine, machine, noTask, taskAt, unfinished, Running, nobody, running, runningOf, releaseBy, arriveBy, move, moveAny, tick, arrive, enter, beginning}
+use Rattle.model.specs.Machine.{answer, readBy, swapBy, plainTick, statement, Machine, machine, noTask, taskAt, unfinished, Running, nobody, running, runningOf, releaseBy, arriveBy, move, moveAny, tick, arrive, enter, beginning, outsideTick, recorded}
 use Rattle.model.specs.Arguments.{Arguments}
 use Rattle.model.proofs.Fit.Elements.{replace-all, append-all, replicate-every}
 use Rattle.model.proofs.Fit.Sheet.{SheetFit}
@@ -47,26 +47,30 @@ module _ {m : Memory} (g : MemoryRange m) {t : Task} (f : TaskRange t) where
   same-range : {d : Deed} → TurnRange (turn m t d)
   same-range = record { memory = g; task = f }
 
-  plain-range : (p : ℕ) → p < 8 → (l : List Command) → CommandsRange l → TurnRange (plainTick p m t l)
+  outside-range : (p : ℕ) → p < 8 → (l : List BodyCommand) → CommandsRange l → (c : Outside) → TurnRange (outsideTick p m t l c)
+  unfolding outsideTick
+  outside-range p hp l k (READ r w) = first-range (read-by-range r w (readTick m w loading) (read-range g w loading tt))
+  outside-range p hp l k (PAIR w o n) =
+      let e : Entry = entry w (at 0 (t .job .registers) o) (at 0 (t .job .registers) n) in
+      let last : EntryRange e = record { old = f .register o; new = f .register n; init = no-entry .init } in
+      record {
+        memory = g;
+        task = done-range f (t .job .registers) (recorded t w o n) (t .copies) (f .register) (append-all (entry 0 0 0) EntryRange (t .job .pairs) e no-entry last (f .pair)) (f .copy);
+      }
+  outside-range p hp l k (SWAP r) =
+      let x = exchangeOf (t .job .pairs) in
+      first-range (swap-by-range r x (exchangeTick p m x start) (exchange-range p hp g x (f .pair) 8 (omega arith) start refl tt))
+  outside-range p hp l k BEGIN =
+      let rs = t .job .registers in
+      record { memory = g; task = within-range f l rs (freshTransaction rs l) between k (f .register) (fresh-range rs l (f .register) k) }
+
+  plain-range : (p : ℕ) → p < 8 → (l : List BodyCommand) → CommandsRange l → TurnRange (plainTick p m t l)
   unfolding plainTick
   plain-range p hp [] k = same-range
   plain-range p hp (LOAD r v ∷ l) k = record { memory = g; task = done-range f (loaded (t .job .registers) r v) (t .job .pairs) (t .copies) (loaded-range f r v (k .command)) (f .pair) (f .copy) }
   plain-range p hp (ADD r q ∷ l) k = record { memory = g; task = done-range f (added (t .job .registers) r q) (t .job .pairs) (t .copies) (added-range f r q) (f .pair) (f .copy) }
-  plain-range p hp (READ r w ∷ l) k = first-range (read-by-range r w (readTick m w loading) (read-range g w loading tt))
-  plain-range p hp (PAIR w o n ∷ l) k =
-      let e : Entry = entry w (at 0 (t .job .registers) o) (at 0 (t .job .registers) n) in
-      record { memory = g; task = done-range f (t .job .registers) (t .job .pairs ++ (e ∷ [])) (t .copies) (f .register) (append-all (entry 0 0 0) EntryRange (t .job .pairs) e no-entry (record { old = f .register o; new = f .register n; init = no-entry .init }) (f .pair)) (f .copy) }
-  plain-range p hp (SWAP r ∷ l) k =
-      let x = exchangeOf (t .job .pairs) in
-      first-range (swap-by-range r x (exchangeTick p m x start) (exchange-range p hp g x (f .pair) 8 (omega arith) start refl tt))
-  plain-range p hp (BEGIN ∷ l) k = record { memory = g; task = within-range f l (t .job .registers) (freshTransaction (t .job .registers) l) between (k .others) (f .register) (fresh-range (t .job .registers) l (f .register) (k .others)) }
-  plain-range p hp (access a ∷ l) k = same-range
-  plain-range p hp (COMMIT ∷ l) k = same-range
-  plain-range p hp (WORD v ∷ l) k = same-range
-  plain-range p hp (BLOCK b ∷ l) k = same-range
-  plain-range p hp (TASK ∷ l) k = same-range
-  plain-range p hp (RELEASE r ∷ l) k = same-range
-  plain-range p hp (END ∷ l) k = same-range
+  plain-range p hp (outside c ∷ l) k = outside-range p hp l (k .others) c
+  plain-range p hp (inside c ∷ l) k = same-range
 
   phase-range : (words blocks p : ℕ) → p < 8 → (s : Phase) → PhaseFit words blocks (t .copies) (t .job .commands) (t .job .pairs) s → PhaseRange s → TurnRange (statement p m t s)
   unfolding statement
@@ -78,7 +82,7 @@ module _ {m : Memory} (g : MemoryRange m) {t : Task} (f : TaskRange t) where
       swap-by-range r x (exchangeTick p m x (x .step)) (exchange-range p hp g x (k .entry) (length (x .entries)) (e .entries .most) (x .step) (e .step) (k .step))
   phase-range words blocks p hp (transacting x s) h k = transaction-range p hp g f s h k
 
-  pub statement-range : {words blocks now : ℕ} {text : List Command} (p : ℕ) → p < 8 → TaskFit words blocks text now t → TurnRange (statement p m t (t .job .phase))
+  pub statement-range : {words blocks now : ℕ} {text : List BodyCommand} (p : ℕ) → p < 8 → TaskFit words blocks text now t → TurnRange (statement p m t (t .job .phase))
   statement-range {words} {blocks} p hp h = phase-range words blocks p hp (t .job .phase) (h .phase) (f .phase)
 
 -- RELEASES

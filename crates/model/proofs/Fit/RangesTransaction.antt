@@ -8,11 +8,11 @@ use lib.Dec.{eqb}
 use lib.ListN.{length}
 use borrow.Author.Tests.{eqb-false}
 use Rattle.model.specs.Lists.{at, replace}
-use Rattle.model.specs.Command.{Access, GET, PUT, Command, WORD, BLOCK, TASK, RELEASE, END, LOAD, ADD, READ, PAIR, SWAP, BEGIN, access, COMMIT}
+use Rattle.model.specs.Command.{Access, GET, PUT, Inside, access, COMMIT, BodyCommand, LOAD, ADD, outside, inside}
 use Rattle.model.specs.Word.{Memory, stored, loading, Read, reads, gives, readTick, setStored}
 use Rattle.model.specs.Exchange.{Entry, entry, Exchanged, goes, ends, exchangeOf, exchangeTick, Exchange}
 use Rattle.model.specs.Job.{Touched, untouched, remembered, copied, Transaction, Inner, between, first, copying, again, committing, Phase, reading, Task, Turn, turn, rest, done, doneBy, inPhase, Deed}
-use Rattle.model.specs.Transaction.{bank, bankValue, versionOf, storeOf, blockOf, rememberedOf, touchedOf, touch, within, stays, goesOn, restarted, loaded, added, firstRead, copyBy, copyTick, accessTick, checkBy, againRead, nothing?, spent?, gather, takenBack, commandTick, transactionTick, freshTransaction, commitCommandBy, committingBy}
+use Rattle.model.specs.Transaction.{bank, bankValue, versionOf, storeOf, blockOf, rememberedOf, touchedOf, touch, within, stays, goesOn, restarted, loaded, added, firstRead, copyBy, copyTick, accessTick, checkBy, againRead, nothing?, spent?, gather, takenBack, commandTick, transactionTick, freshTransaction, commitCommandBy, committingBy, insideTick}
 use Rattle.model.proofs.Fit.Elements.{or-none, or-none-right, replace-all, first-every}
 use Rattle.model.proofs.Fit.Exchange.{entryOf}
 use Rattle.model.proofs.Fit.Transaction.{TransactionFit}
@@ -31,7 +31,7 @@ pub no-entry-range : (i : ℕ) → EntryRange (entryOf [] i)
 unfolding at
 no-entry-range i = no-entry
 
-rest-range : (l : List Command) → CommandsRange l → CommandsRange (rest l)
+rest-range : (l : List BodyCommand) → CommandsRange l → CommandsRange (rest l)
 rest-range [] h = tt
 rest-range (c ∷ l) h = h .others
 
@@ -72,14 +72,14 @@ module _ {t : Task} (f : TaskRange t) where
   unfolding doneBy
   done-range rs ps cs hr hp hc = go (rest (t .job .commands)) (rest-range (t .job .commands) (f .commands))
     where
-      go : (l : List Command) → CommandsRange l → TaskRange (doneBy l t rs ps cs)
+      go : (l : List BodyCommand) → CommandsRange l → TaskRange (doneBy l t rs ps cs)
       go [] h = record { body = f .body; commands = tt; register = hr; pair = hp; copy = hc; phase = tt }
       go (c ∷ l) h = record { body = f .body; commands = h; register = hr; pair = hp; copy = hc; phase = tt }
 
   pub in-phase-range : (p : Phase) → PhaseRange p → TaskRange (inPhase t p)
   in-phase-range p h = record { body = f .body; commands = f .commands; register = f .register; pair = f .pair; copy = f .copy; phase = h }
 
-  pub within-range : (l : List Command) (rs : List ℕ) (x : Transaction) (s : Inner) → CommandsRange l → ((r : ℕ) → Value (at 0 rs r)) → TransactionRange x s → TaskRange (within t l rs x s)
+  pub within-range : (l : List BodyCommand) (rs : List ℕ) (x : Transaction) (s : Inner) → CommandsRange l → ((r : ℕ) → Value (at 0 rs r)) → TransactionRange x s → TaskRange (within t l rs x s)
   within-range l rs x s hl hr h = record { body = f .body; commands = hl; register = hr; pair = no-entry-range; copy = f .copy; phase = h }
 
   pub loaded-range : (r v : ℕ) → Value v → (q : ℕ) → Value (at 0 (loaded (t .job .registers) r v) q)
@@ -90,7 +90,7 @@ module _ {t : Task} (f : TaskRange t) where
 
 -- TRANSACTIONS
 -- nothing touched
-pub fresh-range : (kept : List ℕ) (l : List Command) → ((r : ℕ) → Value (at 0 kept r)) → CommandsRange l → TransactionRange (freshTransaction kept l) between
+pub fresh-range : (kept : List ℕ) (l : List BodyCommand) → ((r : ℕ) → Value (at 0 kept r)) → CommandsRange l → TransactionRange (freshTransaction kept l) between
 fresh-range kept l k h = record { kept = k; commands = h; block = λ b. subst TouchedRange (sym (at-none b)) tt; inner = tt }
 
 module _ {m : Memory} (g : MemoryRange m) {t : Task} (f : TaskRange t) {x : Transaction} {s : Inner} (h : TransactionRange x s) where
@@ -169,24 +169,20 @@ module _ {m : Memory} (g : MemoryRange m) {t : Task} (f : TaskRange t) {x : Tran
   same-range : {d : Deed} → TurnRange (turn m t d)
   same-range = record { memory = g; task = f }
 
-  command-range : (l : List Command) → CommandsRange l → TurnRange (commandTick m t x l)
+  inside-range : (c : Inside) → TurnRange (insideTick m t x c)
+  unfolding insideTick
+  inside-range (access a) = access-range a (touchedOf x (blockOf a))
+  inside-range COMMIT = commit-range (nothing? (x .blocks)) (spent? (x .blocks)) refl
+
+  command-range : (l : List BodyCommand) → CommandsRange l → TurnRange (commandTick m t x l)
   unfolding commandTick
   command-range [] k = same-range
   command-range (LOAD r v ∷ l) k = goes-on-range (loaded (t .job .registers) r v) g (loaded-range f r v (k .command))
   command-range (ADD r q ∷ l) k = goes-on-range (added (t .job .registers) r q) g (added-range f r q)
-  command-range (access a ∷ l) k = access-range a (touchedOf x (blockOf a))
-  command-range (COMMIT ∷ l) k = commit-range (nothing? (x .blocks)) (spent? (x .blocks)) refl
-  command-range (READ r w ∷ l) k = same-range
-  command-range (PAIR w o n ∷ l) k = same-range
-  command-range (SWAP r ∷ l) k = same-range
-  command-range (BEGIN ∷ l) k = same-range
-  command-range (WORD v ∷ l) k = same-range
-  command-range (BLOCK b ∷ l) k = same-range
-  command-range (TASK ∷ l) k = same-range
-  command-range (RELEASE r ∷ l) k = same-range
-  command-range (END ∷ l) k = same-range
+  command-range (inside c ∷ l) k = inside-range c
+  command-range (outside c ∷ l) k = same-range
 
-pub transaction-range : {words blocks : ℕ} {copies : List ℕ} {l : List Command} {ps : List Entry} (p : ℕ) → p < 8 → {m : Memory} → MemoryRange m → {t : Task} → TaskRange t → {x : Transaction} (s : Inner) → TransactionFit words blocks copies l ps x s → TransactionRange x s → TurnRange (transactionTick p m t x s)
+pub transaction-range : {words blocks : ℕ} {copies : List ℕ} {l : List BodyCommand} {ps : List Entry} (p : ℕ) → p < 8 → {m : Memory} → MemoryRange m → {t : Task} → TaskRange t → {x : Transaction} (s : Inner) → TransactionFit words blocks copies l ps x s → TransactionRange x s → TurnRange (transactionTick p m t x s)
 unfolding transactionTick
 transaction-range p hp {m} g {t} f between k h = command-range g f h (t .job .commands) (f .commands)
 transaction-range p hp {m} g f (first a r) k h = first-read-range g f h a (readTick m (bank (blockOf a)) r) (read-range g (bank (blockOf a)) r (h .inner))

@@ -9,10 +9,11 @@ use lib.Dec.{ltb, leb}
 use lib.ListN.{length, getD}
 use borrow.Author.Tests.{ltb-false, leb-true, le-ltb}
 use Rattle.model.specs.Refusal.{Refusal}
-use Rattle.model.specs.Command.{Command, WORD, BLOCK, TASK, RELEASE, END, LOAD, ADD, READ, PAIR, SWAP, BEGIN, access, COMMIT, Row, table, rowOf, total, operand, Found, found, refused, foundWhole, foundRow, foundByte, commandAt}
+use Rattle.model.specs.Command.{Command, END, Row, table, rowOf, total, operand, Found, found, refused, foundWhole, foundRow, foundByte, commandAt}
 use Rattle.model.specs.Fault.{Known, nothingKnown, faultOf}
 use Rattle.model.specs.Sheet.{after, accepted, turnedDown, end?, atEnd, judgeEnd, judgeFault, judge, verdictFrom, verdict, commandsFrom}
 use Rattle.model.proofs.Lists.{impossible}
+use Rattle.model.proofs.Ends.{is-end}
 
 -- A COMMAND FOUND AT A PLACE: its row of the table, with the operands from the next byte on
 pub record FoundAt (sheet : List ℕ) (place : ℕ) (c : Command) (next : ℕ) : Type 0 where
@@ -59,21 +60,6 @@ pub data Good (P : Command → Type 0) : Known → List Command → Type 0 where
 module _ (sheet : List ℕ) (P : Command → Type 0) (holds : (place : ℕ) (c : Command) (next : ℕ) → FoundAt sheet place c next → P c) where
   not-accepted : {f : Refusal} {place : ℕ} → {A : Type 0} → turnedDown f place ≡ accepted → A
   not-accepted e = impossible (cc)
-
-  is-end : (c : Command) → end? c ≡ true → c ≡ END
-  is-end END e = refl
-  is-end (WORD v) e = absurd (false≢true e)
-  is-end (BLOCK b) e = absurd (false≢true e)
-  is-end TASK e = absurd (false≢true e)
-  is-end (RELEASE r) e = absurd (false≢true e)
-  is-end (LOAD r v) e = absurd (false≢true e)
-  is-end (ADD r q) e = absurd (false≢true e)
-  is-end (READ r w) e = absurd (false≢true e)
-  is-end (PAIR w o n) e = absurd (false≢true e)
-  is-end (SWAP r) e = absurd (false≢true e)
-  is-end BEGIN e = absurd (false≢true e)
-  is-end (access a) e = absurd (false≢true e)
-  is-end COMMIT e = absurd (false≢true e)
 
   -- what the reading goes on to, from place and Known
   Onward : ℕ → Type 0

@@ -4,13 +4,13 @@ use mathlib.Core.Path.{_≡_}
 use mathlib.Core.List.{List, [], _∷_}
 use lib.ListN.{length}
 use Rattle.model.specs.Lists.{at}
-use Rattle.model.specs.Command.{Release, Block, Command}
+use Rattle.model.specs.Command.{Release, Block, BodyCommand}
 use Rattle.model.specs.Fault.{Known, emptyBody}
 use Rattle.model.specs.Sheet.{Sheet}
 use Rattle.model.proofs.Fit.Body.{Open, Faultless}
 
 -- a body of a sheet with that many words and blocks, without fault from its start
-pub record BodyFit (words blocks : ℕ) (l : List Command) : Type 0 where
+pub record BodyFit (words blocks : ℕ) (l : List BodyCommand) : Type 0 where
   pub known : Known
   pub opened : Open words blocks known
   pub start : known .body ≡ emptyBody
@@ -40,7 +40,7 @@ abbrev pub blockAt : List Block → ℕ → Block
 blockAt bs b = at noBlock bs b
 
 -- all body commands
-abbrev pub commandCount : List (List Command) → ℕ
+abbrev pub commandCount : List (List BodyCommand) → ℕ
 commandCount [] = 0
 commandCount (l ∷ ls) = length l + commandCount ls
 

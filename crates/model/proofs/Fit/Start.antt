@@ -6,7 +6,7 @@ use native.Mathlib.Omega.{arith}
 use lib.ListN.{length, replicate, length-append, length-replicate, length-map}
 use Rattle.model.specs.Ceilings.{registers}
 use Rattle.model.specs.Lists.{at}
-use Rattle.model.specs.Command.{Block, Command}
+use Rattle.model.specs.Command.{Block, BodyCommand}
 use Rattle.model.specs.Sheet.{Sheet}
 use Rattle.model.specs.Word.{Word, freshWord}
 use Rattle.model.specs.Job.{idle, Task, task, noCounts, noJob}
@@ -63,15 +63,15 @@ module _ {s : Sheet} (c : SheetFit s) where
 
 -- TASKS
 -- a task with that body and number before its first job
-abbrev pub startTask : List Command → ℕ → Task
+abbrev pub startTask : List BodyCommand → ℕ → Task
 startTask body p = task body (copiesOf p) noCounts noJob
 
-pub tasks-size : (p : ℕ) (bodies : List (List Command)) → length (tasksFrom p bodies) ≡ length bodies
+pub tasks-size : (p : ℕ) (bodies : List (List BodyCommand)) → length (tasksFrom p bodies) ≡ length bodies
 unfolding tasksFrom
 tasks-size p [] = refl
 tasks-size p (b ∷ bodies) = ap suc (tasks-size (suc p) bodies)
 
-task-from : (p : ℕ) (bodies : List (List Command)) (i : ℕ) → i < length bodies → taskAt (tasksFrom p bodies) i ≡ startTask (at [] bodies i) (p + i)
+task-from : (p : ℕ) (bodies : List (List BodyCommand)) (i : ℕ) → i < length bodies → taskAt (tasksFrom p bodies) i ≡ startTask (at [] bodies i) (p + i)
 unfolding tasksFrom at
 task-from p [] i h = absurd (omega arith)
 task-from p (b ∷ bodies) zero h = let z : p + 0 ≡ p = omega arith in ap (startTask b) (sym z)
@@ -88,7 +88,7 @@ start-undeclared : (s : Sheet) (p : ℕ) → length (s .bodies) ≤ p → taskAt
 unfolding startMachine filled
 start-undeclared s p h = at-filled noTask (tasksFrom 0 (s .bodies)) (8 - length (tasksFrom 0 (s .bodies))) p (rw (tasks-size 0 (s .bodies)) h)
 
-start-task-fit : (words blocks : ℕ) (body : List Command) (p : ℕ) → TaskFit words blocks body 0 (startTask body p)
+start-task-fit : (words blocks : ℕ) (body : List BodyCommand) (p : ℕ) → TaskFit words blocks body 0 (startTask body p)
 start-task-fit words blocks body p = record { body = refl; registers = refl; copies = refl; counts = omega arith; ticks = omega arith; phase = record { commands = refl; noPairs = refl } }
 
 -- THE MACHINE

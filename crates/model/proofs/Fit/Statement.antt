@@ -6,14 +6,14 @@ use mathlib.Core.List.{List, [], _∷_, _++_}
 use native.Mathlib.Omega.{arith}
 use lib.ListN.{length}
 use Rattle.model.specs.Lists.{at}
-use Rattle.model.specs.Command.{GET, PUT, Command, WORD, BLOCK, TASK, RELEASE, END, LOAD, ADD, READ, PAIR, SWAP, BEGIN, access, COMMIT}
+use Rattle.model.specs.Command.{Outside, READ, PAIR, SWAP, BEGIN, BodyCommand, LOAD, ADD, outside, inside}
 use Rattle.model.specs.Fault.{Body}
-use Rattle.model.specs.Sheet.{after, inBody, transaction}
+use Rattle.model.specs.Sheet.{after, inBody, transaction, afterBody, afterOutside}
 use Rattle.model.specs.Word.{Memory, loading, readTick}
 use Rattle.model.specs.Exchange.{Entry, entry, exchangeOf, start, exchangeTick}
 use Rattle.model.specs.Job.{Phase, idle, plain, reading, exchanging, transacting, Task, rest}
 use Rattle.model.specs.Transaction.{loaded, added}
-use Rattle.model.specs.Machine.{plainTick, statement}
+use Rattle.model.specs.Machine.{plainTick, statement, outsideTick, recorded}
 use Rattle.model.proofs.Lists.{length-replace}
 use Rattle.model.proofs.Fit.Memory.{MemoryFit}
 use Rattle.model.proofs.Fit.Exchange.{ExchangeFit, exchange-start, exchange-fit}
@@ -24,13 +24,13 @@ use Rattle.model.proofs.Fit.Pass.{pass-start}
 use Rattle.model.proofs.Fit.TransactionTick.{within-fit, transaction-tick-fit}
 
 -- the commands after BEGIN
-begun : {words blocks : ℕ} {l : List Command} {ps : List Entry} → OutsideFit words blocks (BEGIN ∷ l) ps → BegunFit words blocks l
-unfolding after
-begun o =
+begun-fit : {words blocks : ℕ} {l : List BodyCommand} {ps : List Entry} → OutsideFit words blocks (outside BEGIN ∷ l) ps → BegunFit words blocks l
+unfolding after afterBody afterOutside
+begun-fit o =
     let b : Body = transaction true [] [] (o .known .body) in
     record {
       known = inBody (o .known) b;
-      inside = record { opened = open-next b (o .opened); inside = refl; pairs = first-fits o .none; touched = omega arith; puts = omega arith };
+      inside = record { opened = open-next b (o .opened); inside = refl; pairs = first-fits o .fits; touched = omega arith; puts = omega arith };
       nothing = refl;
       noPuts = refl;
       faultless = o .faultless .others;
@@ -38,47 +38,49 @@ begun o =
 
 module _ {words blocks : ℕ} (most : blocks ≤ 16) {m : Memory} (g : MemoryFit m) (t : Task) (hr : length (t .job .registers) ≡ 8) (hc : length (t .copies) ≡ 4) where
   -- a command that stands only in a transaction
-  misplaced : {P : Type 0} {l : List Command} {ps : List Entry} (o : OutsideFit words blocks l ps) → o .known .body .inside ≡ true → P
+  misplaced : {P : Type 0} {l : List BodyCommand} {ps : List Entry} (o : OutsideFit words blocks l ps) → o .known .body .inside ≡ true → P
   misplaced o e = absurd (true≢false (sym e ∙ o .outside))
 
-  plain-fit : (p : ℕ) (c : Command) (l : List Command) → t .job .commands ≡ c ∷ l → OutsideFit words blocks (c ∷ l) (t .job .pairs) → TurnFit words blocks t (plainTick p m t (c ∷ l))
-  unfolding plainTick
-  plain-fit p (LOAD r v) l e o = done-fit t l (loaded (t .job .registers) r v) (t .job .pairs) (t .copies) (ap rest e) g (length-replace (t .job .registers) r v ∙ hr) hc (after-load o)
-  plain-fit p (ADD r q) l e o = done-fit t l (added (t .job .registers) r q) (t .job .pairs) (t .copies) (ap rest e) g (length-replace (t .job .registers) r _ ∙ hr) hc (after-add o)
-  plain-fit p (READ r w) l e o =
-      let f = first-fits o in
+  -- the facts of the job's commands, the first of them being known
+  at-commands : {l : List BodyCommand} → t .job .commands ≡ l → OutsideFit words blocks l (t .job .pairs) → OutsideFit words blocks (t .job .commands) (t .job .pairs)
+  at-commands e o = subst (λ (z : List BodyCommand). OutsideFit words blocks z (t .job .pairs)) (sym e) o
+
+  outside-fit : (p : ℕ) (c : Outside) (l : List BodyCommand) → t .job .commands ≡ outside c ∷ l → OutsideFit words blocks (outside c ∷ l) (t .job .pairs)
+      → TurnFit words blocks t (outsideTick p m t l c)
+  unfolding outsideTick
+  outside-fit p (READ r w) l e o =
+      let f = first-fits o .fits in
       first-turn-fit (read-fit g t hr hc r w
-      (record { others = l; commands = e; register = f .register; word = f .word; outside = subst (λ (z : List Command). OutsideFit words blocks z (t .job .pairs)) (sym e) o })
+      (record { others = l; commands = e; register = f .register; word = f .word; outside = at-commands e o })
       (readTick m w loading))
-  plain-fit p (PAIR w old new) l e o =
+  outside-fit p (PAIR w old new) l e o =
       let a : ℕ = at 0 (t .job .registers) old in
       let b : ℕ = at 0 (t .job .registers) new in
-      done-fit t l (t .job .registers) (t .job .pairs ++ (entry w a b ∷ [])) (t .copies) (ap rest e) g hr hc (after-pair a b o)
-  plain-fit p (SWAP r) l e o =
-      let f = first-fits o in
+      done-fit t l (t .job .registers) (recorded t w old new) (t .copies) (ap rest e) g hr hc (after-pair a b o)
+  outside-fit p (SWAP r) l e o =
+      let f = first-fits o .fits in
       let begins : ExchangeFit 0 words (t .job .pairs) (exchangeOf (t .job .pairs)) = exchange-start (some-pairs (t .job .pairs) (o .known .body) (o .waiting) (f .some)) (o .pairs) in
       first-turn-fit (swap-fit t hr hc r
-      (record { others = l; commands = e; register = f .register; outside = subst (λ (z : List Command). OutsideFit words blocks z (t .job .pairs)) (sym e) o })
+      (record { others = l; commands = e; register = f .register; outside = at-commands e o })
       (exchangeOf (t .job .pairs))
       (exchangeTick p m (exchangeOf (t .job .pairs)) start)
       (exchange-fit p g begins (o .pairs)))
-  plain-fit p BEGIN l e o = within-fit t hr hc g hr (pass-start (begun o) hr) tt
-  plain-fit p (access (GET r b s)) l e o = misplaced o (first-fits o .inside)
-  plain-fit p (access (PUT b s r)) l e o = misplaced o (first-fits o .inside)
-  plain-fit p COMMIT l e o = misplaced o (first-fits o)
-  plain-fit p (WORD v) l e o = absurd (o .faultless .command)
-  plain-fit p (BLOCK b) l e o = absurd (o .faultless .command)
-  plain-fit p TASK l e o = absurd (o .faultless .command)
-  plain-fit p (RELEASE r) l e o = absurd (o .faultless .command)
-  plain-fit p END l e o = absurd (o .faultless .command)
+  outside-fit p BEGIN l e o = within-fit t hr hc g hr (pass-start (begun-fit o) hr) tt
+
+  plain-fit : (p : ℕ) (c : BodyCommand) (l : List BodyCommand) → t .job .commands ≡ c ∷ l → OutsideFit words blocks (c ∷ l) (t .job .pairs) → TurnFit words blocks t (plainTick p m t (c ∷ l))
+  unfolding plainTick
+  plain-fit p (LOAD r v) l e o = done-fit t l (loaded (t .job .registers) r v) (t .job .pairs) (t .copies) (ap rest e) g (length-replace (t .job .registers) r v ∙ hr) hc (after-load o)
+  plain-fit p (ADD r q) l e o = done-fit t l (added (t .job .registers) r q) (t .job .pairs) (t .copies) (ap rest e) g (length-replace (t .job .registers) r _ ∙ hr) hc (after-add o)
+  plain-fit p (outside c) l e o = outside-fit p c l e o
+  plain-fit p (inside c) l e o = misplaced o (first-fits o .place)
 
   phase-statement-fit : (p : ℕ) (f : Phase) → t .job .phase ≡ f → PhaseFit words blocks (t .copies) (t .job .commands) (t .job .pairs) f → TurnFit words blocks t (statement p m t f)
   unfolding statement
   phase-statement-fit p idle e h = record { memory = g; body = refl; registers = hr; copies = hc; counts = omega arith; ticks = refl; phase = subst (λ (z : Phase). PhaseFit words blocks (t .copies) (t .job .commands) (t .job .pairs) z) (sym e) h }
   phase-statement-fit p plain e h =
       let q = h .commands in
-      subst (λ (z : List Command). TurnFit words blocks t (plainTick p m t z)) (sym q)
-      (plain-fit p (h .command) (h .others) q (subst (λ (z : List Command). OutsideFit words blocks z (t .job .pairs)) q (h .outside)))
+      subst (λ (z : List BodyCommand). TurnFit words blocks t (plainTick p m t z)) (sym q)
+      (plain-fit p (h .command) (h .others) q (subst (λ (z : List BodyCommand). OutsideFit words blocks z (t .job .pairs)) q (h .outside)))
   phase-statement-fit p (reading r w s) e h = read-fit g t hr hc r w h (readTick m w s)
   phase-statement-fit p (exchanging r x) e h =
       swap-fit t hr hc r

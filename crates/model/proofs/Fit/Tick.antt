@@ -8,7 +8,7 @@ use lib.ListN.{length}
 use lib.Dec.{eqb}
 use borrow.Author.Tests.{eqb-false}
 use Rattle.model.specs.Lists.{at, replace}
-use Rattle.model.specs.Command.{Command, Release}
+use Rattle.model.specs.Command.{Release, BodyCommand}
 use Rattle.model.specs.Fault.{Body}
 use Rattle.model.specs.Sheet.{Sheet}
 use Rattle.model.specs.Job.{Task, Turn, started, counting, ticks}
@@ -26,18 +26,18 @@ use Rattle.model.proofs.Fit.Running.{RunningFit, running-fit, busy}
 
 -- TASKS
 -- a body is not empty and starts outside a transaction with no PAIR waiting
-body-start : {words blocks : ℕ} (l : List Command) → BodyFit words blocks l → PlainFit words blocks l []
+body-start : {words blocks : ℕ} (l : List BodyCommand) → BodyFit words blocks l → PlainFit words blocks l []
 body-start {words} {blocks} l b = go l (b .faultless)
   where
-    outside : {l : List Command} → Faultless (b .known) l → OutsideFit words blocks l []
+    outside : {l : List BodyCommand} → Faultless (b .known) l → OutsideFit words blocks l []
     outside f = record { known = b .known; opened = b .opened; outside = ap (λ (z : Body). z .inside) (b .start); waiting = ap (λ (z : Body). z .pairs) (b .start); faultless = f; pairs = no-entries 0 words; unloaded = no-unloaded }
 
-    go : (l : List Command) → Faultless (b .known) l → PlainFit words blocks l []
+    go : (l : List BodyCommand) → Faultless (b .known) l → PlainFit words blocks l []
     go [] f = absurd (false≢true (rw (b .start) at f))
     go (c ∷ l) f = record { command = c; others = l; commands = refl; outside = outside f }
 
 -- a job starts
-pub started-fit : {words blocks now : ℕ} {text : List Command} {t : Task} → BodyFit words blocks text → TaskFit words blocks text now t → TaskFit words blocks text now (started t)
+pub started-fit : {words blocks now : ℕ} {text : List BodyCommand} {t : Task} → BodyFit words blocks text → TaskFit words blocks text now t → TaskFit words blocks text now (started t)
 started-fit {words} {blocks} {t = t} b f =
     record {
       body = f .body;
@@ -45,14 +45,14 @@ started-fit {words} {blocks} {t = t} b f =
       copies = f .copies;
       counts = f .counts;
       ticks = f .ticks;
-      phase = subst (λ (l : List Command). PlainFit words blocks l []) (sym (f .body)) (body-start _ b);
+      phase = subst (λ (l : List BodyCommand). PlainFit words blocks l []) (sym (f .body)) (body-start _ b);
     }
 
 -- a task that did nothing in a tick, and one that did a statement
-pub waited-fit : {words blocks now : ℕ} {text : List Command} {t : Task} → TaskFit words blocks text now t → TaskFit words blocks text (suc now) t
+pub waited-fit : {words blocks now : ℕ} {text : List BodyCommand} {t : Task} → TaskFit words blocks text now t → TaskFit words blocks text (suc now) t
 waited-fit f = record { body = f .body; registers = f .registers; copies = f .copies; counts = f .counts; ticks = omega (arith, f .ticks); phase = f .phase }
 
-pub turned-fit : {words blocks now : ℕ} {text : List Command} {t : Task} {u : Turn} → TaskFit words blocks text now t → TurnFit words blocks t u → TaskFit words blocks text (suc now) (counting ticks (u .task))
+pub turned-fit : {words blocks now : ℕ} {text : List BodyCommand} {t : Task} {u : Turn} → TaskFit words blocks text now t → TurnFit words blocks t u → TaskFit words blocks text (suc now) (counting ticks (u .task))
 turned-fit f g =
     record {
       body = g .body ∙ f .body;

@@ -9,11 +9,11 @@ use lib.Dec.{eqb, ltb}
 use lib.ListN.{length}
 use borrow.Author.Tests.{ltb-true, leb-true, eqb-true}
 use Rattle.model.specs.Lists.{at}
-use Rattle.model.specs.Command.{Release, Block, Command, WORD, BLOCK, TASK, RELEASE, END, LOAD, ADD, READ, PAIR, SWAP, BEGIN, access, COMMIT}
-use Rattle.model.specs.Fault.{Section, Body, Known, words?, blocks?, body?, releases?, mayEnd, outside, within, bodiesOver, before, none?, roomForBlock, inPlace, underCeiling, inRange, rising, faultOf}
+use Rattle.model.specs.Command.{Block, Release, BodyCommand, LOAD, ADD, outside, inside, Command, WORD, BLOCK, TASK, RELEASE, END, body}
+use Rattle.model.specs.Fault.{Section, Body, Known, words?, blocks?, body?, releases?, mayEnd, bodiesOver, before, inPlace, underCeiling, inRange, rising, faultOf, outsideTransaction, inPlaceOutside, inPlaceBody, underCeilingBody}
 use Rattle.model.specs.Sheet.{Declared, declares, inOpenBody, declare, declared, after, inBody, end?}
 use Rattle.model.proofs.Fit.Elements.{and-left, and-right, or-cases, first-each}
-use Rattle.model.proofs.Fit.Body.{BodyCommand, Faultless, passedOf}
+use Rattle.model.proofs.Fit.Body.{Faultless, passedOf}
 use Rattle.model.proofs.Fit.Sheet.{BodyFit, Rises, noBlock}
 use Rattle.model.proofs.Fit.Reading.{Good, ending, going}
 use Rattle.model.proofs.Fit.Declared.{EightValues, InSection, BlockFit, DeclaredHere, in-words, in-blocks, in-body, in-releases, rises, no-releases, release-first}
@@ -65,21 +65,31 @@ block-step k b d q v f =
     }
 
 -- BODIES
--- a command of an open body, after which the body is b
-body-step : (k : Known) (c : Command) (b : Body) (d : Declared) → BodyCommand c → faultOf k c ≡ none → body? (k .section) ≡ true → ltb (k .counts .commands) 512 ≡ true → after k c ≡ inBody k b → DeclaredHere (inBody k b) d → DeclaredHere k (inOpenBody c d)
-body-step k c b d bc q s n e f =
-    let here = in-body (k .section) s in
-    let g = subst (λ (z : Section). InSection z (inBody k b) d) here (f .section) in
+-- a command of an open body
+body-section : (k : Known) (c : BodyCommand) → inPlaceBody k c ≡ true → body? (k .section) ≡ true
+unfolding inPlaceBody
+body-section k (LOAD r v) e = e
+body-section k (ADD r q) e = e
+body-section k (outside c) e = and-left (body? (k .section)) (not (k .body .inside)) (and-left (outsideTransaction k) (inPlaceOutside (k .body) c) e)
+body-section k (inside c) e = and-left (body? (k .section)) (k .body .inside) e
+
+body-step : (k : Known) (c : BodyCommand) (d : Declared) → faultOf k (body c) ≡ none → DeclaredHere (after k (body c)) d → DeclaredHere k (declare (body c) d)
+unfolding after declare inPlace underCeiling
+body-step k c d q f =
+    let p = passedOf k (body c) q in
+    let here = in-body (k .section) (body-section k c (p .inPlace)) in
+    let room = and-left (ltb (k .counts .commands) 512) (underCeilingBody (k .body) c) (p .underCeiling) in
+    let g = subst (λ (z : Section). InSection z (after k (body c)) d) here (f .section) in
     record {
       words = f .words;
       blocks = f .blocks;
       bodies = f .bodies;
-      commands = λ h. omega (arith, f .commands (ltb-true (k .counts .commands) 512 n));
+      commands = λ h. omega (arith, f .commands (ltb-true (k .counts .commands) 512 room));
       releases = f .releases;
       block = f .block;
       body = f .body;
       released = f .released;
-      section = at-section k (inOpenBody c d) here (record { noWords = g .noWords; noBlocks = g .noBlocks; others = record { command = bc; faultless = q; others = subst (λ (z : Known). Faultless z (d .body)) (sym e) (g .others) } });
+      section = at-section k (inOpenBody c d) here (record { noWords = g .noWords; noBlocks = g .noBlocks; others = record { faultless = q; others = g .others } });
     }
 
 task-step : (k : Known) (d : Declared) → faultOf k TASK ≡ none → DeclaredHere (after k TASK) d → DeclaredHere k (declare TASK d)
@@ -99,7 +109,7 @@ task-step k d q f =
       commands = λ h. omega (arith, f .commands h);
       releases = f .releases;
       block = f .block;
-      body = first-each [] (λ (l : List Command). BodyFit (k .counts .words + length (d .sheet .words)) (k .counts .blocks + length (d .sheet .blocks)) l) (d .body) (d .sheet .bodies) (record { known = after k TASK; opened = record { section = refl; wordCount = omega arith; blockCount = omega arith }; start = refl; faultless = g .others }) (f .body);
+      body = first-each [] (λ (l : List BodyCommand). BodyFit (k .counts .words + length (d .sheet .words)) (k .counts .blocks + length (d .sheet .blocks)) l) (d .body) (d .sheet .bodies) (record { known = after k TASK; opened = record { section = refl; wordCount = omega arith; blockCount = omega arith }; start = refl; faultless = g .others }) (f .body);
       released = rw same at (f .released);
       section = or-cases (words? (k .section) || blocks? (k .section)) (body? (k .section) && mayEnd (k .body)) (p .inPlace)
           (λ o. or-cases (words? (k .section)) (blocks? (k .section)) o
@@ -161,12 +171,6 @@ end-step k d q =
     }
 
 -- ALL COMMANDS
-outside-section : (k : Known) → outside k ≡ true → body? (k .section) ≡ true
-outside-section k e = and-left (body? (k .section)) (not (k .body .inside)) e
-
-within-section : (k : Known) → within k ≡ true → body? (k .section) ≡ true
-within-section k e = and-left (body? (k .section)) (k .body .inside) e
-
 step : (k : Known) (c : Command) (d : Declared) → end? c ≡ false → EightValues c → faultOf k c ≡ none → DeclaredHere (after k c) d → DeclaredHere k (declare c d)
 unfolding after declare inPlace underCeiling
 step k (WORD v) d e w q f = word-step k v d q f
@@ -174,14 +178,7 @@ step k (BLOCK b) d e w q f = block-step k b d q w f
 step k TASK d e w q f = task-step k d q f
 step k (RELEASE r) d e w q f = release-step k r d q f
 step k END d e w q f = absurd (true≢false e)
-step k (LOAD r v) d e w q f = body-step k (LOAD r v) _ d tt q (passedOf k (LOAD r v) q .inPlace) (passedOf k (LOAD r v) q .underCeiling) refl f
-step k (ADD r s) d e w q f = body-step k (ADD r s) _ d tt q (passedOf k (ADD r s) q .inPlace) (passedOf k (ADD r s) q .underCeiling) refl f
-step k (READ r x) d e w q f = body-step k (READ r x) _ d tt q (outside-section k (passedOf k (READ r x) q .inPlace)) (passedOf k (READ r x) q .underCeiling) refl f
-step k (PAIR x o n) d e w q f = body-step k (PAIR x o n) _ d tt q (outside-section k (passedOf k (PAIR x o n) q .inPlace)) (and-left (ltb (k .counts .commands) 512) (ltb (length (k .body .pairs)) 8) (passedOf k (PAIR x o n) q .underCeiling)) refl f
-step k (SWAP r) d e w q f = body-step k (SWAP r) _ d tt q (outside-section k (and-left (outside k) (not (none? (k .body .pairs))) (passedOf k (SWAP r) q .inPlace))) (passedOf k (SWAP r) q .underCeiling) refl f
-step k BEGIN d e w q f = body-step k BEGIN _ d tt q (outside-section k (and-left (outside k) (none? (k .body .pairs)) (passedOf k BEGIN q .inPlace))) (passedOf k BEGIN q .underCeiling) refl f
-step k (access a) d e w q f = body-step k (access a) _ d tt q (within-section k (passedOf k (access a) q .inPlace)) (and-left (ltb (k .counts .commands) 512) (roomForBlock (k .body) a) (passedOf k (access a) q .underCeiling)) refl f
-step k COMMIT d e w q f = body-step k COMMIT _ d tt q (within-section k (passedOf k COMMIT q .inPlace)) (passedOf k COMMIT q .underCeiling) refl f
+step k (body c) d e w q f = body-step k c d q f
 
 pub walk : {P : Command → Type 0} → ((c : Command) → P c → EightValues c) → {k : Known} {l : List Command} → Good P k l → DeclaredHere k (declared l)
 unfolding declared

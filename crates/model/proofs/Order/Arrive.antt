@@ -8,7 +8,7 @@ use lib.Dec.{eqb, ltb}
 use lib.ListN.{length, replicate}
 use borrow.Author.Tests.{ltb-true, ltb-false}
 use Rattle.model.specs.Lists.{at, replace}
-use Rattle.model.specs.Command.{Command, Release}
+use Rattle.model.specs.Command.{Release, BodyCommand}
 use Rattle.model.specs.Job.{Phase, idle, plain, reading, exchanging, transacting, Job, job, Task, started}
 use Rattle.model.specs.Machine.{Machine, noTask, taskAt, unfinished, runsBefore, nobody, runningOf, releaseBy, arriveBy, arrive}
 use Rattle.model.proofs.Fit.Running.{busy, runs-not-after, Foremost, nobody-none}
@@ -45,7 +45,7 @@ arrived-twice {t} {t′} {t″} a b =
   where
     go : JobArrived t (t′ .job) → JobArrived t′ (t″ .job) → JobArrived t (t″ .job)
     go (waits e) (waits f) = waits (f ∙ e)
-    go (waits e) (starts i f) = starts (rw e at i) (f ∙ ap (λ (l : List Command). job plain l (replicate 8 0) []) (a .body))
+    go (waits e) (starts i f) = starts (rw e at i) (f ∙ ap (λ (l : List BodyCommand). job plain l (replicate 8 0) []) (a .body))
     go (starts i e) (waits f) = starts i (f ∙ e)
     go (starts i e) (starts j f) = let z : _≡_ {A = Phase} plain idle = rw e at j in impossible (cc)
 

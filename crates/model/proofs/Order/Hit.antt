@@ -12,7 +12,7 @@ use Rattle.model.specs.Claim.{Among}
 use Rattle.model.specs.Arguments.{Pair, swapOf}
 use Rattle.model.proofs.Order.Advance.{Advance, Carried, kept, amended, carried}
 use Rattle.model.proofs.Order.Noted.{latestOf}
-use Rattle.model.proofs.Order.Linked.{Open, Inside, givenTo, Linked}
+use Rattle.model.proofs.Order.Linked.{Open, InOperation, givenTo, Linked}
 
 -- the latest operation of task p is hit on that word
 pub record Hit (h : History) (p word : ℕ) : Type 0 where
@@ -51,7 +51,7 @@ hit-kept {u} {h} {h′} {p} {word} step e i = go (carried step (i .by) (i .began
     go (kept is) = with-other (i .other) is refl refl
     go (amended other is m) = with-other other is (m .task) (m .arguments)
 
-module _ {u : ℕ} {ts : List Task} {h : History} (l : Linked u ts h) (p q : ℕ) (later : latestOf h p < latestOf h q) (inside : Inside (givenTo ts p)) (above : Inside (givenTo ts q)) where
+module _ {u : ℕ} {ts : List Task} {h : History} (l : Linked u ts h) (p q : ℕ) (later : latestOf h p < latestOf h q) (inside : InOperation (givenTo ts p)) (above : InOperation (givenTo ts q)) where
   -- what hits a task's operation hits an open one that began before it
   pub hit-lower : (word : ℕ) → Hit h q word → Hit h p word
   hit-lower word i = record {

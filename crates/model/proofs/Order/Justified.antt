@@ -17,7 +17,7 @@ use Rattle.model.specs.Arguments.{Pair, Arguments, readOf, swapOf, trans
 use Rattle.model.proofs.Lists.{same?}
 use Rattle.model.proofs.Order.Advance.{Changed}
 use Rattle.model.proofs.Order.Growth.{Settled, commits, finds, Settles}
-use Rattle.model.proofs.Order.Moves.{Settling, settlesNothing, settlesRead, settlesYes, settlesNo, settlesTransaction, Moves, outside, begun, goesOn, answers, readEnds, swapCommits, swapEnds, swapCommitsAndEnds, swapRejected, transactionCommits, transactionEnds, transactionCommitsAndEnds, nothingTouched, endsSpent}
+use Rattle.model.proofs.Order.Moves.{Settling, settlesNothing, settlesRead, settlesYes, settlesNo, settlesTransaction, Moves, staysOutside, begun, goesOn, answers, readEnds, swapCommits, swapEnds, swapCommitsAndEnds, swapRejected, transactionCommits, transactionEnds, transactionCommitsAndEnds, nothingTouched, endsSpent}
 use Rattle.model.proofs.Order.Noted.{latestOf, number-below, noted-nothing, noted-begins, noted-amends}
 use Rattle.model.proofs.Order.Linked.{Open, OpenBy, open-uncounted, open-counted}
 use Rattle.model.proofs.Order.Hit.{Hit}
@@ -150,7 +150,7 @@ module _ (contents : ℕ → Contents) where
 
     -- EVERY TICK SETTLES WHAT IT OWES
     pub settles : {g g′ : Option Arguments} {b b′ : Bool} {e : Event} {s : Settling} → Moves u g b e s g′ b′ → OpenBy h p g b → Justified u p h s → Settles contents u h (noted u p e h)
-    settles outside o w = nothing-settles w
+    settles staysOutside o w = nothing-settles w
     settles (begun {a = a}) o w = begins-settles a w
     settles goesOn o w = nothing-settles w
     settles (answers f) o w = quiet-amends o _ (inl (rw (o .unended, o .committed) refl)) w

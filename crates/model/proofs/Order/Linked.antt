@@ -16,7 +16,7 @@ use Rattle.model.specs.Arguments.{Pair, Arguments, swapOf}
 use Rattle.model.proofs.Lists.{at-past, impossible}
 use Rattle.model.proofs.Order.Advance.{Amended, Changed, Advance}
 use Rattle.model.proofs.Order.Advance.{same as advanceSame, begins as advanceBegins, amends as advanceAmends}
-use Rattle.model.proofs.Order.Moves.{given, hasCommitted, Settling, Moves, outside, begun, goesOn, answers, readEnds, swapCommits, swapEnds, swapCommitsAndEnds, swapRejected, transactionCommits, transactionEnds, transactionCommitsAndEnds, nothingTouched, endsSpent}
+use Rattle.model.proofs.Order.Moves.{given, hasCommitted, Settling, Moves, staysOutside, begun, goesOn, answers, readEnds, swapCommits, swapEnds, swapCommitsAndEnds, swapRejected, transactionCommits, transactionEnds, transactionCommitsAndEnds, nothingTouched, endsSpent}
 use Rattle.model.proofs.Order.Noted.{latestOf, newOperation, number-below, noted-nothing, size-nothing, latest-nothing, noted-begins, size-begins, latest-begins, latest-begins-else, noted-amends, size-amends, latest-amends, latest-size}
 
 -- task p's latest operation is open, has these arguments, and has committed or not
@@ -35,9 +35,9 @@ abbrev pub OpenBy : History → ℕ → Option Arguments → Bool → Type 0
 OpenBy h p none yes? = Unit {0}
 OpenBy h p (some a) yes? = Open h p a yes?
 
-abbrev pub Inside : Option Arguments → Type 0
-Inside none = ⊥
-Inside (some a) = Unit {0}
+abbrev pub InOperation : Option Arguments → Type 0
+InOperation none = ⊥
+InOperation (some a) = Unit {0}
 
 abbrev pub givenTo : List Task → ℕ → Option Arguments
 givenTo ts p = given (taskAt ts p .job .phase)
@@ -48,8 +48,8 @@ pub record Linked (u : ℕ) (ts : List Task) (h : History) : Type 0 where
   pub latest : length (h .latest) ≡ 8
   pub past : (p : ℕ) → latestOf h p ≤ u
   pub opened : (p : ℕ) → OpenBy h p (givenTo ts p) (hasCommitted (taskAt ts p .job .phase))
-  pub apart : (p q : ℕ) → p ≢ q → Inside (givenTo ts p) → Inside (givenTo ts q) → latestOf h p ≢ latestOf h q
-  pub rising : (p q : ℕ) → Inside (givenTo ts p) → Inside (givenTo ts q) → latestOf h p < latestOf h q → p < q
+  pub apart : (p q : ℕ) → p ≢ q → InOperation (givenTo ts p) → InOperation (givenTo ts q) → latestOf h p ≢ latestOf h q
+  pub rising : (p q : ℕ) → InOperation (givenTo ts p) → InOperation (givenTo ts q) → latestOf h p < latestOf h q → p < q
 
 -- AN OPEN OPERATION AMENDED
 module _ {h : History} {p : ℕ} {a : Arguments} where
@@ -82,10 +82,10 @@ pub record Next (u p : ℕ) (h h′ : History) (g g′ : Option Arguments) (yes?
   pub mine : OpenBy h′ p g′ yes?
   pub other : (q : ℕ) → q ≢ p → latestOf h′ q ≡ latestOf h q
   pub own : (latestOf h′ p ≡ latestOf h p) ⊎ (latestOf h′ p ≡ u)
-  pub stays : Inside g → latestOf h′ p ≡ latestOf h p
-  pub since : Inside g′ → Inside g ⊎ (latestOf h′ p ≡ u)
-  pub none-begun : Inside g → operationAt h′ u ≡ none
-  pub else : (b : ℕ) → b ≢ u → (Inside g → b ≢ latestOf h p) → operationAt h′ b ≡ operationAt h b
+  pub stays : InOperation g → latestOf h′ p ≡ latestOf h p
+  pub since : InOperation g′ → InOperation g ⊎ (latestOf h′ p ≡ u)
+  pub none-begun : InOperation g → operationAt h′ u ≡ none
+  pub else : (b : ℕ) → b ≢ u → (InOperation g → b ≢ latestOf h p) → operationAt h′ b ≡ operationAt h b
 
 module _ (u p : ℕ) (h : History) (size : length (h .began) ≡ u) (latest : length (h .latest) ≡ 8) (below : p < 8) where
   -- nothing is noted
@@ -168,7 +168,7 @@ module _ (u p : ℕ) (h : History) (size : length (h .began) ≡ u) (latest : le
     }
 
   pub next : {g g′ : Option Arguments} {b b′ : Bool} {e : Event} {s : Settling} → Moves u g b e s g′ b′ → OpenBy h p g b → Next u p h (noted u p e h) g g′ b′
-  next {b = b} outside o = nothing-next none _ tt
+  next {b = b} staysOutside o = nothing-next none _ tt
   next (begun {a = a}) o = begins-next a
   next (goesOn {b} {a}) o = nothing-next (some a) b o
   next (answers f) o = amends-next o _ _ _ (uncommitted u o _ refl refl (inl (o .unended))) (λ c. stays o _ false c refl refl (o .unended) (o .committed) refl (λ ps e y. absurd (true≢false (sym y))))

@@ -3,7 +3,7 @@ use Prim.Native.Nat.{ℕ}
 use mathlib.Core.Bool.{Bool, true, false}
 use mathlib.Core.List.{List, [], _∷_}
 use mathlib.Core.Option.{Option, none, some}
-use Rattle.model.specs.Command.{Command, WORD, BLOCK, TASK, RELEASE, END, LOAD, ADD, READ, PAIR, SWAP, BEGIN, access, COMMIT}
+use Rattle.model.specs.Command.{access, COMMIT, BodyCommand, LOAD, ADD, outside, inside}
 use Rattle.model.specs.Word.{Memory, Read, reads, gives, readTick}
 use Rattle.model.specs.Exchange.{Exchanged, goes, ends, exchangeTick, saidYes}
 use Rattle.model.specs.Job.{Transaction, Inner, between, first, copying, again, committing, Phase, idle, plain, reading, exchanging, transacting}
@@ -40,7 +40,7 @@ pub data Settling : Type 0 where
   settlesRead : ℕ → ℕ → Settling
   settlesYes : List Pair → Settling
   settlesNo : List Pair → Settling
-  settlesTransaction : List ℕ → List Command → Settling
+  settlesTransaction : List ℕ → List BodyCommand → Settling
 
 abbrev pub readSettles : ℕ → Read → Settling
 readSettles w (reads s) = settlesNothing
@@ -59,23 +59,15 @@ abbrev pub transactionSettles : Bool → Transaction → Settling
 transactionSettles true x = settlesTransaction (x .kept) (untilCommit (x .commands))
 transactionSettles false x = settlesNothing
 
-abbrev pub commandSettles : Transaction → List Command → Settling
+abbrev pub commandSettles : Transaction → List BodyCommand → Settling
 commandSettles x [] = settlesNothing
-commandSettles x (COMMIT ∷ l) = transactionSettles (nothing? (x .blocks)) x
+commandSettles x (inside COMMIT ∷ l) = transactionSettles (nothing? (x .blocks)) x
 commandSettles x (LOAD r v ∷ l) = settlesNothing
 commandSettles x (ADD r q ∷ l) = settlesNothing
-commandSettles x (access a ∷ l) = settlesNothing
-commandSettles x (READ r w ∷ l) = settlesNothing
-commandSettles x (PAIR w o n ∷ l) = settlesNothing
-commandSettles x (SWAP r ∷ l) = settlesNothing
-commandSettles x (BEGIN ∷ l) = settlesNothing
-commandSettles x (WORD v ∷ l) = settlesNothing
-commandSettles x (BLOCK b ∷ l) = settlesNothing
-commandSettles x (TASK ∷ l) = settlesNothing
-commandSettles x (RELEASE r ∷ l) = settlesNothing
-commandSettles x (END ∷ l) = settlesNothing
+commandSettles x (inside (access a) ∷ l) = settlesNothing
+commandSettles x (outside c ∷ l) = settlesNothing
 
-abbrev pub innerSettles : ℕ → Memory → List Command → Transaction → Inner → Settling
+abbrev pub innerSettles : ℕ → Memory → List BodyCommand → Transaction → Inner → Settling
 innerSettles p m l x between = commandSettles x l
 innerSettles p m l x (first a r) = settlesNothing
 innerSettles p m l x (copying a n) = settlesNothing
@@ -83,7 +75,7 @@ innerSettles p m l x (again a v r) = settlesNothing
 innerSettles p m l x (committing e) = transactionSettles (saysYes p m (e .step)) x
 
 -- the statement of task p, by the shared memory and the task's commands before it
-unfoldable pub settling : ℕ → Memory → List Command → Phase → Settling
+unfoldable pub settling : ℕ → Memory → List BodyCommand → Phase → Settling
 settling p m l idle = settlesNothing
 settling p m l plain = settlesNothing
 settling p m l (reading r w s) = readSettles w (readTick m w s)
@@ -92,20 +84,20 @@ settling p m l (transacting x s) = innerSettles p m l x s
 
 -- BEFORE AND AFTER TICK u: the arguments and the commit, with event and settling between them
 pub data Moves (u : ℕ) : Option Arguments → Bool → Event → Settling → Option Arguments → Bool → Type 0 where
-  outside : {b c : Bool} → Moves u none b nothing settlesNothing none c
+  staysOutside : {b c : Bool} → Moves u none b nothing settlesNothing none c
   begun : {b : Bool} {a : Arguments} → Moves u none b (begins a) settlesNothing (some a) false
   goesOn : {b : Bool} {a : Arguments} → Moves u (some a) b nothing settlesNothing (some a) b
-  answers : {rs : List ℕ} {l : List Command} (f : List ℕ → List ℕ) → Moves u (some (transactionOf rs l)) false (amends (λ o. answering (f (o .answers)) o)) settlesNothing (some (transactionOf rs l)) false
+  answers : {rs : List ℕ} {l : List BodyCommand} (f : List ℕ → List ℕ) → Moves u (some (transactionOf rs l)) false (amends (λ o. answering (f (o .answers)) o)) settlesNothing (some (transactionOf rs l)) false
   readEnds : {w : ℕ} {c : Bool} (v : ℕ) → Moves u (some (readOf w)) false (amends (λ o. ending u (answering (v ∷ []) o))) (settlesRead w v) none c
   swapCommits : {ps : List Pair} → Moves u (some (swapOf ps)) false (amends (λ o. asCommitted (answering (1 ∷ []) o))) (settlesYes ps) (some (swapOf ps)) true
   swapEnds : {ps : List Pair} {c : Bool} → Moves u (some (swapOf ps)) true (amends (λ o. ending u (answering (1 ∷ []) o))) settlesNothing none c
   swapCommitsAndEnds : {ps : List Pair} {c : Bool} → Moves u (some (swapOf ps)) false (amends (λ o. ending u (answering (1 ∷ []) o))) (settlesYes ps) none c
   swapRejected : {ps : List Pair} {c : Bool} → Moves u (some (swapOf ps)) false (amends (λ o. ending u (answering (0 ∷ []) o))) (settlesNo ps) none c
-  transactionCommits : {rs : List ℕ} {l : List Command} → Moves u (some (transactionOf rs l)) false (amends (λ o. asCommitted o)) (settlesTransaction rs l) (some (transactionOf rs l)) true
-  transactionEnds : {rs : List ℕ} {l : List Command} {c : Bool} → Moves u (some (transactionOf rs l)) true (amends (λ o. ending u o)) settlesNothing none c
-  transactionCommitsAndEnds : {rs : List ℕ} {l : List Command} {c : Bool} → Moves u (some (transactionOf rs l)) false (amends (λ o. ending u o)) (settlesTransaction rs l) none c
-  nothingTouched : {rs : List ℕ} {l : List Command} {c : Bool} → Moves u (some (transactionOf rs l)) false (amends (λ o. ending u (asCommitted o))) (settlesTransaction rs l) none c
-  endsSpent : {rs : List ℕ} {l : List Command} {c : Bool} → Moves u (some (transactionOf rs l)) false (amends (λ o. ending u (asSpent o))) settlesNothing none c
+  transactionCommits : {rs : List ℕ} {l : List BodyCommand} → Moves u (some (transactionOf rs l)) false (amends (λ o. asCommitted o)) (settlesTransaction rs l) (some (transactionOf rs l)) true
+  transactionEnds : {rs : List ℕ} {l : List BodyCommand} {c : Bool} → Moves u (some (transactionOf rs l)) true (amends (λ o. ending u o)) settlesNothing none c
+  transactionCommitsAndEnds : {rs : List ℕ} {l : List BodyCommand} {c : Bool} → Moves u (some (transactionOf rs l)) false (amends (λ o. ending u o)) (settlesTransaction rs l) none c
+  nothingTouched : {rs : List ℕ} {l : List BodyCommand} {c : Bool} → Moves u (some (transactionOf rs l)) false (amends (λ o. ending u (asCommitted o))) (settlesTransaction rs l) none c
+  endsSpent : {rs : List ℕ} {l : List BodyCommand} {c : Bool} → Moves u (some (transactionOf rs l)) false (amends (λ o. ending u (asSpent o))) settlesNothing none c
 
 abbrev pub MovesBy : ℕ → Phase → Event → Settling → Phase → Type 0
 MovesBy u f e s f′ = Moves u (given f) (hasCommitted f) e s (given f′) (hasCommitted f′)

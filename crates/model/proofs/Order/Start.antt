@@ -5,7 +5,7 @@ use mathlib.Core.List.{List, [], _∷_, _++_, map}
 use native.Mathlib.Omega.{arith}
 use lib.ListN.{length, replicate, length-append, length-replicate, length-map}
 use Rattle.model.specs.Lists.{at}
-use Rattle.model.specs.Command.{Block, Command}
+use Rattle.model.specs.Command.{Block, BodyCommand}
 use Rattle.model.specs.Sheet.{Sheet}
 use Rattle.model.specs.Word.{Word, own, currentBy, current, currentOf, cellOf, freshWord}
 use Rattle.model.specs.Job.{idle}
@@ -37,7 +37,7 @@ idle-behind zero p = refl
 idle-behind (suc n) zero = refl
 idle-behind (suc n) (suc p) = idle-behind n p
 
-idle-all : (q : ℕ) (l : List (List Command)) (n p : ℕ) → taskAt (tasksFrom q l ++ replicate n noTask) p .job .phase ≡ idle
+idle-all : (q : ℕ) (l : List (List BodyCommand)) (n p : ℕ) → taskAt (tasksFrom q l ++ replicate n noTask) p .job .phase ≡ idle
 unfolding at tasksFrom
 idle-all q [] n p = idle-behind n p
 idle-all q (b ∷ l) n zero = refl

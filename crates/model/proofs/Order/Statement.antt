@@ -6,7 +6,7 @@ use mathlib.Core.List.{List, [], _∷_, _++_}
 use mathlib.Core.Option.{none, some}
 use lib.Dec.{eqb}
 use Rattle.model.specs.Lists.{replace}
-use Rattle.model.specs.Command.{Access, GET, PUT, Command, WORD, BLOCK, TASK, RELEASE, END, LOAD, ADD, READ, PAIR, SWAP, BEGIN, access, COMMIT}
+use Rattle.model.specs.Command.{Access, GET, PUT, READ, PAIR, SWAP, BEGIN, access, COMMIT, BodyCommand, LOAD, ADD, outside, inside}
 use Rattle.model.specs.Word.{Memory, Reading, Read, reads, gives, readTick}
 use Rattle.model.specs.Exchange.{Entry, Exchange, Exchanged, goes, ends, exchangeTick, saidYes}
 use Rattle.model.specs.Job.{Touched, untouched, remembered, copied, Transaction, Inner, between, first, copying, again, committing, Phase, idle, plain, reading, exchanging, transacting, Task, rest, doneBy, Turn, swapAnswered, turn}
@@ -15,10 +15,10 @@ use Rattle.model.specs.Machine.{answer, readBy, swapBy, plainTick, state
 use Rattle.model.specs.History.{eventOf}
 use Rattle.model.specs.Arguments.{Pair, swapOf}
 use Rattle.model.proofs.Order.Exchange.{saysYes, said-now, yes-once, pairsOf, Follows, follows}
-use Rattle.model.proofs.Order.Moves.{given, innerCommitted, hasCommitted, Settling, settlesNothing, readSettles, swapSettles, transactionSettles, commandSettles, innerSettles, settling, Moves, outside, begun, goesOn, answers, readEnds, swapCommits, swapEnds, swapCommitsAndEnds, swapRejected, transactionCommits, transactionEnds, transactionCommitsAndEnds, nothingTouched, endsSpent, MovesBy}
+use Rattle.model.proofs.Order.Moves.{given, innerCommitted, hasCommitted, Settling, settlesNothing, readSettles, swapSettles, transactionSettles, commandSettles, innerSettles, settling, Moves, staysOutside, begun, goesOn, answers, readEnds, swapCommits, swapEnds, swapCommitsAndEnds, swapRejected, transactionCommits, transactionEnds, transactionCommitsAndEnds, nothingTouched, endsSpent, MovesBy}
 
 -- a command is done: its task is outside
-done-outside : (l : List Command) (t : Task) (rs : List ℕ) (ps : List Entry) (cs : List ℕ) → given (doneBy l t rs ps cs .job .phase) ≡ none
+done-outside : (l : List BodyCommand) (t : Task) (rs : List ℕ) (ps : List Entry) (cs : List ℕ) → given (doneBy l t rs ps cs .job .phase) ≡ none
 unfolding doneBy
 done-outside [] t rs ps cs = refl
 done-outside (c ∷ l) t rs ps cs = refl
@@ -30,22 +30,16 @@ module _ (u p : ℕ) (m : Memory) (t : Task) where
   read-moves r w s (reads s′) = goesOn
   read-moves r w s (gives v) = rw (done-outside (rest (t .job .commands)) t (replace (t .job .registers) r v) (t .job .pairs) (t .copies)) (readEnds v)
 
-  plain-moves : t .job .phase ≡ plain → (l : List Command) → Moves u none false (eventOf u (plainTick p m t l .did)) settlesNothing (given (plainTick p m t l .task .job .phase)) (hasCommitted (plainTick p m t l .task .job .phase))
+  plain-moves : t .job .phase ≡ plain → (l : List BodyCommand) → Moves u none false (eventOf u (plainTick p m t l .did)) settlesNothing (given (plainTick p m t l .task .job .phase)) (hasCommitted (plainTick p m t l .task .job .phase))
   unfolding plainTick eventOf readTick readBy exchangeTick swapBy
-  plain-moves e [] = rw e outside
-  plain-moves e (LOAD r v ∷ l) = rw (done-outside (rest (t .job .commands)) t (replace (t .job .registers) r v) (t .job .pairs) (t .copies)) outside
-  plain-moves e (ADD r q ∷ l) = rw (done-outside (rest (t .job .commands)) t) outside
-  plain-moves e (READ r w ∷ l) = begun
-  plain-moves e (PAIR w o n ∷ l) = rw (done-outside (rest (t .job .commands)) t) outside
-  plain-moves e (SWAP r ∷ l) = begun
-  plain-moves e (BEGIN ∷ l) = begun
-  plain-moves e (access a ∷ l) = rw e outside
-  plain-moves e (COMMIT ∷ l) = rw e outside
-  plain-moves e (WORD v ∷ l) = rw e outside
-  plain-moves e (BLOCK b ∷ l) = rw e outside
-  plain-moves e (TASK ∷ l) = rw e outside
-  plain-moves e (RELEASE r ∷ l) = rw e outside
-  plain-moves e (END ∷ l) = rw e outside
+  plain-moves e [] = rw e staysOutside
+  plain-moves e (LOAD r v ∷ l) = rw (done-outside (rest (t .job .commands)) t (replace (t .job .registers) r v) (t .job .pairs) (t .copies)) staysOutside
+  plain-moves e (ADD r q ∷ l) = rw (done-outside (rest (t .job .commands)) t) staysOutside
+  plain-moves e (outside (READ r w) ∷ l) = begun
+  plain-moves e (outside (PAIR w o n) ∷ l) = rw (done-outside (rest (t .job .commands)) t) staysOutside
+  plain-moves e (outside (SWAP r) ∷ l) = begun
+  plain-moves e (outside BEGIN ∷ l) = begun
+  plain-moves e (inside c ∷ l) = rw e staysOutside
 
   -- IN AN EXCHANGE, by what it has said before and what it says now
   swap-goes : (ps : List Pair) (m′ : Memory) (x′ : Exchange) (said says : Bool) → pairsOf x′ ≡ ps → saidYes (x′ .step) ≡ (said || says) → (says ≡ true → said ≡ false)
@@ -111,22 +105,14 @@ module _ (u p : ℕ) (m : Memory) (t : Task) where
     commit-moves false true = endsSpent
     commit-moves false false = goesOn
 
-    command-moves : t .job .phase ≡ transacting x between → (l : List Command) → Within false (commandSettles x l) (commandTick m t x l)
+    command-moves : t .job .phase ≡ transacting x between → (l : List BodyCommand) → Within false (commandSettles x l) (commandTick m t x l)
     unfolding eventOf commandTick
     command-moves e [] = rw e goesOn
     command-moves e (LOAD r v ∷ l) = goesOn
     command-moves e (ADD r q ∷ l) = goesOn
-    command-moves e (access a ∷ l) = access-moves a (touchedOf x (blockOf a))
-    command-moves e (COMMIT ∷ l) = commit-moves (nothing? (x .blocks)) (spent? (x .blocks))
-    command-moves e (READ r w ∷ l) = rw e goesOn
-    command-moves e (PAIR w o n ∷ l) = rw e goesOn
-    command-moves e (SWAP r ∷ l) = rw e goesOn
-    command-moves e (BEGIN ∷ l) = rw e goesOn
-    command-moves e (WORD v ∷ l) = rw e goesOn
-    command-moves e (BLOCK b ∷ l) = rw e goesOn
-    command-moves e (TASK ∷ l) = rw e goesOn
-    command-moves e (RELEASE r ∷ l) = rw e goesOn
-    command-moves e (END ∷ l) = rw e goesOn
+    command-moves e (inside (access a) ∷ l) = access-moves a (touchedOf x (blockOf a))
+    command-moves e (inside COMMIT ∷ l) = commit-moves (nothing? (x .blocks)) (spent? (x .blocks))
+    command-moves e (outside c ∷ l) = rw e goesOn
 
     -- the exchange of COMMIT
     committing-goes : (e′ : Exchange) (said says : Bool) → saidYes (e′ .step) ≡ (said || says) → (says ≡ true → said ≡ false)
@@ -160,7 +146,7 @@ module _ (u p : ℕ) (m : Memory) (t : Task) where
 
   pub moves : (f : Phase) → t .job .phase ≡ f → MovesBy u f (eventOf u (statement p m t f .did)) (settling p m (t .job .commands) f) (statement p m t f .task .job .phase)
   unfolding eventOf settling statement
-  moves idle e = rw e outside
+  moves idle e = rw e staysOutside
   moves plain e = plain-moves e (t .job .commands)
   moves (reading r w s) e = read-moves r w s (readTick m w s)
   moves (exchanging r x) e = swap-moves r x (exchangeTick p m x (x .step)) (follows p m x (x .step))

@@ -13,7 +13,7 @@ use Rattle.model.specs.Claim.{contentsOf, WholeOperations}
 use Rattle.model.proofs.Order.Ordered.{Ordered, whole-operations}
 use Rattle.model.proofs.Order.Growth.{Settles, Course, course-ordered}
 use Rattle.model.proofs.Order.Steps.{stateAfter, arrivedAt, historyAfter, state-next, history-next, stopped}
-use Rattle.model.proofs.Order.Moves.{Settling, settling, outside}
+use Rattle.model.proofs.Order.Moves.{Settling, settling, staysOutside}
 use Rattle.model.proofs.Order.Statement.{moves}
 use Rattle.model.proofs.Order.Ticks.{MachineLinked, Started, arrived-at, arrived-now, arrived-linked, advance}
 use Rattle.model.proofs.Fit.Sheet.{SheetFit}
@@ -31,7 +31,7 @@ JustifiedIn contents u m h (running p) = Justified contents u p h (settledBy m p
 
 machine-settles : (contents : ℕ → Contents) {m : Machine} {h : History} → MachineLinked m h → (r : Running) → JustifiedIn contents (m .now) m h r → Settles contents (m .now) h (observed m r h)
 unfolding observed
-machine-settles contents {m} {h} g nobody w = settles contents (m .now) 0 h (g .linked .size) (outside {b = false} {c = false}) tt w
+machine-settles contents {m} {h} g nobody w = settles contents (m .now) 0 h (g .linked .size) (staysOutside {b = false} {c = false}) tt w
 machine-settles contents {m} {h} g (running p) w = settles contents (m .now) p h (g .linked .size) (moves (m .now) p (m .memory) (taskAt (m .tasks) p) (taskAt (m .tasks) p .job .phase) refl) (g .linked .opened p) w
 
 idle-memory : (m : Machine) → move m nobody .memory ≡ m .memory

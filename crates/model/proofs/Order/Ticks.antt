@@ -23,7 +23,7 @@ use Rattle.model.proofs.Order.Advance.{Advance, same}
 use Rattle.model.proofs.Order.Moves.{given, hasCommitted}
 use Rattle.model.proofs.Order.Statement.{moves}
 use Rattle.model.proofs.Order.Noted.{latestOf, number-below, noted-nothing, size-nothing, latest-size, latest-nothing}
-use Rattle.model.proofs.Order.Linked.{OpenBy, Inside, givenTo, Linked, Next, next}
+use Rattle.model.proofs.Order.Linked.{OpenBy, InOperation, givenTo, Linked, Next, next}
 
 -- a task whose release has come stands where it stood: outside
 pub given-arrived : {t t′ : Task} → TaskArrived t t′ → given (t′ .job .phase) ≡ given (t .job .phase)
@@ -51,7 +51,7 @@ linked-arrived a l = record {
 }
 
 -- an operation that stays as it is stays open
-open-kept : (h h′ : History) (p : ℕ) (g : Option Arguments) (b : Bool) → latestOf h′ p ≡ latestOf h p → (Inside g → operationAt h′ (latestOf h p) ≡ operationAt h (latestOf h p)) → OpenBy h p g b → OpenBy h′ p g b
+open-kept : (h h′ : History) (p : ℕ) (g : Option Arguments) (b : Bool) → latestOf h′ p ≡ latestOf h p → (InOperation g → operationAt h′ (latestOf h p) ≡ operationAt h (latestOf h p)) → OpenBy h p g b → OpenBy h′ p g b
 open-kept h h′ p none b l e o = tt
 open-kept h h′ p (some a) b l e o = record {
   operation = o .operation;
@@ -64,10 +64,10 @@ open-kept h h′ p (some a) b l e o = record {
   said = o .said;
 }
 
-pub latest-below : {u : ℕ} {ts : List Task} {h : History} → Linked u ts h → (p : ℕ) → Inside (givenTo ts p) → latestOf h p < u
+pub latest-below : {u : ℕ} {ts : List Task} {h : History} → Linked u ts h → (p : ℕ) → InOperation (givenTo ts p) → latestOf h p < u
 latest-below {u} {ts} {h} l p i = go (givenTo ts p) (hasCommitted (taskAt ts p .job .phase)) i (l .opened p)
   where
-    go : (g : Option Arguments) (b : Bool) → Inside g → OpenBy h p g b → latestOf h p < u
+    go : (g : Option Arguments) (b : Bool) → InOperation g → OpenBy h p g b → latestOf h p < u
     go none b i o = absurd i
     go (some a) b i o = omega (arith, number-below h (latestOf h p) (o .is), l .size)
 
@@ -79,11 +79,11 @@ module _ {u p : ℕ} {m : Machine} {h h′ : History} (r : Foremost m p) (l : Li
   abbrev ts′ : List Task
   ts′ = replace ts p t′
 
-  before-outside : (q : ℕ) → runsBefore m q p ≡ true → Inside (givenTo ts q) → ⊥
+  before-outside : (q : ℕ) → runsBefore m q p ≡ true → InOperation (givenTo ts q) → ⊥
   before-outside q b i = rw (before-idle r q b) at i
 
   -- of the open operations that of the task that runs began last
-  pub last-begun : (q : ℕ) → q ≢ p → Inside (givenTo ts q) → Inside (givenTo ts p) → latestOf h q < latestOf h p
+  pub last-begun : (q : ℕ) → q ≢ p → InOperation (givenTo ts q) → InOperation (givenTo ts p) → latestOf h q < latestOf h p
   last-begun q ne i j = go (decLt (latestOf h p) (latestOf h q))
     where
       go : Dec (latestOf h p < latestOf h q) → latestOf h q < latestOf h p
@@ -91,7 +91,7 @@ module _ {u p : ℕ} {m : Machine} {h h′ : History} (r : Foremost m p) (l : Li
       go (no gt) = let d = l .apart q p ne i j in omega arith
 
   -- the others are other ones
-  pub other-operation : (q : ℕ) → q ≢ p → Inside (givenTo ts q) → operationAt h′ (latestOf h′ q) ≡ operationAt h (latestOf h q)
+  pub other-operation : (q : ℕ) → q ≢ p → InOperation (givenTo ts q) → operationAt h′ (latestOf h′ q) ≡ operationAt h (latestOf h q)
   other-operation q ne i = rw (n .other q ne) (n .else (latestOf h q) (let k = latest-below l q i in omega arith) (λ j. l .apart q p ne i j))
 
   other-given : (q : ℕ) → q ≢ p → givenTo ts′ q ≡ givenTo ts q
@@ -107,14 +107,14 @@ module _ {u p : ℕ} {m : Machine} {h h′ : History} (r : Foremost m p) (l : Li
       (λ i. n .else (latestOf h q) (let k = latest-below l q i in omega arith) (λ j. l .apart q p ne i j)) (l .opened q)))
 
   -- another task's operation began before p's
-  before-own : (q : ℕ) → q ≢ p → Inside (givenTo ts q) → Inside (givenTo ts p) ⊎ (latestOf h′ p ≡ u) → latestOf h q < latestOf h′ p
+  before-own : (q : ℕ) → q ≢ p → InOperation (givenTo ts q) → InOperation (givenTo ts p) ⊎ (latestOf h′ p ≡ u) → latestOf h q < latestOf h′ p
   before-own q ne i (inl k) = rw (n .stays k) (last-begun q ne i k)
   before-own q ne i (inr e) = rw e (latest-below l q i)
 
-  own-later : (q : ℕ) → q ≢ p → Inside (givenTo ts′ q) → Inside (givenTo ts′ p) → latestOf h′ q < latestOf h′ p
+  own-later : (q : ℕ) → q ≢ p → InOperation (givenTo ts′ q) → InOperation (givenTo ts′ p) → latestOf h′ q < latestOf h′ p
   own-later q ne i j = rw (n .other q ne) (before-own q ne (rw (other-given q ne) at i) (n .since (rw here-given at j)))
 
-  apart′ : (q s : ℕ) → q ≢ s → Inside (givenTo ts′ q) → Inside (givenTo ts′ s) → latestOf h′ q ≢ latestOf h′ s
+  apart′ : (q s : ℕ) → q ≢ s → InOperation (givenTo ts′ q) → InOperation (givenTo ts′ s) → latestOf h′ q ≢ latestOf h′ s
   apart′ q s d i j = same? s p
       (λ e. let k = own-later q (λ z. d (z ∙ sym e)) i (rw e at j) in rw e (omega arith))
       (λ ne. same? q p
@@ -122,14 +122,14 @@ module _ {u p : ℕ} {m : Machine} {h h′ : History} (r : Foremost m p) (l : Li
       (λ k. rw (n .other q k, n .other s ne) (l .apart q s d (rw (other-given q k) at i) (rw (other-given s ne) at j))))
 
   -- a lower task than the one that runs
-  lower : (q : ℕ) → q ≢ p → Inside (givenTo ts q) → q < p
+  lower : (q : ℕ) → q ≢ p → InOperation (givenTo ts q) → q < p
   lower q ne i = go (decLt q p)
     where
       go : Dec (q < p) → q < p
       go (yes lt) = lt
       go (no gt) = absurd (before-outside q (lt-ltb p q (omega arith)) i)
 
-  rising′ : (q s : ℕ) → Inside (givenTo ts′ q) → Inside (givenTo ts′ s) → latestOf h′ q < latestOf h′ s → q < s
+  rising′ : (q s : ℕ) → InOperation (givenTo ts′ q) → InOperation (givenTo ts′ s) → latestOf h′ q < latestOf h′ s → q < s
   rising′ q s i j lt = same? s p
       (λ e. same? q p
       (λ z. absurd (let k : latestOf h′ p < latestOf h′ p = rw (e, z) at lt in omega arith))

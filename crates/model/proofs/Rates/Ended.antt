@@ -10,7 +10,7 @@ use Rattle.model.specs.Rates.{ownBefore}
 use Rattle.model.specs.Arguments.{Arguments}
 use Rattle.model.proofs.Lists.{same?, impossible}
 use Rattle.model.proofs.Order.Advance.{Changed}
-use Rattle.model.proofs.Order.Moves.{Settling, Moves, outside, begun, goesOn, answers, readEnds, swapCommits, swapEnds, swapCommitsAndEnds, swapRejected, transactionCommits, transactionEnds, transactionCommitsAndEnds, nothingTouched, endsSpent}
+use Rattle.model.proofs.Order.Moves.{Settling, Moves, staysOutside, begun, goesOn, answers, readEnds, swapCommits, swapEnds, swapCommitsAndEnds, swapRejected, transactionCommits, transactionEnds, transactionCommitsAndEnds, nothingTouched, endsSpent}
 use Rattle.model.proofs.Order.Noted.{latestOf, noted-nothing, noted-begins, noted-amends}
 use Rattle.model.proofs.Order.Linked.{Open, OpenBy}
 use Rattle.model.proofs.Rates.Timely.{Rate, RateBy}
@@ -53,7 +53,7 @@ module _ (who : ℕ → Running) (u p : ℕ) (h : History) (size : length (h .be
 
   -- `rate` of the operation that this tick ends
   pub in-time : {g g′ : Option Arguments} {b b′ : Bool} {e : Event} {s : Settling} → Moves u g b e s g′ b′ → OpenBy h p g b → (g′ ≡ none → RateBy g (ownBefore who p (latestOf h p) (suc u))) → InTime who (noted u p e h)
-  in-time outside o rate = nothing-in-time
+  in-time staysOutside o rate = nothing-in-time
   in-time (begun {a = a}) o rate = begins-in-time a
   in-time goesOn o rate = nothing-in-time
   in-time (answers f) o rate = stays-in-time o _ (o .unended)

@@ -9,7 +9,7 @@ use Rattle.model.specs.History.{Operation, History, operationAt, Event, 
 use Rattle.model.specs.Arguments.{Arguments}
 use Rattle.model.proofs.Lists.{same?}
 use Rattle.model.proofs.Order.Advance.{Changed}
-use Rattle.model.proofs.Order.Moves.{Settling, Moves, outside, begun, goesOn, answers, readEnds, swapCommits, swapEnds, swapCommitsAndEnds, swapRejected, transactionCommits, transactionEnds, transactionCommitsAndEnds, nothingTouched, endsSpent}
+use Rattle.model.proofs.Order.Moves.{Settling, Moves, staysOutside, begun, goesOn, answers, readEnds, swapCommits, swapEnds, swapCommitsAndEnds, swapRejected, transactionCommits, transactionEnds, transactionCommitsAndEnds, nothingTouched, endsSpent}
 use Rattle.model.proofs.Order.Noted.{latestOf, newOperation, noted-nothing, latest-nothing, noted-begins, latest-begins, latest-begins-else, noted-amends, latest-amends}
 use Rattle.model.proofs.Order.Linked.{Open, OpenBy}
 use Rattle.model.proofs.Rates.Ended.{not-some, the-same}
@@ -85,7 +85,7 @@ module _ (u p : ℕ) (h : History) (size : length (h .began) ≡ u) (below : p <
     }
 
   pub unended : {g g′ : Option Arguments} {b b′ : Bool} {e : Event} {s : Settling} → Moves u g b e s g′ b′ → OpenBy h p g b → inside p ≡ g → inside′ p ≡ g′ → Unended (noted u p e h) inside′
-  unended outside o i i′ = nothing-outside i
+  unended staysOutside o i i′ = nothing-outside i
   unended (begun {a = a}) o i i′ = begins-unended a i i′
   unended goesOn o i i′ = nothing-inside (i′ ∙ sym i)
   unended (answers f) o i i′ = stays-unended o _ refl refl i′

@@ -19,10 +19,10 @@ use Rattle.model.proofs.Fit.Sheet.{SheetFit}
 use Rattle.model.proofs.Order.Steps.{stateAfter, arrivedAt, historyAfter, state-next, history-next}
 use Rattle.model.proofs.Fit.Running.{Foremost, running-foremost}
 use Rattle.model.proofs.Order.Arrive.{JobArrived, waits, starts, Arrived, none-runs}
-use Rattle.model.proofs.Order.Moves.{given, outside}
+use Rattle.model.proofs.Order.Moves.{given, staysOutside}
 use Rattle.model.proofs.Order.Statement.{moves}
 use Rattle.model.proofs.Order.Noted.{latestOf}
-use Rattle.model.proofs.Order.Linked.{Inside, givenTo}
+use Rattle.model.proofs.Order.Linked.{InOperation, givenTo}
 use Rattle.model.proofs.Order.Ticks.{given-arrived, MachineLinked, next-of, arrived-at, arrived-now, arrived-linked}
 use Rattle.model.proofs.Order.Start.{started}
 use Rattle.model.proofs.Run.Always.{holds, holds-at}
@@ -38,14 +38,14 @@ pub record Rated (who : ℕ → Running) (n : ℕ) (m : Machine) (h : History) :
   pub ended : InTime who h
   pub unended : Unended h (givenTo (m .tasks))
 
-inside? : {P : Type 0} (f : Phase) → (Inside (given f) → P) → ((Inside (given f) → ⊥) → P) → P
+inside? : {P : Type 0} (f : Phase) → (InOperation (given f) → P) → ((InOperation (given f) → ⊥) → P) → P
 inside? idle f g = g (λ i. i)
 inside? plain f g = g (λ i. i)
 inside? (reading r w s) f g = f tt
 inside? (exchanging r x) f g = f tt
 inside? (transacting x s) f g = f tt
 
-rate-outside : (g : Option Arguments) (t : ℕ) → (Inside g → ⊥) → RateBy g t
+rate-outside : (g : Option Arguments) (t : ℕ) → (InOperation g → ⊥) → RateBy g t
 rate-outside none t n = tt
 rate-outside (some a) t n = absurd (n tt)
 
@@ -79,7 +79,7 @@ module _ {who : ℕ → Running} {h : History} where
       ended = nothing-in-time who (m .now) 0 h (linked .linked .size) (k .ended);
       unended =
           unended (m .now) 0 h (linked .linked .size) (omega (arith, linked .linked .latest)) (givenTo (m .tasks)) (givenTo (m .tasks)) (λ q ne. refl) (k .unended)
-          (outside {b = false} {c = false}) tt none-inside none-inside;
+          (staysOutside {b = false} {c = false}) tt none-inside none-inside;
     }
       where
         none-inside : givenTo (m .tasks) 0 ≡ none
@@ -109,7 +109,7 @@ module _ {who : ℕ → Running} {h : History} where
           on : latestOf (observed m (running p) h) p ≡ latestOf h p → ownBefore who p (latestOf (observed m (running p) h) p) (suc (m .now)) ≡ suc (ownBefore who p (latestOf h p) (m .now))
           on e = rw e one-more
 
-          go : (Inside (given (task .job .phase)) → ⊥) → Inside (given (task .job .phase)) ⊎ (latestOf (observed m (running p) h) p ≡ m .now) → ownBefore who p (latestOf (observed m (running p) h) p) (suc (m .now)) ≡ 1
+          go : (InOperation (given (task .job .phase)) → ⊥) → InOperation (given (task .job .phase)) ⊎ (latestOf (observed m (running p) h) p ≡ m .now) → ownBefore who p (latestOf (observed m (running p) h) p) (suc (m .now)) ≡ 1
           go o (inl i) = absurd (o i)
           go o (inr e) = rw e first-one
 

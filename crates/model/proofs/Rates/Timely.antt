@@ -6,7 +6,7 @@ use mathlib.Core.Logic.{_⊎_}
 use mathlib.Core.List.{List, [], _∷_, map}
 use mathlib.Core.Option.{Option, none, some}
 use lib.ListN.{length, length-map}
-use Rattle.model.specs.Command.{Command, WORD, BLOCK, TASK, RELEASE, END, LOAD, ADD, READ, PAIR, SWAP, BEGIN, access, COMMIT}
+use Rattle.model.specs.Command.{READ, PAIR, SWAP, BEGIN, BodyCommand, LOAD, ADD, outside, inside}
 use Rattle.model.specs.Word.{Memory, statusOf, Reading, Read, reads, gives, readTick}
 use Rattle.model.specs.Exchange.{Entry, Exchange, Exchanged, goes, ends, exchangeTick}
 use Rattle.model.specs.Job.{Phase, idle, plain, reading, exchanging, transacting, Task, rest, doneBy}
@@ -16,9 +16,9 @@ use Rattle.model.specs.Arguments.{Arguments, readOf, swapOf, transaction
 use Rattle.model.proofs.Lists.{impossible}
 use Rattle.model.proofs.Whole.Rates.{Reads, at-first, goes-on, reading-rate, reading-ends, Ran, before-start, own-tick, others, exchange-rate, exchange-ends}
 use Rattle.model.proofs.Order.Exchange.{pairsOf, Follows, follows}
-use Rattle.model.proofs.Order.Moves.{given, Settling, Moves, outside, begun, goesOn, answers, readEnds, swapCommits, swapEnds, swapCommitsAndEnds, swapRejected, transactionCommits, transactionEnds, transactionCommitsAndEnds, nothingTouched, endsSpent}
+use Rattle.model.proofs.Order.Moves.{given, Settling, Moves, staysOutside, begun, goesOn, answers, readEnds, swapCommits, swapEnds, swapCommitsAndEnds, swapRejected, transactionCommits, transactionEnds, transactionCommitsAndEnds, nothingTouched, endsSpent}
 use Rattle.model.proofs.Order.Statement.{moves}
-use Rattle.model.proofs.Order.Linked.{Inside}
+use Rattle.model.proofs.Order.Linked.{InOperation}
 
 -- the exchange x of task p has done t ticks of its own; it began with entries of the same pairs
 pub record InExchange (t p : ℕ) (m : Memory) (x : Exchange) : Type 0 where
@@ -48,7 +48,7 @@ RateBy none t = Unit {0}
 RateBy (some a) t = Rate a t
 
 -- the ticks count only inside an operation
-pub timely-inside : {t t′ : ℕ} (p : ℕ) (m : Memory) (f : Phase) → (Inside (given f) → t′ ≡ t) → Timely t p m f → Timely t′ p m f
+pub timely-inside : {t t′ : ℕ} (p : ℕ) (m : Memory) (f : Phase) → (InOperation (given f) → t′ ≡ t) → Timely t p m f → Timely t′ p m f
 timely-inside p m idle e h = tt
 timely-inside p m plain e h = tt
 timely-inside p m (reading r w s) e h = rw (e tt) h
@@ -81,7 +81,7 @@ pub record TimelyNext (g : Option Arguments) (t p : ℕ) (m : Memory) (f : Phase
   pub inside : Timely t p m f
   pub ended : given f ≡ none → RateBy g t
 
-done-timely : (l : List Command) (u : Task) (rs : List ℕ) (ps : List Entry) (cs : List ℕ) (t p : ℕ) (m : Memory) → Timely t p m (doneBy l u rs ps cs .job .phase)
+done-timely : (l : List BodyCommand) (u : Task) (rs : List ℕ) (ps : List Entry) (cs : List ℕ) (t p : ℕ) (m : Memory) → Timely t p m (doneBy l u rs ps cs .job .phase)
 unfolding doneBy
 done-timely [] u rs ps cs t p m = tt
 done-timely (c ∷ l) u rs ps cs t p m = tt
@@ -93,7 +93,7 @@ Stays (some a) none = Unit {0}
 Stays (some a) (some b) = b ≡ a
 
 moves-stay : {u : ℕ} {g g′ : Option Arguments} {b b′ : Bool} {e : Event} {s : Settling} → Moves u g b e s g′ b′ → Stays g g′
-moves-stay outside = tt
+moves-stay staysOutside = tt
 moves-stay begun = tt
 moves-stay goesOn = refl
 moves-stay (answers f) = refl
@@ -108,7 +108,7 @@ moves-stay transactionCommitsAndEnds = tt
 moves-stay nothingTouched = tt
 moves-stay endsSpent = tt
 
-transaction-timely : (rs : List ℕ) (l : List Command) (t p : ℕ) (m : Memory) (f : Phase) → Stays (some (transactionOf rs l)) (given f) → Timely t p m f
+transaction-timely : (rs : List ℕ) (l : List BodyCommand) (t p : ℕ) (m : Memory) (f : Phase) → Stays (some (transactionOf rs l)) (given f) → Timely t p m f
 transaction-timely rs l t p m idle e = tt
 transaction-timely rs l t p m plain e = tt
 transaction-timely rs l t p m (reading r w s) e = impossible (cc)
@@ -117,22 +117,16 @@ transaction-timely rs l t p m (transacting x s) e = tt
 
 module _ (p : ℕ) (m : Memory) (u : Task) (below : p < length (m .status)) where
   -- the first tick of an operation
-  plain-timely : u .job .phase ≡ plain → (l : List Command) → Timely 1 p (plainTick p m u l .memory) (plainTick p m u l .task .job .phase)
+  plain-timely : u .job .phase ≡ plain → (l : List BodyCommand) → Timely 1 p (plainTick p m u l .memory) (plainTick p m u l .task .job .phase)
   unfolding plainTick readTick readBy exchangeTick swapBy
   plain-timely e [] = rw e tt
   plain-timely e (LOAD r v ∷ l) = done-timely (rest (u .job .commands)) u _ _ _ 1 p m
   plain-timely e (ADD r q ∷ l) = done-timely (rest (u .job .commands)) u _ _ _ 1 p m
-  plain-timely e (READ r w ∷ l) = goes-on m at-first refl
-  plain-timely e (PAIR w o n ∷ l) = done-timely (rest (u .job .commands)) u _ _ _ 1 p m
-  plain-timely e (SWAP r ∷ l) = record { entries = u .job .pairs; pairs = refl; ran = own-tick (before-start m) below refl }
-  plain-timely e (BEGIN ∷ l) = tt
-  plain-timely e (access a ∷ l) = rw e tt
-  plain-timely e (COMMIT ∷ l) = rw e tt
-  plain-timely e (WORD v ∷ l) = rw e tt
-  plain-timely e (BLOCK b ∷ l) = rw e tt
-  plain-timely e (TASK ∷ l) = rw e tt
-  plain-timely e (RELEASE r ∷ l) = rw e tt
-  plain-timely e (END ∷ l) = rw e tt
+  plain-timely e (outside (READ r w) ∷ l) = goes-on m at-first refl
+  plain-timely e (outside (PAIR w o n) ∷ l) = done-timely (rest (u .job .commands)) u _ _ _ 1 p m
+  plain-timely e (outside (SWAP r) ∷ l) = record { entries = u .job .pairs; pairs = refl; ran = own-tick (before-start m) below refl }
+  plain-timely e (outside BEGIN ∷ l) = tt
+  plain-timely e (inside c ∷ l) = rw e tt
 
   module _ (t : ℕ) where
     read-timely : (r w : ℕ) (s : Reading) (o : Read) → readTick m w s ≡ o → Reads w t s → TimelyNext (some (readOf w)) (suc t) p (readBy m u r w o .memory) (readBy m u r w o .task .job .phase)
@@ -150,7 +144,7 @@ module _ (p : ℕ) (m : Memory) (u : Task) (below : p < length (m .status)) wher
       ended = λ z. rw (← h .pairs, length-map (h .entries) pairOf) (exchange-rate (h .ran) below e);
     }
 
-    pub timely-next : (f : Phase) → u .job .phase ≡ f → Timely t p m f → Inside (given f) → TimelyNext (given f) (suc t) p (statement p m u f .memory) (statement p m u f .task .job .phase)
+    pub timely-next : (f : Phase) → u .job .phase ≡ f → Timely t p m f → InOperation (given f) → TimelyNext (given f) (suc t) p (statement p m u f .memory) (statement p m u f .task .job .phase)
     unfolding statement
     timely-next idle e h i = absurd i
     timely-next plain e h i = absurd i
@@ -158,7 +152,7 @@ module _ (p : ℕ) (m : Memory) (u : Task) (below : p < length (m .status)) wher
     timely-next (exchanging r x) e h i = swap-timely r x (exchangeTick p m x (x .step)) refl h
     timely-next (transacting x s) e h i = record { inside = transaction-timely (x .kept) (untilCommit (x .commands)) (suc t) p (statement p m u (transacting x s) .memory) (statement p m u (transacting x s) .task .job .phase) (moves-stay (moves 0 p m u (transacting x s) e)); ended = λ z. tt }
 
-  pub timely-first : (f : Phase) → u .job .phase ≡ f → (Inside (given f) → ⊥) → Timely 1 p (statement p m u f .memory) (statement p m u f .task .job .phase)
+  pub timely-first : (f : Phase) → u .job .phase ≡ f → (InOperation (given f) → ⊥) → Timely 1 p (statement p m u f .memory) (statement p m u f .task .job .phase)
   unfolding statement
   timely-first idle e n = rw e tt
   timely-first plain e n = plain-timely e (u .job .commands)

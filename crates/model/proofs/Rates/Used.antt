@@ -5,7 +5,7 @@ use mathlib.Core.List.{List, [], _∷_, _++_}
 use native.Mathlib.Omega.{arith}
 use lib.ListN.{length, replicate}
 use Rattle.model.specs.Lists.{at}
-use Rattle.model.specs.Command.{Command}
+use Rattle.model.specs.Command.{BodyCommand}
 use Rattle.model.specs.Sheet.{Sheet}
 use Rattle.model.specs.Job.{Task, counting, ticks}
 use Rattle.model.specs.Machine.{noTask, taskAt, Running, nobody, running, filled, tasksFrom, move, statement, startMachine}
@@ -29,7 +29,7 @@ none-behind zero p = refl
 none-behind (suc n) zero = refl
 none-behind (suc n) (suc p) = none-behind n p
 
-none-at-first : (q : ℕ) (l : List (List Command)) (n p : ℕ) → taskAt (tasksFrom q l ++ replicate n noTask) p .counts .ticks ≡ 0
+none-at-first : (q : ℕ) (l : List (List BodyCommand)) (n p : ℕ) → taskAt (tasksFrom q l ++ replicate n noTask) p .counts .ticks ≡ 0
 unfolding at tasksFrom
 none-at-first q [] n p = none-behind n p
 none-at-first q (b ∷ l) n zero = refl

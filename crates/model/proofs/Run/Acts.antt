@@ -5,7 +5,7 @@ use mathlib.Core.Path.{_≡_, refl, _∙_, subst}
 use mathlib.Core.List.{List, [], _∷_, map}
 use lib.Dec.{eqb}
 use Rattle.model.specs.Lists.{replace}
-use Rattle.model.specs.Command.{Access, GET, PUT, Command, WORD, BLOCK, TASK, RELEASE, END, LOAD, ADD, READ, PAIR, SWAP, BEGIN, access, COMMIT}
+use Rattle.model.specs.Command.{Access, GET, PUT, READ, PAIR, SWAP, BEGIN, access, COMMIT, BodyCommand, LOAD, ADD, outside, inside}
 use Rattle.model.specs.Word.{Word, Memory, memory, cellOf, own, Reading, loading, looking, fetching, Read, reads, gives, readTick, lookingBy}
 use Rattle.model.specs.Exchange.{Entry, Exchange, exchangeOf, Exchanged, goes, ends, exchangeTick}
 use Rattle.model.specs.Job.{Touched, untouched, remembered, copied, Transaction, Inner, between, first, copying, again, committing, Phase, idle, plain, exchanging, transacting, Task, rest, doneBy}
@@ -52,7 +52,7 @@ pub record SameCells (m n : Memory) : Type 0 where
 
 -- the exchange that a statement of task t is a tick of
 pub data ExchangeIn (t : Task) : Exchange → Type 0 where
-  begins : (r : ℕ) (l : List Command) → t .job .phase ≡ plain → t .job .commands ≡ SWAP r ∷ l → ExchangeIn t (exchangeOf (t .job .pairs))
+  begins : (r : ℕ) (l : List BodyCommand) → t .job .phase ≡ plain → t .job .commands ≡ outside (SWAP r) ∷ l → ExchangeIn t (exchangeOf (t .job .pairs))
   goes-on : (r : ℕ) {x : Exchange} → t .job .phase ≡ exchanging r x → ExchangeIn t x
   commits : (y : Transaction) {x : Exchange} → t .job .phase ≡ transacting y (committing x) → ExchangeIn t x
 
@@ -66,7 +66,7 @@ pub data Touches (p : ℕ) (m : Memory) (t : Task) : Act → Memory → Act → 
 same-memory : (m : Memory) → SameCells m m
 same-memory m = record { stores = m .stores; is = refl }
 
-done-free : (l : List Command) (t : Task) (rs : List ℕ) (ps : List Entry) (cs : List ℕ) → actIn (doneBy l t rs ps cs .job .phase) ≡ free
+done-free : (l : List BodyCommand) (t : Task) (rs : List ℕ) (ps : List Entry) (cs : List ℕ) → actIn (doneBy l t rs ps cs .job .phase) ≡ free
 unfolding doneBy
 done-free [] t rs ps cs = refl
 done-free (c ∷ l) t rs ps cs = refl
@@ -75,22 +75,16 @@ module _ (p : ℕ) (m : Memory) (t : Task) where
   stays : {v : Act} → v ≡ free → Touches p m t free m v
   stays e = rw e (nothing (same-memory m))
 
-  plain-touches : t .job .phase ≡ plain → (l : List Command) → t .job .commands ≡ l → Touches p m t free (plainTick p m t l .memory) (actIn (plainTick p m t l .task .job .phase))
+  plain-touches : t .job .phase ≡ plain → (l : List BodyCommand) → t .job .commands ≡ l → Touches p m t free (plainTick p m t l .memory) (actIn (plainTick p m t l .task .job .phase))
   unfolding plainTick readTick readBy exchangeTick swapBy
   plain-touches e [] k = stays (rw e)
   plain-touches e (LOAD r v ∷ l) k = stays (done-free (rest (t .job .commands)) t _ _ _)
   plain-touches e (ADD r q ∷ l) k = stays (done-free (rest (t .job .commands)) t _ _ _)
-  plain-touches e (READ r w ∷ l) k = loads w
-  plain-touches e (PAIR w o n ∷ l) k = stays (done-free (rest (t .job .commands)) t _ _ _)
-  plain-touches e (SWAP r ∷ l) k = exchanges (exchangeOf (t .job .pairs)) (begins r l e k)
-  plain-touches e (BEGIN ∷ l) k = stays refl
-  plain-touches e (access a ∷ l) k = stays (rw e)
-  plain-touches e (COMMIT ∷ l) k = stays (rw e)
-  plain-touches e (WORD v ∷ l) k = stays (rw e)
-  plain-touches e (BLOCK b ∷ l) k = stays (rw e)
-  plain-touches e (TASK ∷ l) k = stays (rw e)
-  plain-touches e (RELEASE r ∷ l) k = stays (rw e)
-  plain-touches e (END ∷ l) k = stays (rw e)
+  plain-touches e (outside (READ r w) ∷ l) k = loads w
+  plain-touches e (outside (PAIR w o n) ∷ l) k = stays (done-free (rest (t .job .commands)) t _ _ _)
+  plain-touches e (outside (SWAP r) ∷ l) k = exchanges (exchangeOf (t .job .pairs)) (begins r l e k)
+  plain-touches e (outside BEGIN ∷ l) k = stays refl
+  plain-touches e (inside c ∷ l) k = stays (rw e)
 
   -- READINGS
   abbrev afterRead : ℕ → Read → Act
@@ -168,22 +162,14 @@ module _ (p : ℕ) (m : Memory) (t : Task) where
     commit-touches false true = stays refl
     commit-touches false false = stays refl
 
-    command-touches : t .job .phase ≡ transacting x between → (l : List Command) → Touches p m t free (commandTick m t x l .memory) (actIn (commandTick m t x l .task .job .phase))
+    command-touches : t .job .phase ≡ transacting x between → (l : List BodyCommand) → Touches p m t free (commandTick m t x l .memory) (actIn (commandTick m t x l .task .job .phase))
     unfolding commandTick
     command-touches e [] = stays (rw e)
     command-touches e (LOAD r v ∷ l) = stays refl
     command-touches e (ADD r q ∷ l) = stays refl
-    command-touches e (access a ∷ l) = access-touches a (touchedOf x (blockOf a))
-    command-touches e (COMMIT ∷ l) = commit-touches (nothing? (x .blocks)) (spent? (x .blocks))
-    command-touches e (READ r w ∷ l) = stays (rw e)
-    command-touches e (PAIR w o n ∷ l) = stays (rw e)
-    command-touches e (SWAP r ∷ l) = stays (rw e)
-    command-touches e (BEGIN ∷ l) = stays (rw e)
-    command-touches e (WORD v ∷ l) = stays (rw e)
-    command-touches e (BLOCK b ∷ l) = stays (rw e)
-    command-touches e (TASK ∷ l) = stays (rw e)
-    command-touches e (RELEASE r ∷ l) = stays (rw e)
-    command-touches e (END ∷ l) = stays (rw e)
+    command-touches e (inside (access a) ∷ l) = access-touches a (touchedOf x (blockOf a))
+    command-touches e (inside COMMIT ∷ l) = commit-touches (nothing? (x .blocks)) (spent? (x .blocks))
+    command-touches e (outside c ∷ l) = stays (rw e)
 
     committing-touches : (e : Exchange) → t .job .phase ≡ transacting x (committing e) → (o : Exchanged) → exchangeTick p m e (e .step) ≡ o → Touches p m t (actOf e) (committingBy t x e o .memory) (actIn (committingBy t x e o .task .job .phase))
     unfolding committingBy

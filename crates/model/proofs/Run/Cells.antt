@@ -9,7 +9,7 @@ use native.Mathlib.Omega.{arith}
 use lib.Dec.{eqb}
 use lib.ListN.{length, length-map}
 use Rattle.model.specs.Lists.{at, replace}
-use Rattle.model.specs.Command.{Command, SWAP}
+use Rattle.model.specs.Command.{SWAP, Inside, BodyCommand, outside}
 use Rattle.model.specs.Word.{Word, Memory, statusOf, setStatus, currentOf, Reading, loading, looking, fetching}
 use Rattle.model.specs.Exchange.{Entry, Step, start, save, commit, Exchange, commitBy, cleanBy, exchangeTick}
 use Rattle.model.specs.Job.{between, first, copying, again, committing, Phase, idle, plain, exchanging, transacting, Task}
@@ -35,7 +35,7 @@ use Rattle.model.proofs.Transactions.Given.{same as sameCells}
 use Rattle.model.proofs.Transactions.Statement.{JobFit}
 use Rattle.model.proofs.Order.Exchange.{saysYes, says-commit, says-not}
 use Rattle.model.proofs.Order.Moves.{given}
-use Rattle.model.proofs.Order.Linked.{Inside, givenTo}
+use Rattle.model.proofs.Order.Linked.{InOperation, givenTo}
 use Rattle.model.proofs.Run.Acts.{readAct, actIn, taskAct, actsOf, act-at, ExchangeIn, begins, goes-on, commits, Touches, nothing, loads, looks, exchanges}
 
 -- THE ORDER: `began r` is the tick in which the operation of task r began
@@ -46,14 +46,14 @@ pub by-beginning : (began : ℕ → ℕ) → Order (below began)
 by-beginning began = record { irreflexive = λ p l. omega arith; transitive = λ p q r l k. omega arith }
 
 -- a task does nothing to cells, or is inside an operation
-act-inside? : {P : Type 0} (f : Phase) → (Inside (given f) → P) → (actIn f ≡ free → P) → P
+act-inside? : {P : Type 0} (f : Phase) → (InOperation (given f) → P) → (actIn f ≡ free → P) → P
 act-inside? idle f g = g refl
 act-inside? plain f g = g refl
 act-inside? (readingPhase r w s) f g = f tt
 act-inside? (exchanging r x) f g = f tt
 act-inside? (transacting x s) f g = f tt
 
-loaded-inside : (f : Phase) {w : Word} → loadedBy (readingIn f) ≡ some w → Inside (given f)
+loaded-inside : (f : Phase) {w : Word} → loadedBy (readingIn f) ≡ some w → InOperation (given f)
 loaded-inside idle e = impossible (cc)
 loaded-inside plain e = impossible (cc)
 loaded-inside (readingPhase r w s) e = tt
@@ -76,7 +76,7 @@ pub record Ready (words blocks : ℕ) (began : ℕ → ℕ) (m : Memory) (ts : L
   pub size : length ts ≡ 8
   pub there : p < length ts
   -- of the tasks inside an operation it is the last to have begun
-  pub last : (q : ℕ) → q ≢ p → Inside (givenTo ts q) → began q < began p
+  pub last : (q : ℕ) → q ≢ p → InOperation (givenTo ts q) → began q < began p
   pub job : JobFit words blocks (taskAt ts p)
   pub invariant : Invariant (below began) m (actsOf ts)
 
@@ -86,8 +86,8 @@ module _ {words blocks : ℕ} {began : ℕ → ℕ} {m : Memory} {ts : List Task
 
   work : {x : Exchange} → ExchangeIn (taskAt ts p) x → Work x
   work (begins r l e k) =
-      let o : OutsideFit words blocks (SWAP r ∷ l) (taskAt ts p .job .pairs) = subst (λ (z : List Command). OutsideFit words blocks z (taskAt ts p .job .pairs)) k (job-as plain e .outside) in
-      record { low = 0; high = words; pairs = taskAt ts p .job .pairs; fit = exchange-start (some-pairs (taskAt ts p .job .pairs) (o .known .body) (o .waiting) (first-fits o .some)) (o .pairs); most = omega (arith, R .fewWords) }
+      let o : OutsideFit words blocks (outside (SWAP r) ∷ l) (taskAt ts p .job .pairs) = subst (λ (z : List BodyCommand). OutsideFit words blocks z (taskAt ts p .job .pairs)) k (job-as plain e .outside) in
+      record { low = 0; high = words; pairs = taskAt ts p .job .pairs; fit = exchange-start (some-pairs (taskAt ts p .job .pairs) (o .known .body) (o .waiting) (first-fits o .fits .some)) (o .pairs); most = omega (arith, R .fewWords) }
   work (goes-on r {x} e) = record { low = 0; high = words; pairs = taskAt ts p .job .pairs; fit = job-as (exchanging r x) e .exchange; most = omega (arith, R .fewWords) }
   work (commits y {x} e) = record { low = 32; high = 32 + blocks; pairs = _; fit = job-as (transacting y (committing x)) e .inner .exchange; most = omega (arith, R .fewBlocks) }
 

@@ -8,7 +8,7 @@ use mathlib.Core.Option.{none, some}
 use native.Mathlib.Omega.{arith}
 use lib.ListN.{length}
 use Rattle.model.specs.Lists.{at}
-use Rattle.model.specs.Command.{Command, WORD, BLOCK, TASK, RELEASE, END, LOAD, ADD, READ, PAIR, SWAP, BEGIN, access, COMMIT}
+use Rattle.model.specs.Command.{Inside, access, COMMIT, BodyCommand, LOAD, ADD, outside, inside}
 use Rattle.model.specs.Sheet.{Sheet}
 use Rattle.model.specs.Word.{Memory, currentOf, Reading, Read, reads, gives, readTick}
 use Rattle.model.specs.Exchange.{Step, start, Exchange, Exchanged, goes, ends, exchangeTick}
@@ -33,7 +33,7 @@ use Rattle.model.proofs.Transactions.Replay.{blocks-stay, contents-stay
 use Rattle.model.proofs.Order.Exchange.{saysYes, says-commit, says-not, pairsOf}
 use Rattle.model.proofs.Order.Moves.{given, innerCommitted, hasCommitted, readSettles, swapSettles, transactionSettles, commandSettles, innerSettles, settling}
 use Rattle.model.proofs.Order.Noted.{latestOf}
-use Rattle.model.proofs.Order.Linked.{Open, OpenBy, Inside, givenTo}
+use Rattle.model.proofs.Order.Linked.{Open, OpenBy, InOperation, givenTo}
 use Rattle.model.proofs.Order.Hit.{Hit}
 use Rattle.model.proofs.Order.Justified.{Found, Ground, differed, hit, Justified}
 use Rattle.model.proofs.Fit.Running.{Foremost}
@@ -103,7 +103,7 @@ module _ {s : Sheet} (c : SheetFit s) (memories : ℕ → Memory) {m : Machine} 
     hit-before : {w : ℕ} → Hit (observed m (running p) h) p w → Hit h p w
     hit-before b =
         let t = next-of linked p r in
-        let inside : Inside (givenTo (m .tasks) p) = rw e tt in
+        let inside : InOperation (givenTo (m .tasks) p) = rw e tt in
         let same-latest = t .stays inside in
         record {
           by = b .by;
@@ -163,25 +163,17 @@ module _ {s : Sheet} (c : SheetFit s) (memories : ℕ → Memory) {m : Machine} 
     quiet b = not-committing (rw b)
 
     -- COMMIT, by: nothing was touched
-    nothing-justified : i ≡ between → (l : List Command) → taskAt (m .tasks) p .job .commands ≡ COMMIT ∷ l → (n : Bool) → nothing? (x .blocks) ≡ n → Justified contents (m .now) p h (transactionSettles n x)
+    nothing-justified : i ≡ between → (l : List BodyCommand) → taskAt (m .tasks) p .job .commands ≡ inside COMMIT ∷ l → (n : Bool) → nothing? (x .blocks) ≡ n → Justified contents (m .now) p h (transactionSettles n x)
     nothing-justified b l z true n = λ o is. rw (← quiet b, before) (replayed (nothing-replays s (running-task c linked k now p r) x l (e ∙ ap (transacting x) b) z n) o is)
     nothing-justified b l z false n = quiet b
 
-    command-justified : i ≡ between → (l : List Command) → taskAt (m .tasks) p .job .commands ≡ l → Justified contents (m .now) p h (commandSettles x l)
+    command-justified : i ≡ between → (l : List BodyCommand) → taskAt (m .tasks) p .job .commands ≡ l → Justified contents (m .now) p h (commandSettles x l)
     command-justified b [] z = quiet b
-    command-justified b (COMMIT ∷ l) z = nothing-justified b l z (nothing? (x .blocks)) refl
+    command-justified b (inside COMMIT ∷ l) z = nothing-justified b l z (nothing? (x .blocks)) refl
     command-justified b (LOAD q v ∷ l) z = quiet b
     command-justified b (ADD q v ∷ l) z = quiet b
-    command-justified b (access a ∷ l) z = quiet b
-    command-justified b (READ q v ∷ l) z = quiet b
-    command-justified b (PAIR w o n ∷ l) z = quiet b
-    command-justified b (SWAP q ∷ l) z = quiet b
-    command-justified b (BEGIN ∷ l) z = quiet b
-    command-justified b (WORD v ∷ l) z = quiet b
-    command-justified b (BLOCK v ∷ l) z = quiet b
-    command-justified b (TASK ∷ l) z = quiet b
-    command-justified b (RELEASE v ∷ l) z = quiet b
-    command-justified b (END ∷ l) z = quiet b
+    command-justified b (inside (access a) ∷ l) z = quiet b
+    command-justified b (outside c ∷ l) z = quiet b
 
     commit-justified : (y : Exchange) → i ≡ committing y → (b : Bool) → saysYes p (m .memory) (y .step) ≡ b → Justified contents (m .now) p h (transactionSettles b x)
     commit-justified y z true b = λ o is. rw (before, after) (replayed (commit-replays s (running-task c linked k now p r) (record { transaction = x; exchange = y; phase = e ∙ ap (transacting x) z; step = says-commit p (m .memory) (y .step) b .0; status = says-commit p (m .memory) (y .step) b .1 })) o is)

@@ -7,7 +7,7 @@ use lib.ListN.{length}
 use Rattle.model.specs.History.{Operation, History, operationAt, Event, nothing, begins, amends, noted}
 use Rattle.model.specs.Arguments.{Arguments, readOf}
 use Rattle.model.proofs.Transactions.Pass.{operationAfter}
-use Rattle.model.proofs.Order.Moves.{Settling, Moves, outside, begun, goesOn, answers, readEnds, swapCommits, swapEnds, swapCommitsAndEnds, swapRejected, transactionCommits, transactionEnds, transactionCommitsAndEnds, nothingTouched, endsSpent}
+use Rattle.model.proofs.Order.Moves.{Settling, Moves, staysOutside, begun, goesOn, answers, readEnds, swapCommits, swapEnds, swapCommitsAndEnds, swapRejected, transactionCommits, transactionEnds, transactionCommitsAndEnds, nothingTouched, endsSpent}
 use Rattle.model.proofs.Order.Noted.{latestOf, newOperation, noted-nothing, latest-nothing, noted-begins, latest-begins, noted-amends, latest-amends}
 use Rattle.model.proofs.Order.Linked.{Open, OpenBy}
 
@@ -30,7 +30,7 @@ module _ (u p : ℕ) (h : History) (size : length (h .began) ≡ u) (below : p <
   after-amends o f = rw (latest-amends u p h size f p, noted-amends u p h size f (o .is) .here, o .is)
 
   pub latest-after : {g g′ : Option Arguments} {b b′ : Bool} {e : Event} {s : Settling} → Moves u g b e s g′ b′ → OpenBy h p g b → latestOperation (noted u p e h) p ≡ operationAfter p e (latestOperation h p)
-  latest-after outside o = after-nothing
+  latest-after staysOutside o = after-nothing
   latest-after (begun {a = a}) o = after-begins a
   latest-after goesOn o = after-nothing
   latest-after (answers f) o = after-amends o _

@@ -26,7 +26,7 @@ use Rattle.model.proofs.Whole.Ground.{History as Knowledge}
 use Rattle.model.proofs.Order.Exchange.{pairsOf}
 use Rattle.model.proofs.Order.Moves.{given}
 use Rattle.model.proofs.Order.Noted.{latestOf}
-use Rattle.model.proofs.Order.Linked.{Open, Inside, givenTo, Linked, Next}
+use Rattle.model.proofs.Order.Linked.{Open, InOperation, givenTo, Linked, Next}
 use Rattle.model.proofs.Order.Hit.{Hit, hit-kept, hit-lower, hit-by}
 use Rattle.model.proofs.Run.Acts.{readAct, actIn, actsOf, act-at, ExchangeIn, begins, goes-on, commits}
 use Rattle.model.proofs.Run.Cells.{below, Ready, job-as}
@@ -46,17 +46,17 @@ abbrev pub knowledge : (ℕ → ℕ → ℕ) → ℕ → History → (ℕ → Li
 knowledge values u h pairs = record { seen = Seen values u h; hit = HitOn h; pairs = pairs }
 
 -- a task that does something to cells is inside an operation
-inner-inside : (f : Phase) → actIn f ≢ free → Inside (given f)
+inner-inside : (f : Phase) → actIn f ≢ free → InOperation (given f)
 inner-inside idle ne = absurd (ne refl)
 inner-inside plain ne = absurd (ne refl)
 inner-inside (readingPhase r w s) ne = tt
 inner-inside (exchanging r x) ne = tt
 inner-inside (transacting x s) ne = tt
 
-pub acts-inside : (ts : List Task) (r : ℕ) → actAt (actsOf ts) r ≢ free → Inside (givenTo ts r)
+pub acts-inside : (ts : List Task) (r : ℕ) → actAt (actsOf ts) r ≢ free → InOperation (givenTo ts r)
 acts-inside ts r ne = inner-inside (taskAt ts r .job .phase) (λ e. ne (act-at ts r ∙ e))
 
-busy-inside : (ts : List Task) (r : ℕ) → Busy (actsOf ts) r → Inside (givenTo ts r)
+busy-inside : (ts : List Task) (r : ℕ) → Busy (actsOf ts) r → InOperation (givenTo ts r)
 busy-inside ts r b = acts-inside ts r (λ e. impossible (cc (b .act)))
 
 -- the pair of each entry is among the pairs
@@ -94,16 +94,16 @@ beganBy (some a) u n = n
 abbrev pub beganIn : ℕ → List Task → History → ℕ → ℕ
 beganIn u ts h p = beganBy (givenTo ts p) u (latestOf h p)
 
-began-by : (g : Option Arguments) (u n : ℕ) → Inside g → beganBy g u n ≡ n
+began-by : (g : Option Arguments) (u n : ℕ) → InOperation g → beganBy g u n ≡ n
 began-by none u n i = absurd i
 began-by (some a) u n i = refl
 
-pub began-inside : (u : ℕ) (ts : List Task) (h : History) (p : ℕ) → Inside (givenTo ts p) → beganIn u ts h p ≡ latestOf h p
+pub began-inside : (u : ℕ) (ts : List Task) (h : History) (p : ℕ) → InOperation (givenTo ts p) → beganIn u ts h p ≡ latestOf h p
 began-inside u ts h p i = began-by (givenTo ts p) u (latestOf h p) i
 
 -- A TICK OF TASK p
 module _ {u p words blocks : ℕ} {m : Memory} {ts : List Task} {h h′ : History} {g′ : Option Arguments} {yes? : Bool} (R : Ready words blocks (beganIn u ts h) m ts p) (l : Linked u ts h) (n : Next u p h h′ (givenTo ts p) g′ yes?) where
-  latest-stays : (r : ℕ) → Inside (givenTo ts r) → latestOf h′ r ≡ latestOf h r
+  latest-stays : (r : ℕ) → InOperation (givenTo ts r) → latestOf h′ r ≡ latestOf h r
   latest-stays r i = same? r p (λ e. rw e (n .stays (rw e at i))) (λ ne. n .other r ne)
 
   latest-now : latestOf h′ p ≤ u
@@ -114,12 +114,12 @@ module _ {u p words blocks : ℕ} {m : Memory} {ts : List Task} {h h′ : Histor
       go (inr e) = omega arith
 
   -- an exchange of words hits the operations that began before it on the words that it changes; an exchange of bank words counts as a hit
-  own-hit : {x : Exchange} {ps : List Entry} → ExchangeIn (taskAt ts p) x → actIn (taskAt ts p .job .phase) ≡ exchangingAct x → SamePairs (x .entries) ps → (r e : ℕ) → Inside (givenTo ts r) → latestOf h r < latestOf h p → e < length ps → entryOf ps e .old ≢ entryOf ps e .new → HitOn h′ r (entryOf ps e .cell)
+  own-hit : {x : Exchange} {ps : List Entry} → ExchangeIn (taskAt ts p) x → actIn (taskAt ts p .job .phase) ≡ exchangingAct x → SamePairs (x .entries) ps → (r e : ℕ) → InOperation (givenTo ts r) → latestOf h r < latestOf h p → e < length ps → entryOf ps e .old ≢ entryOf ps e .new → HitOn h′ r (entryOf ps e .cell)
   own-hit {x} {ps} (begins q k e₀ c) a s r e i lt le ne = impossible (cc (rw e₀ at a))
   own-hit {x} {ps} (goes-on q k) a s r e i lt le ne =
       let o : Open h p (swapOf (pairsOf x)) _ = rw k at (l .opened p) in
       let in-x : e < length (x .entries) = omega (arith, s .size) in
-      let up : Inside (givenTo ts p) = rw k tt in
+      let up : InOperation (givenTo ts p) = rw k tt in
       let d : pairOf (entryOf (x .entries) e) .old ≢ pairOf (entryOf (x .entries) e) .new = rw (s .old e, s .new e) ne in
       let b : Hit h r (entryOf (x .entries) e .cell) = hit-by l r p lt i up o (pairOf (entryOf (x .entries) e)) (among-pairs (x .entries) e in-x) d in
       rw (← s .cell e) (inr (hit-kept (n .advance) (latest-stays r i) b))

@@ -31,7 +31,7 @@ use Rattle.model.proofs.Order.Arrive.{JobArrived, TaskArrived, waits, s
 use Rattle.model.proofs.Order.Statement.{moves}
 use Rattle.model.proofs.Order.Moves.{given}
 use Rattle.model.proofs.Order.Noted.{latestOf}
-use Rattle.model.proofs.Order.Linked.{Inside, givenTo}
+use Rattle.model.proofs.Order.Linked.{InOperation, givenTo}
 use Rattle.model.proofs.Order.Ticks.{given-arrived, latest-below, last-begun, MachineLinked, next-of, other-operation}
 use Rattle.model.proofs.Run.Acts.{taskAct, actsOf, act-at, touches}
 use Rattle.model.proofs.Run.Cells.{below, Ready, invariant-after, given-after}
@@ -100,7 +100,7 @@ module _ {s : Sheet} (c : SheetFit s) {values : ℕ → ℕ → ℕ} {m : Machin
   declared-task = declared c (tasks-of (k .fit)) p (r .unfinished)
 
   -- of the tasks inside an operation the one that runs is the last to have begun
-  last : (q : ℕ) → q ≢ p → Inside (givenTo (m .tasks) q) → beganIn (m .now) (m .tasks) h q < beganIn (m .now) (m .tasks) h p
+  last : (q : ℕ) → q ≢ p → InOperation (givenTo (m .tasks) q) → beganIn (m .now) (m .tasks) h q < beganIn (m .now) (m .tasks) h p
   last q ne i = rw (began-inside (m .now) (m .tasks) h q i) (go (givenTo (m .tasks) p) refl)
     where
       go : (g : Option Arguments) → givenTo (m .tasks) p ≡ g → latestOf h q < beganIn (m .now) (m .tasks) h p
@@ -138,18 +138,18 @@ module _ {s : Sheet} (c : SheetFit s) {values : ℕ → ℕ → ℕ} {m : Machin
   tasks-after = replace (m .tasks) p (counting ticks (statementOf p (m .memory) (m .tasks) .task))
 
   -- a task at work after the statement began when it had begun, or begins now
-  began-after : (q : ℕ) → Inside (givenTo tasks-after q) → beganIn (suc (m .now)) tasks-after (observed m (running p) h) q ≡ beganIn (m .now) (m .tasks) h q
+  began-after : (q : ℕ) → InOperation (givenTo tasks-after q) → beganIn (suc (m .now)) tasks-after (observed m (running p) h) q ≡ beganIn (m .now) (m .tasks) h q
   began-after q i = began-inside (suc (m .now)) tasks-after (observed m (running p) h) q i ∙ same? q p (λ e. rw e (own (rw (e, here) at i))) (λ ne. next-of linked p r .other q ne ∙ sym (began-inside (m .now) (m .tasks) h q (rw (ap (λ (t : Task). given (t .job .phase)) (replace-other noTask (m .tasks) p q (counting ticks (statementOf p (m .memory) (m .tasks) .task)) ne)) at i)))
     where
       here : givenTo tasks-after p ≡ given (statementOf p (m .memory) (m .tasks) .task .job .phase)
       here = rw (replace-same noTask (m .tasks) p (counting ticks (statementOf p (m .memory) (m .tasks) .task)) (r .below)) refl
 
-      was : (g : Option Arguments) → givenTo (m .tasks) p ≡ g → (Inside g → latestOf (observed m (running p) h) p ≡ latestOf h p) → Inside g ⊎ (latestOf (observed m (running p) h) p ≡ m .now) → latestOf (observed m (running p) h) p ≡ beganIn (m .now) (m .tasks) h p
+      was : (g : Option Arguments) → givenTo (m .tasks) p ≡ g → (InOperation g → latestOf (observed m (running p) h) p ≡ latestOf h p) → InOperation g ⊎ (latestOf (observed m (running p) h) p ≡ m .now) → latestOf (observed m (running p) h) p ≡ beganIn (m .now) (m .tasks) h p
       was none e f (inl j) = absurd j
       was none e f (inr z) = rw e z
       was (some a) e f j = rw e (f tt)
 
-      own : Inside (given (statementOf p (m .memory) (m .tasks) .task .job .phase)) → latestOf (observed m (running p) h) p ≡ beganIn (m .now) (m .tasks) h p
+      own : InOperation (given (statementOf p (m .memory) (m .tasks) .task .job .phase)) → latestOf (observed m (running p) h) p ≡ beganIn (m .now) (m .tasks) h p
       own j = was (givenTo (m .tasks) p) refl (next-of linked p r .stays) (next-of linked p r .since j)
 
   pub holds-runs : Fit s (move m (running p)) → Holds s values (suc (m .now)) (move m (running p)) (observed m (running p) h)

@@ -7,7 +7,7 @@ use mathlib.Core.Option.{Option, none, some}
 use native.Mathlib.Omega.{arith}
 use lib.ListN.{length}
 use Rattle.model.specs.Lists.{at}
-use Rattle.model.specs.Command.{Block, Command}
+use Rattle.model.specs.Command.{Block, BodyCommand}
 use Rattle.model.specs.Sheet.{Sheet}
 use Rattle.model.specs.Word.{Memory, currentOf}
 use Rattle.model.specs.Exchange.{Entry}
@@ -90,7 +90,7 @@ module _ {m n : Memory} {copies : List ℕ} {ts : List Touched} (C : Committed m
       go (copied v k) e = raised (committed-raised b v k e)
 
   -- a block after the exchange
-  block-after : (b : ℕ) (t : Touched) (c : Option (List ℕ)) {l : List Command} → (PutAtWork b l → ⊥) → at untouched ts b ≡ t → SameCopy (m .stores) copies (blockIn m b .values) b l t c → commitBlock c (blockIn m b) ≡ blockIn n b
+  block-after : (b : ℕ) (t : Touched) (c : Option (List ℕ)) {l : List BodyCommand} → (PutAtWork b l → ⊥) → at untouched ts b ≡ t → SameCopy (m .stores) copies (blockIn m b .values) b l t c → commitBlock c (blockIn m b) ≡ blockIn n b
   block-after b untouched none np e h = rw (C .others b (rw e), C .stores)
   block-after b untouched (some vs) np e h = absurd h
   block-after b (remembered v) none np e h = rw (now-at b (remembered v) e refl, was-at b (remembered v) e refl, C .stores)
@@ -106,16 +106,16 @@ module _ {m n : Memory} {copies : List ℕ} {ts : List Touched} (C : Committed m
         h,
       )
 
-plain-transaction : (rs : List ℕ) (l : List Command) (c : Contents) → plainly (transactionOf rs l) c ≡ commits c (passOf (c .blocks) rs l)
+plain-transaction : (rs : List ℕ) (l : List BodyCommand) (c : Contents) → plainly (transactionOf rs l) c ≡ commits c (passOf (c .blocks) rs l)
 unfolding plainly
 plain-transaction rs l c = refl
 
 -- no command is left, so no PUT is at work
-none-left : {b : ℕ} {l : List Command} → untilCommit l ≡ [] → PutAtWork b l → ⊥
+none-left : {b : ℕ} {l : List BodyCommand} → untilCommit l ≡ [] → PutAtWork b l → ⊥
 unfolding untilCommit
 none-left u p = impossible (cc (rw (p .commands) at u))
 
-module _ (s : Sheet) (fits : length (s .words) ≤ 32) {m n : Memory} {copies registers answers : List ℕ} {l : List Command} {x : Transaction} {i : Inner}
+module _ (s : Sheet) (fits : length (s .words) ≤ 32) {m n : Memory} {copies registers answers : List ℕ} {l : List BodyCommand} {x : Transaction} {i : Inner}
     (B : Blocks (length (s .blocks)) (x .used) (x .blocks)) (P : PassFacts (length (s .blocks)) m copies registers l x i answers) (left : untilCommit l ≡ [])
     (C : Committed m n copies (x .blocks)) (small : (b v k : ℕ) → touchedOf x b ≡ copied v k → at 0 copies k < 256) where
   block-at : (k : Memory) (b : ℕ) → b < length (s .blocks) → at noBlock (contentsOf s k .blocks) b ≡ blockIn k b

@@ -6,7 +6,7 @@ use mathlib.Core.List.{List, [], _∷_}
 use mathlib.Core.Option.{Option, none, some}
 use lib.ListN.{length}
 use Rattle.model.specs.Lists.{at}
-use Rattle.model.specs.Command.{Access, GET, PUT, Block, Command, access}
+use Rattle.model.specs.Command.{Access, GET, PUT, Block, access, BodyCommand, inside}
 use Rattle.model.specs.Word.{Memory, stored, own, current, currentOf, Reading, loading, looking, fetching}
 use Rattle.model.specs.Job.{Touched, untouched, remembered, copied, Transaction, Inner, between, first, copying, again, committing, Phase, idle, plain, reading, exchanging, transacting, Task}
 use Rattle.model.specs.Transaction.{bank, versionOf, storeOf, blockOf, rememberedOf, touchedOf, takenBack}
@@ -69,15 +69,15 @@ pub record Owners (blocks tasks : ℕ) (banks : ℕ → ℕ) (slots : ℕ → Li
 
 -- THE PASS
 -- the command at work is a PUT to block b
-pub record PutAtWork (b : ℕ) (l : List Command) : Type 0 where
+pub record PutAtWork (b : ℕ) (l : List BodyCommand) : Type 0 where
   pub offset : ℕ
   pub register : ℕ
-  pub others : List Command
-  pub commands : l ≡ access (PUT b offset register) ∷ others
+  pub others : List BodyCommand
+  pub commands : l ≡ inside (access (PUT b offset register)) ∷ others
 
 -- The plain machine's copy of block b beside the store in the block's copy slot; `values` are the block's own, `l` the commands to do.
 -- A first PUT has copied before it writes: then the plain machine has no copy yet.
-abbrev pub SameCopy : List (List ℕ) → List ℕ → List ℕ → ℕ → List Command → Touched → Option (List ℕ) → Type 0
+abbrev pub SameCopy : List (List ℕ) → List ℕ → List ℕ → ℕ → List BodyCommand → Touched → Option (List ℕ) → Type 0
 SameCopy stores copies values b l untouched none = Unit {0}
 SameCopy stores copies values b l untouched (some vs) = ⊥
 SameCopy stores copies values b l (remembered v) none = Unit {0}
@@ -86,7 +86,7 @@ SameCopy stores copies values b l (copied v k) none = (values ≡ at [] stores (
 SameCopy stores copies values b l (copied v k) (some vs) = vs ≡ at [] stores (at 0 copies k)
 
 -- the plain machine at q stands where the pass stands
-pub record Beside (stores : List (List ℕ)) (copies registers answers : List ℕ) (ts : List Touched) (l : List Command) (bs : List Block) (q : Pass) : Type 0 where
+pub record Beside (stores : List (List ℕ)) (copies registers answers : List ℕ) (ts : List Touched) (l : List BodyCommand) (bs : List Block) (q : Pass) : Type 0 where
   pub sameRegisters : q .registers ≡ registers
   pub sameAnswers : q .answers ≡ answers
   pub size : length (q .copies) ≡ length bs
@@ -99,7 +99,7 @@ pub record Agrees (blocks : ℕ) (banks : ℕ → ℕ) (stores : List (List ℕ)
   pub values : (b : ℕ) → touched? (at untouched ts b) ≡ true → at noBlock bs b .values ≡ at [] stores (storeOf (rememberedOf (at untouched ts b)))
 
 -- the plain machine on its way: the commands still to come lead it where the whole transaction leads
-pub record Way (stores : List (List ℕ)) (copies registers answers : List ℕ) (ts : List Touched) (l : List Command) (kept : List ℕ) (begun : List Command) (bs : List Block) : Type 0 where
+pub record Way (stores : List (List ℕ)) (copies registers answers : List ℕ) (ts : List Touched) (l : List BodyCommand) (kept : List ℕ) (begun : List BodyCommand) (bs : List Block) : Type 0 where
   pub pass : Pass
   pub beside : Beside stores copies registers answers ts l bs pass
   pub leads : passed bs pass (untilCommit l) ≡ passOf bs kept (untilCommit begun)
@@ -135,17 +135,17 @@ AtInner m copies x (committing e) = Unit {0}
 
 -- Before the yes of its exchange: every remembered value is past, and the plain machine passes where the pass stands,
 -- whatever the blocks hold that agrees with what the pass remembers.
-pub record PassFacts (blocks : ℕ) (m : Memory) (copies registers : List ℕ) (l : List Command) (x : Transaction) (s : Inner) (answers : List ℕ) : Type 0 where
+pub record PassFacts (blocks : ℕ) (m : Memory) (copies registers : List ℕ) (l : List BodyCommand) (x : Transaction) (s : Inner) (answers : List ℕ) : Type 0 where
   pub past : (b : ℕ) → touched? (touchedOf x b) ≡ true → Past (bankIn m b) (rememberedOf (touchedOf x b))
   pub way : (bs : List Block) → Agrees blocks (bankIn m) (m .stores) (x .blocks) bs → Way (m .stores) copies registers answers (x .blocks) l (x .kept) (x .commands) bs
   pub inner : AtInner m copies x s
 
 -- THE INVARIANT, with the latest operation of each task; after the yes nothing is said of a pass
-pub record TransactionFacts (blocks : ℕ) (m : Memory) (copies registers : List ℕ) (l : List Command) (x : Transaction) (s : Inner) (o : Operation) : Type 0 where
+pub record TransactionFacts (blocks : ℕ) (m : Memory) (copies registers : List ℕ) (l : List BodyCommand) (x : Transaction) (s : Inner) (o : Operation) : Type 0 where
   pub arguments : o .arguments ≡ transactionOf (x .kept) (untilCommit (x .commands))
   pub pass : innerCommitted s ≡ false → PassFacts blocks m copies registers l x s (o .answers)
 
-abbrev pub PhaseFacts : ℕ → Memory → List ℕ → List ℕ → List Command → Operation → Phase → Type 0
+abbrev pub PhaseFacts : ℕ → Memory → List ℕ → List ℕ → List BodyCommand → Operation → Phase → Type 0
 PhaseFacts blocks m copies registers l o idle = Unit {0}
 PhaseFacts blocks m copies registers l o plain = Unit {0}
 PhaseFacts blocks m copies registers l o (reading r w s) = Unit {0}

@@ -7,7 +7,7 @@ use mathlib.Core.Option.{Option, none, some}
 use native.Mathlib.Omega.{arith}
 use lib.ListN.{length}
 use Rattle.model.specs.Lists.{at}
-use Rattle.model.specs.Command.{GET, PUT, Block, Command}
+use Rattle.model.specs.Command.{GET, PUT, Block, BodyCommand}
 use Rattle.model.specs.Word.{Word, Memory, Reading, loading, looking, fetching}
 use Rattle.model.specs.Exchange.{Entry}
 use Rattle.model.specs.Job.{Touched, untouched, remembered, copied, Transaction, Inner, between, first, copying, again, committing}
@@ -32,10 +32,10 @@ pub record Blocks (blocks used : ℕ) (ts : List Touched) : Type 0 where
   pub different : (b c v w k : ℕ) → at untouched ts b ≡ copied v k → at untouched ts c ≡ copied w k → b ≡ c
   pub most : used ≤ 4
 
-pub blocks-fit : {words blocks : ℕ} {copies : List ℕ} {l : List Command} {ps : List Entry} {x : Transaction} {s : Inner} → TransactionFit words blocks copies l ps x s → Blocks blocks (x .used) (x .blocks)
+pub blocks-fit : {words blocks : ℕ} {copies : List ℕ} {l : List BodyCommand} {ps : List Entry} {x : Transaction} {s : Inner} → TransactionFit words blocks copies l ps x s → Blocks blocks (x .used) (x .blocks)
 blocks-fit F = record { size = F .touched .size; below = F .touched .below; slot = F .touched .slot; different = F .touched .different; most = F .mostUsed }
 
-pub same-copy : (stores stores′ : List (List ℕ)) (copies values : List ℕ) (b : ℕ) (l : List Command) (t : Touched) (c : Option (List ℕ))
+pub same-copy : (stores stores′ : List (List ℕ)) (copies values : List ℕ) (b : ℕ) (l : List BodyCommand) (t : Touched) (c : Option (List ℕ))
     → ((v k : ℕ) → t ≡ copied v k → at [] stores′ (at 0 copies k) ≡ at [] stores (at 0 copies k)) → SameCopy stores copies values b l t c → SameCopy stores′ copies values b l t c
 same-copy stores stores′ copies values b l untouched none f h = tt
 same-copy stores stores′ copies values b l untouched (some vs) f h = h
@@ -45,7 +45,7 @@ same-copy stores stores′ copies values b l (copied v k) none f h = (h .0 ∙ s
 same-copy stores stores′ copies values b l (copied v k) (some vs) f h = h ∙ sym (f v k refl)
 
 module _ {blocks upto : ℕ} {m n : Memory} {copies : List ℕ} (A : Apart blocks upto m n copies) {used : ℕ} {ts : List Touched} (B : Blocks blocks used ts) where
-  pub beside-apart : used ≤ upto → {registers answers : List ℕ} {l : List Command} {bs : List Block} {q : Pass} → Beside (m .stores) copies registers answers ts l bs q → Beside (n .stores) copies registers answers ts l bs q
+  pub beside-apart : used ≤ upto → {registers answers : List ℕ} {l : List BodyCommand} {bs : List Block} {q : Pass} → Beside (m .stores) copies registers answers ts l bs q → Beside (n .stores) copies registers answers ts l bs q
   beside-apart le {l = l} {bs = bs} {q = q} S =
       record {
         sameRegisters = S .sameRegisters;
@@ -69,7 +69,7 @@ module _ {blocks upto : ℕ} {m n : Memory} {copies : List ℕ} (A : Apart block
     pub past-apart : (b : ℕ) → touched? (at untouched ts b) ≡ true → Past (bankIn n b) (rememberedOf (at untouched ts b))
     past-apart b t = past-change (past b t) (A .banks b)
 
-    pub way-apart : used ≤ upto → {registers answers kept : List ℕ} {l begun : List Command}
+    pub way-apart : used ≤ upto → {registers answers kept : List ℕ} {l begun : List BodyCommand}
         → ((bs : List Block) → Agrees blocks (bankIn m) (m .stores) ts bs → Way (m .stores) copies registers answers ts l kept begun bs)
         → (bs : List Block) → Agrees blocks (bankIn n) (n .stores) ts bs → Way (n .stores) copies registers answers ts l kept begun bs
     way-apart le w bs G = let y = w bs (agreed G) in record { pass = y .pass; beside = beside-apart le (y .beside); leads = y .leads }
@@ -97,7 +97,7 @@ module _ {blocks : ℕ} {m n : Memory} {copies : List ℕ} (A : Apart blocks 4 m
   reading-apart b (looking w) f h = rw (f w refl .value) (past-change h (A .banks b))
   reading-apart b (fetching w) f h = (rw (f w refl .value) (past-change (h .0) (A .banks b)), f w refl .counts ∙ h .1)
 
-  inner-apart : {words : ℕ} {l : List Command} {ps : List Entry} (s : Inner) → TransactionFit words blocks copies l ps x s → ((w : Word) → loadedBy (innerReading s) ≡ some w → SameContent m n w) → AtInner m copies x s → AtInner n copies x s
+  inner-apart : {words : ℕ} {l : List BodyCommand} {ps : List Entry} (s : Inner) → TransactionFit words blocks copies l ps x s → ((w : Word) → loadedBy (innerReading s) ≡ some w → SameContent m n w) → AtInner m copies x s → AtInner n copies x s
   inner-apart between F f h = tt
   inner-apart (first a r) F f h = reading-apart (blockOf a) r f h
   inner-apart (copying a k) F f h = let t = F .inner .first in copied-apart (blocks-fit F) (blockOf a) k (rw (t .read)) (t .left) h
@@ -105,7 +105,7 @@ module _ {blocks : ℕ} {m n : Memory} {copies : List ℕ} (A : Apart blocks 4 m
   inner-apart (again (PUT b o r) v s) F f h = let t = F .inner .again in copied-apart (blocks-fit F) b 8 (rw (t .read)) (t .left) h
   inner-apart (committing e) F f h = tt
 
-  pub pass-apart : {words : ℕ} {l : List Command} {ps : List Entry} {registers answers : List ℕ} (s : Inner) → TransactionFit words blocks copies l ps x s → ((w : Word) → loadedBy (innerReading s) ≡ some w → SameContent m n w)
+  pub pass-apart : {words : ℕ} {l : List BodyCommand} {ps : List Entry} {registers answers : List ℕ} (s : Inner) → TransactionFit words blocks copies l ps x s → ((w : Word) → loadedBy (innerReading s) ≡ some w → SameContent m n w)
       → PassFacts blocks m copies registers l x s answers → PassFacts blocks n copies registers l x s answers
   pass-apart s F f P =
       record {

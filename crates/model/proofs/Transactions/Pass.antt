@@ -9,7 +9,7 @@ use native.Mathlib.Omega.{arith}
 use lib.Dec.{eqb}
 use borrow.Author.Tests.{eqb-true}
 use Rattle.model.specs.Lists.{at}
-use Rattle.model.specs.Command.{Access, GET, PUT, Block, Command, WORD, BLOCK, TASK, RELEASE, END, LOAD, ADD, READ, PAIR, SWAP, BEGIN, access, COMMIT}
+use Rattle.model.specs.Command.{Access, GET, PUT, Block, access, COMMIT, BodyCommand, LOAD, ADD, outside, inside}
 use Rattle.model.specs.Word.{Memory, cellOf, stored, saved, setStored, own, currentOf, Reading, loading, looking, fetching, Read, reads, gives, readTick, lookingBy}
 use Rattle.model.specs.Exchange.{Entry, exchangeOf}
 use Rattle.model.specs.Job.{Touched, untouched, remembered, copied, Transaction, Inner, between, first, copying, again, committing, transacting, Task, Turn, turn, rest, doneBy, Deed, nothingDone}
@@ -48,19 +48,19 @@ pub same-memory : {blocks : ℕ} {m : Memory} {t t′ : Task} {d : Deed} {o : Op
 same-memory F e = record { facts = F; cells = λ c. refl; slots = e; stores = λ i n. refl }
 
 -- a command that ends outside a transaction
-pub done-facts : (blocks : ℕ) (m : Memory) (l : List Command) (t : Task) (rs : List ℕ) (ps : List Entry) (cs : List ℕ) (o : Operation) → TaskFacts blocks m (doneBy l t rs ps cs) o
+pub done-facts : (blocks : ℕ) (m : Memory) (l : List BodyCommand) (t : Task) (rs : List ℕ) (ps : List Entry) (cs : List ℕ) (o : Operation) → TaskFacts blocks m (doneBy l t rs ps cs) o
 unfolding doneBy
 done-facts blocks m [] t rs ps cs o = tt
 done-facts blocks m (c ∷ l) t rs ps cs o = tt
 
-pub done-slots : (l : List Command) (t : Task) (rs : List ℕ) (ps : List Entry) (cs : List ℕ) → slotsOf (doneBy l t rs ps cs) ≡ cs
+pub done-slots : (l : List BodyCommand) (t : Task) (rs : List ℕ) (ps : List Entry) (cs : List ℕ) → slotsOf (doneBy l t rs ps cs) ≡ cs
 unfolding doneBy
 done-slots [] t rs ps cs = refl
 done-slots (c ∷ l) t rs ps cs = refl
 
 -- the first copy tick of a PUT finds a copy slot left
-abbrev pub PutRoom : Transaction → List Command → Type 0
-PutRoom x l = (b o r v : ℕ) (others : List Command) → l ≡ access (PUT b o r) ∷ others → touchedOf x b ≡ remembered v → x .used < 4
+abbrev pub PutRoom : Transaction → List BodyCommand → Type 0
+PutRoom x l = (b o r v : ℕ) (others : List BodyCommand) → l ≡ inside (access (PUT b o r)) ∷ others → touchedOf x b ≡ remembered v → x .used < 4
 
 -- THE SITUATION of a statement of task t in a pass
 pub record PassSituation (words blocks : ℕ) (m : Memory) (t : Task) (x : Transaction) (s : Inner) (o : Operation) : Type 0 where
@@ -110,18 +110,18 @@ module _ {words blocks : ℕ} {m : Memory} {t : Task} {x : Transaction} {s : Inn
       go false e = goes-on (copying (PUT b c r) (suc n)) refl (λ f. f)
 
   -- the second reading has ended: GET or PUT goes on, or the transaction restarts
-  check-turned : (p now : ℕ) (a : Access) (v : ℕ) {others : List Command} → t .job .commands ≡ access a ∷ others → Ready m (t .copies) x a v → AgainFit a x → (z : Bool)
+  check-turned : (p now : ℕ) (a : Access) (v : ℕ) {others : List BodyCommand} → t .job .commands ≡ inside (access a) ∷ others → Ready m (t .copies) x a v → AgainFit a x → (z : Bool)
       → Turned blocks m t (checkBy z m t x a v) (operationAfter p (eventOf now (checkBy z m t x a v .did)) o)
   unfolding checkBy eventOf
   check-turned p now (GET r b c) v {others} l h A true =
-      same-memory (record { arguments = S .arguments; pass = λ _. rw l (got-done r b c v others h (subst (λ (y : List Command). PassFacts blocks m (t .copies) (t .job .registers) y x s (o .answers)) l (S .pass))) }) refl
+      same-memory (record { arguments = S .arguments; pass = λ _. rw l (got-done r b c v others h (subst (λ (y : List BodyCommand). PassFacts blocks m (t .copies) (t .job .registers) y x s (o .answers)) l (S .pass))) }) refl
   check-turned p now (PUT b c r) v {others} l h A true =
       let e : rememberedOf (touchedOf x b) ≡ A .value = rw (A .read) in
       let below : b < blocks = S .fit .touched .below b (rw (A .read)) in
       same-memory (record { arguments = S .arguments; pass = λ _. rw e (copies-all b (rw (S .fit .touched .size) (omega (arith, S .most))) (S .pass) (S .memory) (S .apart) (A .value) (A .read) below (A .left) h (record { offset = c; register = r; others = others; commands = l })) }) refl
   check-turned p now a v l h A false = restart-turned
 
-  again-turned : (p now : ℕ) (a : Access) (v : ℕ) {others : List Command} → t .job .commands ≡ access a ∷ others → Ready m (t .copies) x a v → AgainFit a x → (y : Read)
+  again-turned : (p now : ℕ) (a : Access) (v : ℕ) {others : List BodyCommand} → t .job .commands ≡ inside (access a) ∷ others → Ready m (t .copies) x a v → AgainFit a x → (y : Read)
       → Turned blocks m t (againRead m t x a v y) (operationAfter p (eventOf now (againRead m t x a v y .did)) o)
   unfolding againRead eventOf
   again-turned p now a v l h A (reads r) = stays-turned (again a v r) refl h
@@ -139,7 +139,7 @@ module _ {words blocks : ℕ} {m : Memory} {t : Task} {x : Transaction} {s : Inn
   first-turned a (fetching w) u lt h = remembers-turned a (saved (m .saves) (w .task) (w .count)) u lt (rw (current-other (m .status) (m .saves) w (h .1)) at (h .0))
 
   -- GET and PUT, by what the block is so far
-  access-turned : (a : Access) {others : List Command} → t .job .commands ≡ access a ∷ others → PutRoom x (t .job .commands) → (y : Touched) → touchedOf x (blockOf a) ≡ y → Turned blocks m t (accessTick m t x a y) o
+  access-turned : (a : Access) {others : List BodyCommand} → t .job .commands ≡ inside (access a) ∷ others → PutRoom x (t .job .commands) → (y : Touched) → touchedOf x (blockOf a) ≡ y → Turned blocks m t (accessTick m t x a y) o
   unfolding accessTick firstRead readTick
   access-turned a l room untouched e = stays-turned (first a (looking (cellOf m (bank (blockOf a))))) refl (now-past (bankIn m (blockOf a)))
   access-turned (GET r b c) l room (remembered v) e = stays-turned (again (GET r b c) (stored (m .stores) (storeOf v) c) loading) refl (rw e (λ _. refl))
@@ -148,7 +148,7 @@ module _ {words blocks : ℕ} {m : Memory} {t : Task} {x : Transaction} {s : Inn
   access-turned (PUT b c r) {others} l room (copied v k) e =
       let B = blocks-fit (S .fit) in
       record {
-        facts = record { arguments = S .arguments; pass = λ _. rw l (writes x (S .memory) (S .apart) B b c r v k (B .below b (rw e)) e (subst (λ (y : List Command). PassFacts blocks m (t .copies) (t .job .registers) y x s (o .answers)) l (S .pass))) };
+        facts = record { arguments = S .arguments; pass = λ _. rw l (writes x (S .memory) (S .apart) B b c r v k (B .below b (rw e)) e (subst (λ (y : List BodyCommand). PassFacts blocks m (t .copies) (t .job .registers) y x s (o .answers)) l (S .pass))) };
         cells = λ i. refl;
         slots = refl;
         stores = λ i ne. replace-other [] (m .stores) (at 0 (t .copies) k) i _ (ne k (omega (arith, B .slot b v k e, B .most)));
@@ -165,10 +165,10 @@ module _ {words blocks : ℕ} {m : Memory} {t : Task} {x : Transaction} {s : Inn
   nothing-turned : {d : Deed} → innerCommitted s ≡ false → Turned blocks m t (turn m t d) o
   nothing-turned y = same-memory (rw (S .phase) (record { arguments = S .arguments; pass = λ _. S .pass })) (rw (S .phase, y))
 
-  computed-turned : (c : Command) (rs : List ℕ) (l : List Command) → t .job .commands ≡ c ∷ l → ((b : ℕ) → PutAtWork b (c ∷ l) → ⊥) → untilCommit (c ∷ l) ≡ c ∷ untilCommit l
+  computed-turned : (c : BodyCommand) (rs : List ℕ) (l : List BodyCommand) → t .job .commands ≡ c ∷ l → ((b : ℕ) → PutAtWork b (c ∷ l) → ⊥) → untilCommit (c ∷ l) ≡ c ∷ untilCommit l
       → ((bs : List Block) (q : Plain) → q .registers ≡ t .job .registers → passBy bs q c ≡ computes q rs) → Turned blocks m t (turn m (goesOn t rs x) nothingDone) o
   computed-turned c rs l e np u f =
-      same-memory (record { arguments = S .arguments; pass = λ _. rw e (computed c l rs np u f (subst (λ (y : List Command). PassFacts blocks m (t .copies) (t .job .registers) y x s (o .answers)) e (S .pass))) }) refl
+      same-memory (record { arguments = S .arguments; pass = λ _. rw e (computed c l rs np u f (subst (λ (y : List BodyCommand). PassFacts blocks m (t .copies) (t .job .registers) y x s (o .answers)) e (S .pass))) }) refl
 
   -- what GET and PUT do before their second reading means nothing for the operation
   first-quiet : (a : Access) (y : Read) → firstRead m t x a y .did ≡ nothingDone
@@ -196,33 +196,25 @@ module _ {words blocks : ℕ} {m : Memory} {t : Task} {x : Transaction} {s : Inn
   unfolding eventOf
   quietly p now u e T = subst (λ (d : Deed). Turned blocks m t u (operationAfter p (eventOf now d) o)) (sym e) T
 
-  command-turned : (p now : ℕ) (l : List Command) → innerCommitted s ≡ false → t .job .commands ≡ l → PutRoom x (t .job .commands) → Turned blocks m t (commandTick m t x l) (operationAfter p (eventOf now (commandTick m t x l .did)) o)
+  command-turned : (p now : ℕ) (l : List BodyCommand) → innerCommitted s ≡ false → t .job .commands ≡ l → PutRoom x (t .job .commands) → Turned blocks m t (commandTick m t x l) (operationAfter p (eventOf now (commandTick m t x l .did)) o)
   unfolding commandTick eventOf passBy untilCommit
   command-turned p now [] y e room = nothing-turned y
   command-turned p now (LOAD r v ∷ l) y e room = computed-turned (LOAD r v) (loaded (t .job .registers) r v) l e (λ b w. impossible (cc (w .commands))) refl (λ bs q h. rw h)
   command-turned p now (ADD r k ∷ l) y e room = computed-turned (ADD r k) (added (t .job .registers) r k) l e (λ b w. impossible (cc (w .commands))) refl (λ bs q h. rw h)
-  command-turned p now (access a ∷ l) y e room =
+  command-turned p now (inside (access a) ∷ l) y e room =
       quietly p now _ (access-quiet a (touchedOf x (blockOf a))) (access-turned a e room (touchedOf x (blockOf a)) refl)
-  command-turned p now (COMMIT ∷ l) y e room = commit-turned p now (nothing? (x .blocks)) (spent? (x .blocks))
-  command-turned p now (READ r w ∷ l) y e room = nothing-turned y
-  command-turned p now (PAIR w a b ∷ l) y e room = nothing-turned y
-  command-turned p now (SWAP r ∷ l) y e room = nothing-turned y
-  command-turned p now (BEGIN ∷ l) y e room = nothing-turned y
-  command-turned p now (WORD v ∷ l) y e room = nothing-turned y
-  command-turned p now (BLOCK b ∷ l) y e room = nothing-turned y
-  command-turned p now (TASK ∷ l) y e room = nothing-turned y
-  command-turned p now (RELEASE r ∷ l) y e room = nothing-turned y
-  command-turned p now (END ∷ l) y e room = nothing-turned y
+  command-turned p now (inside COMMIT ∷ l) y e room = commit-turned p now (nothing? (x .blocks)) (spent? (x .blocks))
+  command-turned p now (outside c ∷ l) y e room = nothing-turned y
 
 -- EVERY STATEMENT OUTSIDE THE EXCHANGE
-abbrev pub Outside : Transaction → List Command → Inner → Type 0
-Outside x l between = PutRoom x l
-Outside x l (first a r) = Unit {0}
-Outside x l (copying a n) = Unit {0}
-Outside x l (again a v r) = Unit {0}
-Outside x l (committing e) = ⊥
+abbrev pub BeforeExchange : Transaction → List BodyCommand → Inner → Type 0
+BeforeExchange x l between = PutRoom x l
+BeforeExchange x l (first a r) = Unit {0}
+BeforeExchange x l (copying a n) = Unit {0}
+BeforeExchange x l (again a v r) = Unit {0}
+BeforeExchange x l (committing e) = ⊥
 
-pub pass-turned : {words blocks : ℕ} {m : Memory} {t : Task} {x : Transaction} {o : Operation} (p now : ℕ) (s : Inner) → Outside x (t .job .commands) s → PassSituation words blocks m t x s o
+pub pass-turned : {words blocks : ℕ} {m : Memory} {t : Task} {x : Transaction} {o : Operation} (p now : ℕ) (s : Inner) → BeforeExchange x (t .job .commands) s → PassSituation words blocks m t x s o
     → Turned blocks m t (transactionTick p m t x s) (operationAfter p (eventOf now (transactionTick p m t x s .did)) o)
 unfolding transactionTick eventOf
 pass-turned {t = t} p now between room S = command-turned S p now (t .job .commands) refl refl room

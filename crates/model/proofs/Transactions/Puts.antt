@@ -8,7 +8,7 @@ use mathlib.Core.Option.{Option, none, some}
 use native.Mathlib.Omega.{arith}
 use lib.ListN.{length}
 use Rattle.model.specs.Lists.{at, replace}
-use Rattle.model.specs.Command.{PUT, Block, Command, access}
+use Rattle.model.specs.Command.{PUT, Block, access, BodyCommand, inside}
 use Rattle.model.specs.Word.{Memory, stored, setStored}
 use Rattle.model.specs.Job.{Touched, untouched, remembered, copied, Transaction, Inner, between}
 use Rattle.model.specs.Transaction.{storeOf, rememberedOf, touchedOf, touch}
@@ -39,11 +39,11 @@ one-more stores i j n li ln h e o lt = rw (e, replace-same [] stores i (replace 
     (λ q. rw (q, replace-same 0 (at [] stores i) n (stored stores j n) ln))
     (λ ne. replace-other 0 (at [] stores i) n o (stored stores j n) ne ∙ h o (omega arith)))
 
-only-read : (stores : List (List ℕ)) (copies values : List ℕ) (b v : ℕ) (l : List Command) (c : Option (List ℕ)) → SameCopy stores copies values b l untouched c → SameCopy stores copies values b l (remembered v) c
+only-read : (stores : List (List ℕ)) (copies values : List ℕ) (b v : ℕ) (l : List BodyCommand) (c : Option (List ℕ)) → SameCopy stores copies values b l untouched c → SameCopy stores copies values b l (remembered v) c
 only-read stores copies values b v l none h = tt
 only-read stores copies values b v l (some vs) h = h
 
-module _ {blocks : ℕ} {m : Memory} {copies registers answers : List ℕ} {l : List Command} {x : Transaction} {s : Inner} (b : ℕ) (size : b < length (x .blocks)) (P : PassFacts blocks m copies registers l x s answers) where
+module _ {blocks : ℕ} {m : Memory} {copies registers answers : List ℕ} {l : List BodyCommand} {x : Transaction} {s : Inner} (b : ℕ) (size : b < length (x .blocks)) (P : PassFacts blocks m copies registers l x s answers) where
   module _ (t : Touched) where
     here : at untouched (replace (x .blocks) b t) b ≡ t
     here = replace-same untouched (x .blocks) b t size
@@ -126,7 +126,7 @@ module _ {blocks : ℕ} {m : Memory} {copies registers answers : List ℕ} {l : 
 
 module _ {blocks : ℕ} {m : Memory} {copies registers answers : List ℕ} (x : Transaction) (M : MemoryFit m) (D : SlotsApart blocks m copies) (B : Blocks blocks (x .used) (x .blocks)) where
   -- one more value is copied
-  pub copies-one : {l : List Command} {s : Inner} (b n : ℕ) (s′ : Inner) → touched? (touchedOf x b) ≡ true → x .used < 4 → n < 8 → CopiedTo m copies x b n
+  pub copies-one : {l : List BodyCommand} {s : Inner} (b n : ℕ) (s′ : Inner) → touched? (touchedOf x b) ≡ true → x .used < 4 → n < 8 → CopiedTo m copies x b n
       → (CopiedTo (setStored m (at 0 copies (x .used)) n (stored (m .stores) (storeOf (rememberedOf (touchedOf x b))) n)) copies x b (suc n) → AtInner (setStored m (at 0 copies (x .used)) n (stored (m .stores) (storeOf (rememberedOf (touchedOf x b))) n)) copies x s′)
       → PassFacts blocks m copies registers l x s answers
       → PassFacts blocks (setStored m (at 0 copies (x .used)) n (stored (m .stores) (storeOf (rememberedOf (touchedOf x b))) n)) copies registers l x s′ answers
@@ -139,8 +139,8 @@ module _ {blocks : ℕ} {m : Memory} {copies registers answers : List ℕ} (x : 
       }
 
   -- a PUT writes into its block's copy
-  module _ {l : List Command} (b o r v k : ℕ) (u : touchedOf x b ≡ copied v k) (k4 : k < 4) where
-    put : (bs : List Block) (q : Pass) → b < length bs → Beside (m .stores) copies registers answers (x .blocks) (access (PUT b o r) ∷ l) bs q
+  module _ {l : List BodyCommand} (b o r v k : ℕ) (u : touchedOf x b ≡ copied v k) (k4 : k < 4) where
+    put : (bs : List Block) (q : Pass) → b < length bs → Beside (m .stores) copies registers answers (x .blocks) (inside (access (PUT b o r)) ∷ l) bs q
         → Beside (replace (m .stores) (at 0 copies k) (replace (at [] (m .stores) (at 0 copies k)) o (at 0 registers r))) copies registers answers (x .blocks) l bs (puts q b (replace (valuesOf bs q b) o (at 0 (q .registers) r)))
     put bs q size S =
         let vs : List ℕ = replace (valuesOf bs q b) o (at 0 (q .registers) r) in
@@ -155,7 +155,7 @@ module _ {blocks : ℕ} {m : Memory} {copies registers answers : List ℕ} (x : 
       where
         mine : replace (valuesOf bs q b) o (at 0 (q .registers) r) ≡ at [] (replace (m .stores) (at 0 copies k) (replace (at [] (m .stores) (at 0 copies k)) o (at 0 registers r))) (at 0 copies k)
         mine =
-            let e : valuesOf bs q b ≡ at [] (m .stores) (at 0 copies k) = held (m .stores) copies (access (PUT b o r) ∷ l) (at noBlock bs b) b v k (at none (q .copies) b) (subst (λ (z : Touched). SameCopy (m .stores) copies (at noBlock bs b .values) b (access (PUT b o r) ∷ l) z (at none (q .copies) b)) u (S .sameCopies b)) in
+            let e : valuesOf bs q b ≡ at [] (m .stores) (at 0 copies k) = held (m .stores) copies (inside (access (PUT b o r)) ∷ l) (at noBlock bs b) b v k (at none (q .copies) b) (subst (λ (z : Touched). SameCopy (m .stores) copies (at noBlock bs b .values) b (inside (access (PUT b o r)) ∷ l) z (at none (q .copies) b)) u (S .sameCopies b)) in
             rw (replace-same [] (m .stores) (at 0 copies k) (replace (at [] (m .stores) (at 0 copies k)) o (at 0 registers r)) (rw (M .stores) (D .below k k4)), e, S .sameRegisters)
 
         theirs : (c : ℕ) → c ≢ b → SameCopy (replace (m .stores) (at 0 copies k) (replace (at [] (m .stores) (at 0 copies k)) o (at 0 registers r))) copies (at noBlock bs c .values) c l (at untouched (x .blocks) c) (at none (q .copies) c)
@@ -164,9 +164,9 @@ module _ {blocks : ℕ} {m : Memory} {copies registers answers : List ℕ} (x : 
             (λ w j e. replace-other [] (m .stores) (at 0 copies k) (at 0 copies j) _ (λ z.
             let y : j ≡ k = D .different j k (omega (arith, B .slot c w j e, B .most)) k4 z in
             ne (B .different c b w v k (rw y at e) u)))
-            (copy-onward (m .stores) copies (at noBlock bs c .values) c (access (PUT b o r) ∷ l) l (at untouched (x .blocks) c) (at none (q .copies) c) (λ p. ne (let y : b ≡ c = cc (p .commands) in sym y)) (S .sameCopies c))
+            (copy-onward (m .stores) copies (at noBlock bs c .values) c (inside (access (PUT b o r)) ∷ l) l (at untouched (x .blocks) c) (at none (q .copies) c) (λ p. ne (let y : b ≡ c = cc (p .commands) in sym y)) (S .sameCopies c))
 
-  pub writes : {l : List Command} {s : Inner} (b o r v k : ℕ) → b < blocks → touchedOf x b ≡ copied v k → PassFacts blocks m copies registers (access (PUT b o r) ∷ l) x s answers
+  pub writes : {l : List BodyCommand} {s : Inner} (b o r v k : ℕ) → b < blocks → touchedOf x b ≡ copied v k → PassFacts blocks m copies registers (inside (access (PUT b o r)) ∷ l) x s answers
       → PassFacts blocks (setStored m (at 0 copies k) o (at 0 registers r)) copies registers l x between answers
   unfolding passed passBy untilCommit
   writes {l} b o r v k lt u P =
@@ -174,6 +174,6 @@ module _ {blocks : ℕ} {m : Memory} {copies registers answers : List ℕ} (x : 
       let A = written-apart D k k4 o (at 0 registers r) in
       record {
         past = P .past;
-        way = λ bs G. let w = P .way bs (agreed A B (P .past) G) in record { pass = passBy bs (w .pass) (access (PUT b o r)); beside = put b o r v k u k4 bs (w .pass) (rw (G .size) lt) (w .beside); leads = w .leads };
+        way = λ bs G. let w = P .way bs (agreed A B (P .past) G) in record { pass = passBy bs (w .pass) (inside (access (PUT b o r))); beside = put b o r v k u k4 bs (w .pass) (rw (G .size) lt) (w .beside); leads = w .leads };
         inner = tt;
       }

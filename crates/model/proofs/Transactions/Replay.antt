@@ -5,7 +5,7 @@ use mathlib.Core.Path.{_≡_, refl}
 use mathlib.Core.List.{List, _∷_}
 use native.Mathlib.Omega.{arith}
 use lib.ListN.{length}
-use Rattle.model.specs.Command.{Command, COMMIT}
+use Rattle.model.specs.Command.{COMMIT, BodyCommand, inside}
 use Rattle.model.specs.Sheet.{Sheet}
 use Rattle.model.specs.Word.{Memory, currentOf}
 use Rattle.model.specs.Exchange.{Exchange}
@@ -60,7 +60,7 @@ module _ (s : Sheet) {tasks p : ℕ} {m : Memory} {ts : List Task} {operations :
       go (commits y C e f) = rw (C .arguments) (commits-whole s (R .fewWords) (C .blocksFit) (C .pass) (C .left) (C .cells) (small (R .declared) (R .invariant .owners) C e))
 
   -- COMMIT with nothing touched
-  pub nothing-replays : (x : Transaction) (l : List Command) → taskAt ts p .job .phase ≡ transacting x between → taskAt ts p .job .commands ≡ COMMIT ∷ l → nothing? (x .blocks) ≡ true
+  pub nothing-replays : (x : Transaction) (l : List BodyCommand) → taskAt ts p .job .phase ≡ transacting x between → taskAt ts p .job .commands ≡ inside COMMIT ∷ l → nothing? (x .blocks) ≡ true
       → plainly (operations p .arguments) (contentsOf s m) ≡ result (contentsOf s m) (operations p .answers)
   unfolding untilCommit
   nothing-replays x l e c h =

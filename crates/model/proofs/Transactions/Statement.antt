@@ -7,7 +7,7 @@ use mathlib.Core.Option.{none}
 use native.Mathlib.Omega.{arith}
 use lib.ListN.{length}
 use Rattle.model.specs.Lists.{at, replace}
-use Rattle.model.specs.Command.{PUT, Command, WORD, BLOCK, TASK, RELEASE, END, LOAD, ADD, READ, PAIR, SWAP, BEGIN, access, COMMIT}
+use Rattle.model.specs.Command.{PUT, READ, PAIR, SWAP, BEGIN, BodyCommand, LOAD, ADD, outside, inside}
 use Rattle.model.specs.Word.{Memory, currentOf, loading, Read, reads, gives, readTick}
 use Rattle.model.specs.Exchange.{Entry, entry, exchangeOf, start, Exchange, Exchanged, goes, ends, exchangeTick}
 use Rattle.model.specs.Job.{Transaction, Inner, between, first, copying, again, committing, Phase, idle, plain, reading, exchanging, transacting, Task, turn, rest, done, Deed, Turn}
@@ -27,7 +27,7 @@ use Rattle.model.proofs.Transactions.Facts.{bankIn, slotsOf, transactio
 use Rattle.model.proofs.Transactions.Given.{exchangeIn, Swapped, Cells, same, swapped}
 use Rattle.model.proofs.Transactions.Steps.{SlotsApart}
 use Rattle.model.proofs.Transactions.Steps.{begins as begins-pass}
-use Rattle.model.proofs.Transactions.Pass.{operationAfter, done-facts, done-slots, PutRoom, Outside, pass-turned}
+use Rattle.model.proofs.Transactions.Pass.{operationAfter, done-facts, done-slots, PutRoom, BeforeExchange, pass-turned}
 use Rattle.model.proofs.Transactions.Exchange.{Seen, goes-on, says-yes, says-yes-last, over, seen}
 use Rattle.model.proofs.Transactions.Committing.{TransactionYes, quiet, Stated, committing-stated}
 
@@ -83,22 +83,16 @@ module _ {blocks p : ℕ} {m : Memory} {t : Task} {o : Operation} (own : slotsOf
   begun-stated : {u : Turn} {a : Arguments} {o′ : Operation} → Stated blocks p m t o u o′ → Stated blocks p m t o (beginning a u) o′
   begun-stated k = record { facts = k .facts; effect = k .effect; stores = k .stores }
 
-  command-stated : (now : ℕ) (l : List Command) → t .job .phase ≡ plain → Cells p m plain (plainTick p m t l .memory) → Stated blocks p m t o (plainTick p m t l) (operationAfter p (eventOf now (plainTick p m t l .did)) o)
+  command-stated : (now : ℕ) (l : List BodyCommand) → t .job .phase ≡ plain → Cells p m plain (plainTick p m t l .memory) → Stated blocks p m t o (plainTick p m t l) (operationAfter p (eventOf now (plainTick p m t l .did)) o)
   unfolding plainTick eventOf readTick exchangeTick swapBy
   command-stated now [] e c = idle-stated (rw e tt)
   command-stated now (LOAD r v ∷ l) e c = done-stated own plainly (loaded (t .job .registers) r v) (t .job .pairs) (λ b. refl) refl
   command-stated now (ADD r q ∷ l) e c = done-stated own plainly (added (t .job .registers) r q) (t .job .pairs) (λ b. refl) refl
-  command-stated now (READ r w ∷ l) e c = begun-stated (read-stated own plainly r w (readTick m w loading))
-  command-stated now (PAIR w a b ∷ l) e c = done-stated own plainly (t .job .registers) (t .job .pairs ++ (entry w (at 0 (t .job .registers) a) (at 0 (t .job .registers) b) ∷ [])) (λ b. refl) refl
-  command-stated now (SWAP r ∷ l) e c = begun-stated (swap-stated own plainly r (exchangeOf (t .job .pairs)) (exchangeTick p m (exchangeOf (t .job .pairs)) start) (λ b. no-exchange refl c (bank b)) refl)
-  command-stated now (BEGIN ∷ l) e c = quiet-stated plainly (record { arguments = refl; pass = λ _. begins-pass blocks m (t .copies) (t .job .registers) l }) (λ b. refl) (sym own) refl
-  command-stated now (access a ∷ l) e c = idle-stated (rw e tt)
-  command-stated now (COMMIT ∷ l) e c = idle-stated (rw e tt)
-  command-stated now (WORD v ∷ l) e c = idle-stated (rw e tt)
-  command-stated now (BLOCK b ∷ l) e c = idle-stated (rw e tt)
-  command-stated now (TASK ∷ l) e c = idle-stated (rw e tt)
-  command-stated now (RELEASE r ∷ l) e c = idle-stated (rw e tt)
-  command-stated now (END ∷ l) e c = idle-stated (rw e tt)
+  command-stated now (outside (READ r w) ∷ l) e c = begun-stated (read-stated own plainly r w (readTick m w loading))
+  command-stated now (outside (PAIR w a b) ∷ l) e c = done-stated own plainly (t .job .registers) (t .job .pairs ++ (entry w (at 0 (t .job .registers) a) (at 0 (t .job .registers) b) ∷ [])) (λ b. refl) refl
+  command-stated now (outside (SWAP r) ∷ l) e c = begun-stated (swap-stated own plainly r (exchangeOf (t .job .pairs)) (exchangeTick p m (exchangeOf (t .job .pairs)) start) (λ b. no-exchange refl c (bank b)) refl)
+  command-stated now (outside BEGIN ∷ l) e c = quiet-stated plainly (record { arguments = refl; pass = λ _. begins-pass blocks m (t .copies) (t .job .registers) l }) (λ b. refl) (sym own) refl
+  command-stated now (inside i ∷ l) e c = idle-stated (rw e tt)
 
 abbrev pub JobFit : ℕ → ℕ → Task → Type 0
 JobFit words blocks t = PhaseFit words blocks (t .copies) (t .job .commands) (t .job .pairs) (t .job .phase)
@@ -124,7 +118,7 @@ pub record TaskSituation (words blocks p : ℕ) (m : Memory) (t : Task) (o : Ope
   pub apart : slotsOf t ≡ t .copies → SlotsApart blocks m (t .copies)
 
 module _ {words blocks p : ℕ} {m : Memory} {t : Task} {o : Operation} (S : TaskSituation words blocks p m t o) (now : ℕ) where
-  pass-stated : (x : Transaction) (s : Inner) → t .job .phase ≡ transacting x s → Outside x (t .job .commands) s → innerCommitted s ≡ false
+  pass-stated : (x : Transaction) (s : Inner) → t .job .phase ≡ transacting x s → BeforeExchange x (t .job .commands) s → innerCommitted s ≡ false
       → Stated blocks p m t o (transactionTick p m t x s) (operationAfter p (eventOf now (transactionTick p m t x s .did)) o)
   pass-stated x s e out ny =
       let own : slotsOf t ≡ t .copies = rw (e, ny) in
@@ -134,7 +128,7 @@ module _ {words blocks p : ℕ} {m : Memory} {t : Task} {o : Operation} (S : Tas
       record { facts = T .facts; effect = quiet (λ Y. outside Y) (λ b. T .cells (bank b)) (T .slots ∙ sym own); stores = λ i ne. T .stores i (rw own at ne) }
     where
       outside : TransactionYes p m t → ⊥
-      outside Y = let z : s ≡ committing (Y .exchange) = cc (e, Y .phase) in subst (λ (i : Inner). Outside x (t .job .commands) i) z out
+      outside Y = let z : s ≡ committing (Y .exchange) = cc (e, Y .phase) in subst (λ (i : Inner). BeforeExchange x (t .job .commands) i) z out
 
   pub phase-stated : (f : Phase) → t .job .phase ≡ f → JobFit words blocks (statement p m t f .task) → Cells p m f (statement p m t f .memory) → Stated blocks p m t o (statement p m t f) (operationAfter p (eventOf now (statement p m t f .did)) o)
   unfolding statement eventOf
