@@ -15,5 +15,3 @@ pub mod Commit
 -- the T line's ticks
 pub mod Used
 pub mod Theorem
--- by computation
-pub mod Example
