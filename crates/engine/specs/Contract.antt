@@ -1,4 +1,4 @@
--- The contracts of the two public entries: number, place and buffer, each by an equation with the model's answer, and the claim.
+-- The contracts of the two public entries: number, place and buffer, each by an equation with the model's answer, the claim, and the rates.
 use Prim.Native.Nat.{ℕ}
 use mathlib.Core.Path.{_≡_}
 use mathlib.Core.List.{List}
@@ -6,6 +6,7 @@ use Rattle.model.specs.Refusal as R
 use Rattle.model.specs.Sheet.{verdict, accepted}
 use Rattle.model.specs.Answer.{checkAnswer, runAnswer}
 use Rattle.model.specs.Claim.{WholeOperations}
+use Rattle.model.specs.Rates.{Rates}
 use Rattle.commands.specs.View.{viewRefusal}
 use Rattle.commands.specs.declared.Fault.{Fault}
 use Rattle.engine.specs.declared.Answer.{Answer}
@@ -31,6 +32,8 @@ pub record RunsFor (sheet : List ℕ) (limit : ℕ) (before after : List ℕ) (n
   pub buffer : after ≡ runAnswer sheet limit before .buffer
   -- demand 3, of the same sheet and limit
   pub whole : verdict sheet ≡ accepted → WholeOperations sheet limit
+  -- how many ticks of its own each operation takes at most
+  pub rates : verdict sheet ≡ accepted → Rates sheet limit
 
 abbrev pub Runs : List ℕ → ℕ → List ℕ → List ℕ → Answer → Type 0
 Runs sheet limit before after r = RunsFor sheet limit before after (r .number) (r .place)

@@ -2,11 +2,12 @@ pub mod Ends
 pub mod Lists
 -- the decimal numbers of a report
 pub mod Decimal
--- two tables proved by computation: demand 3 on small runs, document 01's figures
+-- by computation: demand 3 on small runs, document 01's figures, runs in which the bounds of the rates are reached
 pub mod Bytes
 pub mod Sheets
 pub mod WholeCases
 pub mod Cases
+pub mod Bounds
 -- well formed machines
 pub mod Fit
 -- demand 3 (`demand-3` in Run/Theorem.antt): exchanges, transactions, history and order, and how they join

@@ -1,5 +1,5 @@
--- The rates of every run of an accepted sheet (`rates` in Theorem.antt): a READ that ends takes 2 or 3 ticks of its own, an exchange of k words
--- at most 9k + 4, and one that the limit cuts short has done fewer. Whole/Rates has the bounds of one reading and one exchange, which use of
+-- The rates of every run of an accepted sheet (`rates` in Theorem.antt): a reading that ends takes 2 or 3 ticks of its own, an exchange of k
+-- words at most 9k + 4, and one that the limit cuts short has done fewer. Whole/Rates has the bounds of one reading and one exchange, which use of
 -- the other tasks only that a status 1 stays 1; here they are taken to the operations of a run.
 -- ticks of its own, one tick at a time; the machine in tick u; a status 1 stays 1
 pub mod Own
@@ -9,10 +9,9 @@ pub mod Timely
 pub mod Ended
 pub mod Open
 pub mod Run
--- the exchange of a COMMIT, which is no operation of its own
+-- the reading of a bank word and the exchange of a COMMIT, which are no operations of their own
+pub mod Bank
 pub mod Commit
 -- the T line's ticks
 pub mod Used
 pub mod Theorem
--- by computation
-pub mod Example

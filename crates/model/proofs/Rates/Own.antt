@@ -10,7 +10,7 @@ use borrow.Author.Tests.{le-leb, lt-leb, eq-eqb, ne-eqb}
 use Rattle.model.specs.Command.{Release}
 use Rattle.model.specs.Job.{Task}
 use Rattle.model.specs.Machine.{Machine, Running, nobody, running, runningOf, moveAny, move, tick, over, noneToCome, nobody?, runBy, run, arrive, enter}
-use Rattle.model.specs.Rates.{inTick, runningIn, isTask, oneIf, ownBefore}
+use Rattle.model.specs.Rates.{inTick, runningIn, isTask, oneIf, onlyIf, sumBefore, ownBefore}
 use Rattle.model.proofs.Lists.{test?}
 use Rattle.model.proofs.Fit.Elements.{and-left, and-right}
 use Rattle.model.proofs.Fit.Running.{busy, running-foremost, nobody-none, none-nobody}
@@ -20,21 +20,34 @@ use Rattle.model.proofs.Order.Steps.{stateAfter, arrivedAt}
 pub other-task : {p q : ℕ} (r : Running) → q ≢ p → r ≡ running p → isTask q r ≡ false
 other-task {p} {q} r ne e = rw e (ne-eqb p q (λ z. ne (sym z)))
 
+-- a sum over ticks, one tick at a time
+module _ (f : ℕ → ℕ) (a : ℕ) where
+  pub sum-none : (n : ℕ) → n ≤ a → sumBefore f a n ≡ 0
+  unfolding sumBefore
+  sum-none zero l = refl
+  sum-none (suc n) l = rw (lt-leb a n (omega arith), sum-none n (omega arith)) refl
+
+  pub sum-next : (n : ℕ) → a ≤ n → sumBefore f a (suc n) ≡ sumBefore f a n + f n
+  unfolding sumBefore
+  sum-next n l = rw (le-leb a n l) refl
+
 module _ (who : ℕ → Running) (p a : ℕ) where
+  abbrev own : ℕ → ℕ
+  own u = oneIf (isTask p (who u))
+
   pub own-none : (n : ℕ) → n ≤ a → ownBefore who p a n ≡ 0
   unfolding ownBefore
-  own-none zero l = refl
-  own-none (suc n) l = rw (lt-leb a n (omega arith), own-none n (omega arith)) refl
+  own-none n l = sum-none own a n l
 
   pub own-runs : (n : ℕ) → a ≤ n → who n ≡ running p → ownBefore who p a (suc n) ≡ suc (ownBefore who p a n)
   unfolding ownBefore
-  own-runs n l e = rw (e, le-leb a n l, eq-eqb p p refl) (omega arith)
+  own-runs n l e = let one : own n ≡ 1 = rw (e, eq-eqb p p refl) refl in omega (arith, sum-next own a n l)
 
   pub own-waits : (n : ℕ) → isTask p (who n) ≡ false → ownBefore who p a (suc n) ≡ ownBefore who p a n
-  unfolding ownBefore
+  unfolding ownBefore sumBefore
   own-waits n e = rw e (go (leb a n))
     where
-      go : (b : Bool) → ownBefore who p a n + oneIf (b && false) ≡ ownBefore who p a n
+      go : (b : Bool) → sumBefore own a n + onlyIf b 0 ≡ sumBefore own a n
       go true = omega arith
       go false = omega arith
 

@@ -4,9 +4,11 @@ use mathlib.Core.Path.{_≡_, sym, _∙_, ap, subst, fun-ext}
 use mathlib.Core.List.{List}
 use mathlib.Core.Option.{none, some}
 use Rattle.model.specs.Sheet.{Sheet, sheetOf, accepted, verdict}
+use Rattle.model.specs.Word.{loading}
 use Rattle.model.specs.Machine.{taskAt, Running, runningOf, run, startMachine}
-use Rattle.model.specs.History.{Operation, operationAt, historyOf}
-use Rattle.model.specs.Rates.{runningIn, ownBefore, ownTicks, Committing, Starts, Ends, Rates}
+use Rattle.model.specs.History.{Operation}
+use Rattle.model.specs.Rates.{mostRead, mostExchange, runningIn, ownBefore, ownTicks, Committing, Starts, Ends}
+use Rattle.model.specs.Rates.{ReadsBank, Loads, Gives, IsAt, NoneIn, ReadTakes, ownAtEnd, Rates}
 use Rattle.model.specs.Arguments.{Arguments}
 use Rattle.model.proofs.Fit.Sheet.{SheetFit}
 use Rattle.model.proofs.Fit.Accepted.{accepted-fit}
@@ -17,6 +19,8 @@ use Rattle.model.proofs.Rates.Own.{in-tick}
 use Rattle.model.proofs.Rates.Timely.{Rate, Fewer, timely-fewer}
 use Rattle.model.proofs.Rates.Run.{who, rated}
 use Rattle.model.proofs.Rates.Used.{ticks-used}
+use Rattle.model.proofs.Rates.Bank.{Giving, bank-rate, bank-fewer}
+use Rattle.model.proofs.Rates.Bank as bank
 use Rattle.model.proofs.Rates.Commit.{In, Ending, commit-rate, commit-fewer}
 
 module _ {s : Sheet} (c : SheetFit s) where
@@ -27,25 +31,76 @@ module _ {s : Sheet} (c : SheetFit s) where
   same-own p a n = ap (λ (w : ℕ → Running). ownBefore w p a n) (fun-ext same-runs)
 
   -- what the T line says
-  used : (limit p : ℕ) → taskAt (run limit (startMachine s) .tasks) p .counts .ticks ≡ ownBefore (runningIn (startMachine s)) p 0 (run limit (startMachine s) .now)
+  used : (limit p : ℕ) → taskAt (run limit (startMachine s) .tasks) p .counts .ticks ≡ ownAtEnd limit (startMachine s) p 0
   used limit p =
       let r = stopped limit (startMachine s) in
       rw (r .state, now-is (started c) (r .ticks), same-own p 0 (r .ticks)) (ticks-used c (r .ticks) p)
 
   -- an operation that has ended
-  operation-rate : (limit a l : ℕ) (o : Operation) → operationAt (historyOf limit (startMachine s)) a ≡ some o → o .last ≡ some l → Rate (o .arguments) (ownTicks (startMachine s) (o .task) a l)
+  operation-rate : (limit a l : ℕ) (o : Operation) → IsAt limit (startMachine s) a o → o .last ≡ some l
+      → Rate (o .arguments) (ownTicks (startMachine s) (o .task) a l)
   operation-rate limit a l o is e =
       let r = stopped limit (startMachine s) in
       rw (same-own (o .task) a (suc l)) (rated c (r .ticks) .ended .ended a l o (rw (r .history) at is) e)
 
   -- one that has not ended
-  operation-fewer : (limit a : ℕ) (o : Operation) → operationAt (historyOf limit (startMachine s)) a ≡ some o → o .last ≡ none → Fewer (o .arguments) (ownBefore (runningIn (startMachine s)) (o .task) a (run limit (startMachine s) .now))
+  operation-fewer : (limit a : ℕ) (o : Operation) → IsAt limit (startMachine s) a o → o .last ≡ none
+      → Fewer (o .arguments) (ownAtEnd limit (startMachine s) (o .task) a)
   operation-fewer limit a o is e =
       let r = stopped limit (startMachine s) in
       let k = rated c (r .ticks) in
       let stands = k .unended .stands a o (rw (r .history) at is) e in
       rw (r .state, now-is (started c) (r .ticks), same-own (o .task) a (r .ticks), ← stands .latest)
       (timely-fewer _ (o .task) _ (taskAt (stateAfter (startMachine s) (r .ticks) .tasks) (o .task) .job .phase) (o .arguments) (stands .arguments) (k .timely (o .task)))
+
+  -- the reading of a bank word
+  reading-in : {p u : ℕ} (d : ReadsBank (startMachine s) p u) → bank.In (arrivedAt (startMachine s) u) p (d .access) (d .step)
+  reading-in {p} {u} d =
+      let e = in-tick (startMachine s) u .tasks in
+      record { transaction = d .transaction; inner = d .inner; phase = rw e at (d .phase); does = rw e at (d .does) }
+
+  giving : {p u : ℕ} → Gives (startMachine s) p u → Giving p (arrivedAt (startMachine s) u)
+  giving {p} {u} k = record {
+    runs = sym (same-runs u) ∙ k .reads .runs;
+    access = k .reads .access;
+    step = k .reads .step;
+    inside = reading-in (k .reads);
+    value = k .value;
+    gives = rw (in-tick (startMachine s) u .memory) at (k .gives);
+  }
+
+  gives-at : {p u : ℕ} → Giving p (arrivedAt (startMachine s) u) → Gives (startMachine s) p u
+  gives-at {p} {u} k =
+      let e = in-tick (startMachine s) u .tasks in
+      record {
+        reads = record {
+          runs = same-runs u ∙ k .runs;
+          transaction = k .inside .transaction;
+          inner = k .inside .inner;
+          phase = rw e (k .inside .phase);
+          access = k .access;
+          step = k .step;
+          does = rw e (k .inside .does);
+        };
+        value = k .value;
+        gives = rw (in-tick (startMachine s) u .memory) (k .gives);
+      }
+
+  module _ (p a : ℕ) (load : Loads (startMachine s) p a) where
+    loading-in : bank.In (arrivedAt (startMachine s) a) p (load .reads .access) loading
+    loading-in = rw (load .loads) at (reading-in (load .reads))
+
+    ungiven : (n : ℕ) → NoneIn (Gives (startMachine s) p) a n → (u : ℕ) → a ≤ u → u < n → Giving p (arrivedAt (startMachine s) u) → ⊥
+    ungiven n since u h b g = since u h b (gives-at g)
+
+    bank-in-time : (l : ℕ) → a ≤ l → Gives (startMachine s) p l → NoneIn (Gives (startMachine s) p) a l
+        → ReadTakes (ownTicks (startMachine s) p a l)
+    bank-in-time l h last since =
+        rw (same-own p a (suc l))
+        (bank-rate c p a (sym (same-runs a) ∙ load .reads .runs) loading-in l h (giving last) (ungiven l since))
+
+    bank-in-fewer : (n : ℕ) → a < n → NoneIn (Gives (startMachine s) p) a n → ownBefore (runningIn (startMachine s)) p a n < mostRead
+    bank-in-fewer n h since = rw (same-own p a n) (bank-fewer c p a (sym (same-runs a) ∙ load .reads .runs) loading-in n h (ungiven n since))
 
   -- the exchange of a COMMIT
   committing-in : {p u : ℕ} (d : Committing (startMachine s) p u) → In (arrivedAt (startMachine s) u) p (d .exchange)
@@ -63,15 +118,16 @@ module _ {s : Sheet} (c : SheetFit s) where
   }
 
   module _ (p a k : ℕ) (first : Starts (startMachine s) p a k) where
-    unended : (n : ℕ) → ((u : ℕ) → a ≤ u → u < n → Ends (startMachine s) p u → ⊥) → (u : ℕ) → a ≤ u → u < n → Ending p (arrivedAt (startMachine s) u) → ⊥
+    unended : (n : ℕ) → NoneIn (Ends (startMachine s) p) a n → (u : ℕ) → a ≤ u → u < n → Ending p (arrivedAt (startMachine s) u) → ⊥
     unended n since u h b e = since u h b (ends-at e)
 
-    exchange-in-time : (l : ℕ) → a ≤ l → Ends (startMachine s) p l → ((u : ℕ) → a ≤ u → u < l → Ends (startMachine s) p u → ⊥) → ownTicks (startMachine s) p a l ≤ 9 * k + 4
+    exchange-in-time : (l : ℕ) → a ≤ l → Ends (startMachine s) p l → NoneIn (Ends (startMachine s) p) a l
+        → ownTicks (startMachine s) p a l ≤ mostExchange k
     exchange-in-time l h last since =
         rw (same-own p a (suc l), ← first .entries)
         (commit-rate c p a (sym (same-runs a) ∙ first .does .runs) (committing-in (first .does)) (first .start) l h (ending last) (unended l since))
 
-    exchange-fewer : (n : ℕ) → a < n → ((u : ℕ) → a ≤ u → u < n → Ends (startMachine s) p u → ⊥) → ownBefore (runningIn (startMachine s)) p a n < 9 * k + 4
+    exchange-fewer : (n : ℕ) → a < n → NoneIn (Ends (startMachine s) p) a n → ownBefore (runningIn (startMachine s)) p a n < mostExchange k
     exchange-fewer n h since =
         rw (same-own p a n, ← first .entries)
         (commit-fewer c p a (sym (same-runs a) ∙ first .does .runs) (committing-in (first .does)) (first .start) n h (unended n since))
@@ -83,9 +139,11 @@ rates sheet limit e =
     record {
       used = used c limit;
       read = λ a w l o is g z. subst (λ (args : Arguments). Rate args (ownTicks (startMachine (sheetOf sheet)) (o .task) a l)) g (operation-rate c limit a l o is z);
-      readCutShort = λ a w o is g z. subst (λ (args : Arguments). Fewer args (ownBefore (runningIn (startMachine (sheetOf sheet))) (o .task) a (run limit (startMachine (sheetOf sheet)) .now))) g (operation-fewer c limit a o is z);
+      readCutShort = λ a w o is g z. subst (λ (args : Arguments). Fewer args (ownAtEnd limit (startMachine (sheetOf sheet)) (o .task) a)) g (operation-fewer c limit a o is z);
       swap = λ a l ps o is g z. subst (λ (args : Arguments). Rate args (ownTicks (startMachine (sheetOf sheet)) (o .task) a l)) g (operation-rate c limit a l o is z);
-      swapCutShort = λ a ps o is g z. subst (λ (args : Arguments). Fewer args (ownBefore (runningIn (startMachine (sheetOf sheet))) (o .task) a (run limit (startMachine (sheetOf sheet)) .now))) g (operation-fewer c limit a o is z);
+      swapCutShort = λ a ps o is g z. subst (λ (args : Arguments). Fewer args (ownAtEnd limit (startMachine (sheetOf sheet)) (o .task) a)) g (operation-fewer c limit a o is z);
+      bankRead = λ p a l done load h last since. bank-in-time c p a load l h last since;
+      bankReadCutShort = λ p a n done load h since. bank-in-fewer c p a load n h since;
       commit = λ p a l k done first h last since. exchange-in-time c p a k first l h last since;
       commitCutShort = λ p a n k done first h since. exchange-fewer c p a k first n h since;
     }

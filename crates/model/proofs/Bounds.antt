@@ -1,0 +1,146 @@
+-- Runs in which the bounds of the rates are reached, by computation: readings of 2 ticks and of 3, exchanges of 13 and 22.
+use Prim.Native.Nat.{ℕ}
+use mathlib.Core.Bool.{true, false}
+use mathlib.Core.Path.{_≡_, refl}
+use mathlib.Core.List.{List, [], _∷_, _++_}
+use mathlib.Core.Option.{some}
+use Rattle.model.specs.Lists.{at}
+use Rattle.model.specs.Sheet.{sheetOf}
+use Rattle.model.specs.Word.{readTick}
+use Rattle.model.specs.Exchange.{exchangeTick}
+use Rattle.model.specs.Machine.{Machine, run, startMachine}
+use Rattle.model.specs.History.{Operation, operationAt, historyOf}
+use Rattle.model.specs.Rates.{leastRead, mostRead, mostExchange, inTick, ownBefore, ownTicks, Starts, Ends}
+use Rattle.model.specs.Rates.{firstLoad, firstReading, secondReading, Loads, Gives}
+use Rattle.model.specs.Arguments.{Pair, readOf, swapOf}
+use Rattle.model.proofs.Sheets.{exchanging, bodyRead, against, oneBlock, bodyU}
+use Rattle.model.proofs.Bytes.{word, task, release, end, load, pair, swap}
+
+-- operation a of the sheet's run is o, and ended in tick l, after n ticks of its own, which is the bound
+pub record Took (sheet : List ℕ) (a l n bound : ℕ) (o : Operation) : Type 0 where
+  pub is : operationAt (historyOf 100 (startMachine (sheetOf sheet))) a ≡ some o
+  pub last : o .last ≡ some l
+  pub ticks : ownTicks (startMachine (sheetOf sheet)) (o .task) a l ≡ n
+  pub reached : n ≡ bound
+
+-- P7: task 1 READs word 0 while task 0 exchanges 12 for 5 there, its Install being done, or its Commit as well
+pub sheetP7 : ℕ → List ℕ
+sheetP7 tick = against (word 12) bodyRead tick
+
+abbrev pub readP7 : ℕ → ℕ → Operation
+readP7 l v = record { task = 1; arguments = readOf 0; last = some l; committed = false; spent = false; answers = v ∷ [] }
+
+pub P7-at-9 : Took (sheetP7 9) 9 11 3 mostRead (readP7 11 12)
+unfolding historyOf run startMachine sheetOf sheetP7 at inTick ownBefore
+P7-at-9 = record { is = refl; last = refl; ticks = refl; reached = refl }
+
+pub P7-at-11 : Took (sheetP7 11) 11 12 2 leastRead (readP7 12 5)
+unfolding historyOf run startMachine sheetOf sheetP7 at inTick ownBefore
+P7-at-11 = record { is = refl; last = refl; ticks = refl; reached = refl }
+
+-- task 1's SWAP of 12 for 7, which ended in tick l with no
+abbrev pub toSeven : ℕ → Pair
+toSeven w = record { word = w; old = 12; new = 7 }
+
+abbrev pub swapNo : ℕ → List Pair → Operation
+swapNo l ps = record { task = 1; arguments = swapOf ps; last = some l; committed = false; spent = false; answers = 0 ∷ [] }
+
+-- Task 1 finds word 0 overlapped, and before its Install task 2 changes that word: it does every step there is, and its ticks are 13.
+pub sheetOfThree : List ℕ
+sheetOfThree = word 12 ++ exchanging 5 ++ exchanging 7 ++ exchanging 9 ++ release 0 0 ++ release 9 1 ++ release 16 2 ++ end
+
+pub all-steps : Took sheetOfThree 12 38 13 (mostExchange 1) (swapNo 38 (toSeven 0 ∷ []))
+unfolding historyOf run startMachine sheetOf sheetOfThree at inTick ownBefore
+all-steps = record { is = refl; last = refl; ticks = refl; reached = refl }
+
+-- The same with two words: task 2 changes both before task 1 has installed the second. Its ticks are 22.
+abbrev exchangingTwo : ℕ → List ℕ
+exchangingTwo v = task ++ load 1 12 ++ load 2 v ++ pair 0 1 2 ++ pair 1 1 2 ++ swap 0
+
+pub sheetOfTwoWords : List ℕ
+sheetOfTwoWords = word 12 ++ word 12 ++ exchangingTwo 5 ++ exchangingTwo 7 ++ exchangingTwo 9 ++ release 0 0 ++ release 15 1 ++ release 29 2 ++ end
+
+pub all-steps-twice : Took sheetOfTwoWords 19 63 22 (mostExchange 2) (swapNo 63 (toSeven 0 ∷ toSeven 1 ∷ []))
+unfolding historyOf run startMachine sheetOf sheetOfTwoWords at inTick ownBefore
+all-steps-twice = record { is = refl; last = refl; ticks = refl; reached = refl }
+
+-- Three of task U: task 1 comes when task 0 has installed the bank word, task 2 when task 1 has loaded it in its own exchange.
+pub sheetUUU : List ℕ
+sheetUUU = oneBlock 3 ++ bodyU ++ bodyU ++ bodyU ++ release 0 0 ++ release 26 1 ++ release 52 2 ++ end
+
+pub machineUUU : Machine
+unfolding startMachine sheetOf sheetUUU
+machineUUU = startMachine (sheetOf sheetUUU)
+
+-- task 0's GET reads a word that is valid: Load in tick 1, Look in tick 2
+pub loads-at-1 : Loads machineUUU 0 1
+unfolding machineUUU run at inTick
+loads-at-1 = record {
+  reads = record { runs = refl; transaction = _; inner = _; phase = refl; access = _; step = _; does = firstLoad _ _ refl refl };
+  loads = refl;
+}
+
+pub gives-at-2 : Gives machineUUU 0 2
+unfolding machineUUU run at inTick readTick
+gives-at-2 = record {
+  reads = record { runs = refl; transaction = _; inner = _; phase = refl; access = _; step = _; does = firstReading _ _ };
+  value = 780;
+  gives = refl;
+}
+
+pub reading-of-2 : (ownTicks machineUUU 0 1 2 ≡ 2) × (2 ≡ leastRead)
+unfolding machineUUU run inTick ownBefore
+reading-of-2 = (refl, refl)
+
+-- task 1's GET reads it overlapped, and fetches: the first reading
+pub loads-at-27 : Loads machineUUU 1 27
+unfolding machineUUU run at inTick
+loads-at-27 = record {
+  reads = record { runs = refl; transaction = _; inner = _; phase = refl; access = _; step = _; does = firstLoad _ _ refl refl };
+  loads = refl;
+}
+
+pub gives-at-29 : Gives machineUUU 1 29
+unfolding machineUUU run at inTick readTick
+gives-at-29 = record {
+  reads = record { runs = refl; transaction = _; inner = _; phase = refl; access = _; step = _; does = firstReading _ _ };
+  value = 780;
+  gives = refl;
+}
+
+pub first-reading-of-3 : (ownTicks machineUUU 1 27 29 ≡ 3) × (3 ≡ mostRead)
+unfolding machineUUU run inTick ownBefore
+first-reading-of-3 = (refl, refl)
+
+-- and the second
+pub loads-at-31 : Loads machineUUU 1 31
+unfolding machineUUU run at inTick
+loads-at-31 = record {
+  reads = record { runs = refl; transaction = _; inner = _; phase = refl; access = _; step = _; does = secondReading _ _ _ };
+  loads = refl;
+}
+
+pub gives-at-33 : Gives machineUUU 1 33
+unfolding machineUUU run at inTick readTick
+gives-at-33 = record {
+  reads = record { runs = refl; transaction = _; inner = _; phase = refl; access = _; step = _; does = secondReading _ _ _ };
+  value = 780;
+  gives = refl;
+}
+
+pub second-reading-of-3 : (ownTicks machineUUU 1 31 33 ≡ 3) × (3 ≡ mostRead)
+unfolding machineUUU run inTick ownBefore
+second-reading-of-3 = (refl, refl)
+
+-- the exchange of its COMMIT does every step, task 2 committing before its Install
+pub starts-at-49 : Starts machineUUU 1 49 1
+unfolding machineUUU run at inTick
+starts-at-49 = record { does = record { runs = refl; transaction = _; exchange = _; phase = refl }; start = refl; entries = refl }
+
+pub ends-at-95 : Ends machineUUU 1 95
+unfolding machineUUU run at inTick exchangeTick
+ends-at-95 = record { does = record { runs = refl; transaction = _; exchange = _; phase = refl }; memory = _; yes? = false; ends = refl }
+
+pub commit-of-13 : (ownTicks machineUUU 1 49 95 ≡ 13) × (13 ≡ mostExchange 1)
+unfolding machineUUU run inTick ownBefore
+commit-of-13 = (refl, refl)
