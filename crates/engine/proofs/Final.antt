@@ -5,15 +5,13 @@ use mathlib.Core.List.{List, [], _∷_}
 use lib.ListN.{length, getD}
 use Rattle.model.specs.Lists.{at}
 use Rattle.model.specs.Command.{Release, Command, WORD, BLOCK, TASK, RELEASE, END, LOAD, ADD, READ, PAIR, SWAP, BEGIN, access, COMMIT}
-use Rattle.model.specs.Sheet.{declared, commandsFrom, sheetOf, verdict, accepted}
+use Rattle.model.specs.Sheet.{declared, commandsFrom, sheetOf, verdict, accepted, commandsAt, declaredAt, bodyAt, releasesAt}
 use Rattle.model.specs.Machine.{Machine, run, startMachine}
 use Rattle.model.specs.Report.{report}
 use Rattle.model.specs.Answer.{reportOf}
 use Rattle.model.proofs.Fit.Accepted.{accepted-fit}
-use Rattle.sheet.specs.Places.{commandsAt, declaredAt, bodyAt, releasesAt}
 use Rattle.sheet.specs.Indexed.{OnlyReleases, Indexed}
 use Rattle.sheet.specs.declared.index.Sheet.{Sheet}
-use Rattle.simulation.proofs.View.{bodyFrom}
 use Rattle.simulation.proofs.Releases.{leading, releasesFrom}
 use Rattle.simulation.proofs.Start.{Starts}
 use Rattle.simulation.proofs.Final as simulation

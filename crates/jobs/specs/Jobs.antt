@@ -37,14 +37,7 @@ bodyCommand (M.BLOCK b) = false
 bodyCommand M.TASK = false
 bodyCommand (M.RELEASE r) = false
 bodyCommand M.END = false
-bodyCommand (M.LOAD r v) = true
-bodyCommand (M.ADD r q) = true
-bodyCommand (M.READ r w) = true
-bodyCommand (M.PAIR w o n) = true
-bodyCommand (M.SWAP r) = true
-bodyCommand M.BEGIN = true
-bodyCommand (M.access a) = true
-bodyCommand M.COMMIT = true
+bodyCommand (M.body c) = true
 
 -- a body goes on there
 abbrev pub inBody : M.Found → Bool

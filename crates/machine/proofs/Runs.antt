@@ -128,14 +128,7 @@ due-within sheet place tick task next e = go (M.commandAt sheet place) refl e
     go (M.found (M.BLOCK b) n) q e = no e
     go (M.found M.TASK n) q e = no e
     go (M.found M.END n) q e = no e
-    go (M.found (M.LOAD r v) n) q e = no e
-    go (M.found (M.ADD r v) n) q e = no e
-    go (M.found (M.READ r w) n) q e = no e
-    go (M.found (M.PAIR w o v) n) q e = no e
-    go (M.found (M.SWAP r) n) q e = no e
-    go (M.found M.BEGIN n) q e = no e
-    go (M.found (M.access a) n) q e = no e
-    go (M.found M.COMMIT n) q e = no e
+    go (M.found (M.body c) n) q e = no e
 
 module _ (sheet bodies : List ℕ) (limit : ℕ) (w v : World) {c : Coming} where
   pub after-release : (task next : ℕ) → w .ticks < limit → c ≡ comingIn sheet w → c ≡ Due task next → v ≡ released bodies w task next

@@ -40,14 +40,7 @@ pendingBy (C.Block v) next = noRelease
 pendingBy C.Task next = noRelease
 pendingBy (C.Release r) next = releaseAfter (r .tick) (r .task) next
 pendingBy C.End next = noRelease
-pendingBy (C.Load r v) next = noRelease
-pendingBy (C.Add r q) next = noRelease
-pendingBy (C.Read r w) next = noRelease
-pendingBy (C.Pair w o n) next = noRelease
-pendingBy (C.Swap r) next = noRelease
-pendingBy C.Begin next = noRelease
-pendingBy (C.Access a) next = noRelease
-pendingBy C.Commit next = noRelease
+pendingBy (C.Body c) next = noRelease
 
 abbrev pub pendingAt : M.Found → Pending
 pendingAt (M.refused f place) = noRelease
@@ -56,14 +49,7 @@ pendingAt (M.found (M.WORD v) next) = noRelease
 pendingAt (M.found (M.BLOCK b) next) = noRelease
 pendingAt (M.found M.TASK next) = noRelease
 pendingAt (M.found M.END next) = noRelease
-pendingAt (M.found (M.LOAD r v) next) = noRelease
-pendingAt (M.found (M.ADD r q) next) = noRelease
-pendingAt (M.found (M.READ r w) next) = noRelease
-pendingAt (M.found (M.PAIR w o n) next) = noRelease
-pendingAt (M.found (M.SWAP r) next) = noRelease
-pendingAt (M.found M.BEGIN next) = noRelease
-pendingAt (M.found (M.access a) next) = noRelease
-pendingAt (M.found M.COMMIT next) = noRelease
+pendingAt (M.found (M.body c) next) = noRelease
 
 -- whether it is due at a tick
 abbrev pub dueBy : Bool → ℕ → ℕ → Coming

@@ -36,37 +36,13 @@ fn pending_by(command: Command, next: usize) -> Pending
     ensures { λ r. ⌜ r ≡ pendingBy command next ⌝ }
 {
     match command {
-        Command::Word(_) => no_release(),
-        Command::Block(_) => no_release(),
-        Command::Task => no_release(),
         Command::Release(release) => Pending {
             some: true,
             tick: places::half(release.tick),
             task: release.task,
             after: next,
         },
-        Command::End => no_release(),
-        Command::Load {
-            register: _,
-            value: _,
-        } => no_release(),
-        Command::Add {
-            register: _,
-            other: _,
-        } => no_release(),
-        Command::Read {
-            register: _,
-            word: _,
-        } => no_release(),
-        Command::Pair {
-            word: _,
-            old: _,
-            new: _,
-        } => no_release(),
-        Command::Swap(_) => no_release(),
-        Command::Begin => no_release(),
-        Command::Access(_) => no_release(),
-        Command::Commit => no_release(),
+        _ => no_release(),
     }
 }
 

@@ -166,6 +166,22 @@ unfolding declare
 declared [] = declares [] [] [] [] []
 declared (c ∷ l) = declare c (declared l)
 
+-- from a place on: the commands, what they declare, the rest of the body that the place lies in, the releases
+unfoldable pub commandsAt : List ℕ → ℕ → List Command
+unfolding commandsFrom
+commandsAt sheet place = commandsFrom (length sheet) sheet place
+
+unfoldable pub declaredAt : List ℕ → ℕ → Declared
+unfolding declared commandsAt
+declaredAt sheet place = declared (commandsAt sheet place)
+
+abbrev pub bodyAt : List ℕ → ℕ → List BodyCommand
+bodyAt sheet place = declaredAt sheet place .body
+
+abbrev pub releasesAt : List ℕ → ℕ → List Release
+releasesAt sheet place = declaredAt sheet place .sheet .releases
+
+-- what a whole sheet declares
 unfoldable pub sheetOf : List ℕ → Sheet
-unfolding declared commandsFrom
-sheetOf bytes = declared (commandsFrom (length bytes) bytes 0) .sheet
+unfolding declaredAt
+sheetOf sheet = declaredAt sheet 0 .sheet

@@ -6,9 +6,8 @@ use native.Mathlib.Omega.{arith}
 use lib.ListN.{length, getD}
 use Rattle.model.specs.Command.{Block, Command, END, bigEndian, found, commandAt}
 use Rattle.model.specs.Fault.{Known}
-use Rattle.model.specs.Sheet.{Sheet, Declared, after, declared, verdict, accepted, sheetOf}
+use Rattle.model.specs.Sheet.{Sheet, Declared, after, declared, verdict, accepted, sheetOf, commandsAt}
 use Rattle.commands.specs.Stages.{valuesFrom}
-use Rattle.sheet.specs.Places.{commandsAt}
 use Rattle.sheet.specs.WellFormed.{Stand, nothing, first, Faultless, unread, good, WellFormed}
 use Rattle.commands.proofs.Decoding.{past-the-end}
 use Rattle.rules.proofs.Faults.{keeps}

@@ -12,8 +12,7 @@ use Rattle.model.specs.Refusal.{Refusal}
 use Rattle.model.specs.Command.{Block, Release, BodyCommand, Command, WORD, BLOCK, TASK, RELEASE, END, body, found, refused, commandAt}
 use Rattle.model.specs.Fault.{SheetCounts, Known, nothingKnown, underCeiling}
 use Rattle.model.specs.Sheet as M
-use Rattle.model.specs.Sheet.{Declared, after, declared, verdict, accepted, sheetOf}
-use Rattle.sheet.specs.Places.{declaredAt, bodyAt, releasesAt, commandsAt}
+use Rattle.model.specs.Sheet.{Declared, after, declared, verdict, accepted, sheetOf, declaredAt, bodyAt, releasesAt, commandsAt}
 use Rattle.sheet.specs.WellFormed.{Stand, nothing, first, Faultless, unread, good, WellFormed}
 use Rattle.sheet.specs.Indexed.{OnlyReleases, ReleasesStand, Indexed, emptyIndex, placeOr, counted, Room}
 use Rattle.sheet.specs.declared.index.Sheet.{Sheet}

@@ -6,8 +6,7 @@ use native.Mathlib.Omega.{arith}
 use lib.ListN.{length}
 use Rattle.model.specs.Refusal.{Refusal}
 use Rattle.model.specs.Command.{Command, Found, found, refused, commandAt}
-use Rattle.model.specs.Sheet.{listed, commandsFrom, declared, sheetOf}
-use Rattle.sheet.specs.Places.{commandsAt, declaredAt}
+use Rattle.model.specs.Sheet.{listed, commandsFrom, declared, sheetOf, commandsAt, declaredAt}
 use Rattle.sheet.specs.WellFormed.{Stand, nothing, first}
 use Rattle.commands.proofs.Decoding.{past-the-end}
 use Rattle.sheet.proofs.Reading.{next-after}

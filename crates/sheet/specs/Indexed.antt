@@ -6,8 +6,7 @@ use mathlib.Core.List.{List, [], _∷_}
 use lib.Dec.{eqb}
 use lib.ListN.{length, getD, set, replicate}
 use Rattle.model.specs.Command.{Block, Command, WORD, BLOCK, TASK, RELEASE, END, body}
-use Rattle.model.specs.Sheet.{verdict, accepted, sheetOf}
-use Rattle.sheet.specs.Places.{bodyAt, releasesAt, commandsAt}
+use Rattle.model.specs.Sheet.{verdict, accepted, sheetOf, bodyAt, releasesAt, commandsAt}
 use Rattle.sheet.specs.declared.index.Sheet.{Sheet}
 
 -- releases up to END, and nothing else

@@ -1,5 +1,4 @@
 pub mod View
 pub mod Judgement
 pub mod WellFormed
-pub mod Places
 pub mod Indexed

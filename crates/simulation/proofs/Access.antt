@@ -12,6 +12,7 @@ use Rattle.model.specs.Command as C
 use Rattle.model.specs.Word as W
 use Rattle.model.specs.Job as J
 use Rattle.model.specs.Transaction as T
+use Rattle.model.specs.Sheet.{bodyAt}
 use Rattle.model.proofs.Lists.{length-replace}
 use Rattle.model.proofs.Fit.Transaction.{touched?, registerOf, offsetOf, put?}
 use Rattle.memory.specs.Rows.{row, rows}
@@ -28,7 +29,7 @@ use Rattle.exchanges.specs.declared.read.Reading.the-variants.{Load}
 use Rattle.exchanges.specs.declared.read.Read.{Read}
 use Rattle.exchanges.specs.declared.read.Read.the-variants.{Reads, Gives}
 use Rattle.jobs.specs.declared.Job.{Job}
-use Rattle.simulation.proofs.View.{memoryOf, readOf, touchedOf, blocksOf, bodyFrom, transactionOf, task}
+use Rattle.simulation.proofs.View.{memoryOf, readOf, touchedOf, blocksOf, transactionOf, task}
 use Rattle.simulation.proofs.Memory.{rows-at, rows-written}
 use Rattle.simulation.proofs.Reading.{read-tick}
 use Rattle.simulation.proofs.Blocks.{at-blocks, blocks-written, blocks-kind, value-remembered}
@@ -36,11 +37,11 @@ use Rattle.simulation.proofs.Copied.{copied-size, copied-others, copied
 use Rattle.simulation.proofs.Parts.{Sizes, partsOf, sharedOf, AtWork, Simulated}
 
 -- task p of arrays a in a transaction, at command j
-abbrev pub inside : List ℕ → List C.Command → Arrays → ℕ → Job → J.Inner → J.Task
+abbrev pub inside : List ℕ → List C.BodyCommand → Arrays → ℕ → Job → J.Inner → J.Task
 inside sheet body a p j i =
-    task body (bodyFrom sheet (j .at)) (J.transacting (transactionOf sheet j (partsOf a p)) i) (row 8 p (a .registers)) [] (row 4 p (a .copies)) (row 4 p (a .counts))
+    task body (bodyAt sheet (j .at)) (J.transacting (transactionOf sheet j (partsOf a p)) i) (row 8 p (a .registers)) [] (row 4 p (a .copies)) (row 4 p (a .counts))
 
-module _ (sheet : List ℕ) (body : List C.Command) (a : Arrays) (p : ℕ) (j : Job) (i : J.Inner) (s : Sizes a) (below : p < 8) (work : AtWork sheet j) where
+module _ (sheet : List ℕ) (body : List C.BodyCommand) (a : Arrays) (p : ℕ) (j : Job) (i : J.Inner) (s : Sizes a) (below : p < 8) (work : AtWork sheet j) where
   abbrev t : J.Task
   t = inside sheet body a p j i
 

@@ -5,11 +5,12 @@ use mathlib.Core.Logic.{_≢_}
 use mathlib.Core.List.{List}
 use lib.ListN.{length}
 use Rattle.model.specs.Lists.{at, replace}
-use Rattle.model.specs.Command.{Command}
+use Rattle.model.specs.Command.{BodyCommand}
 use Rattle.model.specs.Exchange as X
 use Rattle.model.specs.Job as J
 use Rattle.model.specs.Machine as M
 use Rattle.model.specs.Arguments.{Arguments}
+use Rattle.model.specs.Sheet.{bodyAt}
 use Rattle.model.proofs.Lists.{length-replace}
 use Rattle.memory.specs.Rows.{row}
 use Rattle.memory.proofs.Rows.{row-same, row-other}
@@ -21,7 +22,7 @@ use Rattle.exchanges.specs.declared.read.Read.the-variants.{Reads, Gives}
 use Rattle.exchanges.specs.declared.exchange.Exchanged.{Exchanged}
 use Rattle.exchanges.specs.declared.exchange.Exchanged.the-variants.{Goes, Finds, Ends}
 use Rattle.jobs.specs.declared.Job.{Job}
-use Rattle.simulation.proofs.View.{memoryOf, entriesOf, pairsOf, bodyFrom, readOf, task, withRegisters, withLoaded}
+use Rattle.simulation.proofs.View.{memoryOf, entriesOf, pairsOf, readOf, task, withRegisters, withLoaded}
 use Rattle.simulation.proofs.Entries.{no-pairs, no-entries}
 use Rattle.simulation.proofs.Exchange.{exchangedOf}
 use Rattle.simulation.proofs.ExchangeFrame.{ExchangeFrame}
@@ -29,11 +30,11 @@ use Rattle.simulation.proofs.Parts.{Sizes, partsOf, sharedOf, AtWork, U
 use Rattle.simulation.proofs.Done.{done-same, done-size, done-others, done-shape}
 
 -- task p of arrays a at command j, in any phase outside a transaction
-abbrev pub outside : List ℕ → List Command → Arrays → ℕ → Job → J.Phase → J.Task
+abbrev pub outside : List ℕ → List BodyCommand → Arrays → ℕ → Job → J.Phase → J.Task
 outside sheet body a p j f =
-    task body (bodyFrom sheet (j .at)) f (row 8 p (a .registers)) (pairsOf (j .pairs) (row 8 p (a .names)) (row 8 p (a .olds)) (row 8 p (a .news))) (row 4 p (a .copies)) (row 4 p (a .counts))
+    task body (bodyAt sheet (j .at)) f (row 8 p (a .registers)) (pairsOf (j .pairs) (row 8 p (a .names)) (row 8 p (a .olds)) (row 8 p (a .news))) (row 4 p (a .copies)) (row 4 p (a .counts))
 
-module _ (sheet : List ℕ) (body : List Command) (a : Arrays) (p : ℕ) (j : Job) (f : J.Phase) (s : Sizes a) (below : p < 8)
+module _ (sheet : List ℕ) (body : List BodyCommand) (a : Arrays) (p : ℕ) (j : Job) (f : J.Phase) (s : Sizes a) (below : p < 8)
     (few : at 0 (row 4 p (a .counts)) 0 < 4294967295) (work : AtWork sheet j) where
   -- registers are written and the command is done
   pub registers-done : {d : J.Deed} (rs : List ℕ) → length rs ≡ length (a .registers) → ((q : ℕ) → q ≢ p → row 8 q rs ≡ row 8 q (a .registers)) → Unloaded (j .pairs) (partsOf a p)
@@ -81,7 +82,7 @@ module _ (sheet : List ℕ) (body : List Command) (a : Arrays) (p : ℕ) (j : Jo
       }
   swap-by y r h x g (Ends yes?) =
       record {
-        same = rw (sym work, row-same 8 p r (a .registers) (M.answer yes?) h) (ap (λ (ps : List X.Entry). leaves (memoryOf (x .cells) (x .status) (x .saves) (a .stores)) (J.doneBy (bodyFrom sheet (j .next)) (outside sheet body a p j f) (replace (row 8 p (a .registers)) r (M.answer yes?)) ps (row 4 p (a .copies)))) (sym (no-pairs (row 8 p (a .names)) (row 8 p (a .olds)) (row 8 p (a .news))))
+        same = rw (sym work, row-same 8 p r (a .registers) (M.answer yes?) h) (ap (λ (ps : List X.Entry). leaves (memoryOf (x .cells) (x .status) (x .saves) (a .stores)) (J.doneBy (bodyAt sheet (j .next)) (outside sheet body a p j f) (replace (row 8 p (a .registers)) r (M.answer yes?)) ps (row 4 p (a .copies)))) (sym (no-pairs (row 8 p (a .names)) (row 8 p (a .olds)) (row 8 p (a .news))))
             ∙ ap (leaves (memoryOf (x .cells) (x .status) (x .saves) (a .stores))) (done-same sheet (a .counts) p (j .next) 0 (s .counts) below body _ _ _ _ _ (withLoaded (withRegisters (partsOf a p) (replace (row 8 p (a .registers)) r (M.answer yes?))) (row 8 p (x .inits)) (row 8 p (x .overlapped))) few));
         others = λ q d. rw (row-other 8 p q r (a .registers) (M.answer yes?) h d, done-others sheet (a .counts) p (j .next) 0 (s .counts) below q d, g .inits q d, g .overlapped q d);
         sizes = rw (length-replace (a .registers) (8 * p + r) (M.answer yes?), done-size sheet (a .counts) p (j .next) 0 (s .counts) below, g .cellsSize, g .statusSize, g .savesSize, g .initsSize, g .overlappedSize);

@@ -1,16 +1,13 @@
 -- The commands of a body from a place on: the command found there and those from the next place on.
 use Prim.Native.Nat.{ℕ, zero, suc, _+_, _≤_}
 use mathlib.Core.Path.{_≡_, refl, sym, ap, _∙_}
-use mathlib.Core.Bool.{Bool, true, false}
 use mathlib.Core.List.{List, [], _∷_}
 use native.Mathlib.Omega.{arith}
 use lib.ListN.{length}
 use borrow.Author.Tests.{le-ltb}
-use Rattle.model.specs.Command.{Command, WORD, BLOCK, TASK, RELEASE, END, LOAD, ADD, READ, PAIR, SWAP, BEGIN, access, COMMIT, Found, found, refused, foundByte, commandAt}
-use Rattle.model.specs.Sheet.{listed, commandsFrom, Declared, declare, declared}
+use Rattle.model.specs.Command.{BodyCommand, Command, WORD, BLOCK, TASK, RELEASE, END, body, Found, found, refused, foundByte, commandAt}
+use Rattle.model.specs.Sheet.{listed, commandsFrom, declare, declared, commandsAt, declaredAt, bodyAt}
 use Rattle.model.proofs.Fit.Reading.{found-at}
-use Rattle.jobs.specs.Jobs.{bodyCommand}
-use Rattle.simulation.proofs.View.{bodyFrom}
 
 -- nothing is found past the end
 none-past : (sheet : List ℕ) (n place : ℕ) → length sheet ≤ place → commandsFrom n sheet place ≡ []
@@ -36,43 +33,33 @@ module _ (sheet : List ℕ) where
   enough (suc n) zero place hn hm = none-past sheet (suc n) place (omega arith)
   enough (suc n) (suc m) place hn hm = enough-found n m place (enough n m) (omega arith) (omega arith) (commandAt sheet place) refl
 
-abbrev pub bodyIf : Bool → Command → List Command → List Command
-bodyIf true c l = c ∷ l
-bodyIf false c l = []
-
 -- the commands of a body from what is found at a place
-abbrev pub bodyBy : List ℕ → Found → List Command
+abbrev pub bodyBy : List ℕ → Found → List BodyCommand
 bodyBy sheet (refused f place) = []
-bodyBy sheet (found c next) = bodyIf (bodyCommand c) c (bodyFrom sheet next)
-
-declare-body : (c : Command) (d : Declared) → declare c d .body ≡ bodyIf (bodyCommand c) c (d .body)
-unfolding declare
-declare-body (WORD v) d = refl
-declare-body (BLOCK b) d = refl
-declare-body TASK d = refl
-declare-body (RELEASE r) d = refl
-declare-body END d = refl
-declare-body (LOAD r v) d = refl
-declare-body (ADD r q) d = refl
-declare-body (READ r w) d = refl
-declare-body (PAIR w o n) d = refl
-declare-body (SWAP r) d = refl
-declare-body BEGIN d = refl
-declare-body (access a) d = refl
-declare-body COMMIT d = refl
+bodyBy sheet (found (body c) next) = c ∷ bodyAt sheet next
+bodyBy sheet (found (WORD v) next) = []
+bodyBy sheet (found (BLOCK b) next) = []
+bodyBy sheet (found TASK next) = []
+bodyBy sheet (found (RELEASE r) next) = []
+bodyBy sheet (found END next) = []
 
 module _ (sheet : List ℕ) (place : ℕ) where
-  listed-body : (f : Found) → commandAt sheet place ≡ f → declared (listed (commandsFrom (length sheet) sheet) f) .body ≡ bodyBy sheet f
-  unfolding listed declared bodyFrom
-  listed-body (refused r q) e = refl
-  listed-body (found c next) e = declare-body c _
+  listed-body : (f : Found) → declared (listed (commandsFrom (length sheet) sheet) f) .body ≡ bodyBy sheet f
+  unfolding listed declared declare declaredAt commandsAt
+  listed-body (refused r q) = refl
+  listed-body (found (body c) next) = refl
+  listed-body (found (WORD v) next) = refl
+  listed-body (found (BLOCK b) next) = refl
+  listed-body (found TASK next) = refl
+  listed-body (found (RELEASE r) next) = refl
+  listed-body (found END next) = refl
 
-  pub body-at : bodyFrom sheet place ≡ bodyBy sheet (commandAt sheet place)
-  unfolding bodyFrom commandsFrom
+  pub body-at : bodyAt sheet place ≡ bodyBy sheet (commandAt sheet place)
+  unfolding declaredAt commandsAt commandsFrom
   body-at =
       ap (λ (l : List Command). declared l .body) (enough sheet (length sheet) (suc (length sheet)) place (omega arith) (omega arith))
-      ∙ listed-body (commandAt sheet place) refl
+      ∙ listed-body (commandAt sheet place)
 
   -- a body command and those after it
-  pub body-found : {c : Command} {next : ℕ} → commandAt sheet place ≡ found c next → bodyCommand c ≡ true → bodyFrom sheet place ≡ c ∷ bodyFrom sheet next
-  body-found {c} {next} e t = body-at ∙ ap (bodyBy sheet) e ∙ ap (λ (b : Bool). bodyIf b c (bodyFrom sheet next)) t
+  pub body-found : {c : BodyCommand} {next : ℕ} → commandAt sheet place ≡ found (body c) next → bodyAt sheet place ≡ c ∷ bodyAt sheet next
+  body-found e = body-at ∙ ap (bodyBy sheet) e

@@ -12,6 +12,7 @@ use Rattle.model.specs.Command as C
 use Rattle.model.specs.Exchange as X
 use Rattle.model.specs.Job as J
 use Rattle.model.specs.Transaction as T
+use Rattle.model.specs.Sheet.{bodyAt}
 use Rattle.model.proofs.Fit.Transaction.{touched?, count}
 use Rattle.memory.specs.Rows.{row}
 use Rattle.memory.proofs.Rows.{at-row}
@@ -27,7 +28,7 @@ use Rattle.exchanges.specs.declared.exchange.Exchanged.the-variants.{Goes, Find
 use Rattle.jobs.specs.declared.Phase.the-variants.{Idle}
 use Rattle.jobs.specs.declared.Job.{Job}
 use Rattle.simulation.proofs.Tabulate.{tabulate, tabulate-same}
-use Rattle.simulation.proofs.View.{Parts, memoryOf, touchedOf, blocksOf, bodyFrom, transactionOf, taskOf, withCopies, withCounts, withLoaded}
+use Rattle.simulation.proofs.View.{Parts, memoryOf, touchedOf, blocksOf, transactionOf, taskOf, withCopies, withCounts, withLoaded}
 use Rattle.simulation.proofs.View.{entriesOf as viewEntries}
 use Rattle.simulation.proofs.Entries.{no-pairs, no-entries}
 use Rattle.simulation.proofs.Entered.{EntrySizes}
@@ -63,7 +64,7 @@ none-spent kinds values (suc n) place i e h = go (isSpent (at 0 kinds place) (at
 quotient : (v : ℕ) → v < 4294967296 → v / 256 ≢ 16777215 → v / 256 < 16777215
 quotient v h d = let z : v / 256 < 16777216 = omega arith in omega arith
 
-module _ (sheet : List ℕ) (body : List C.Command) (a : Arrays) (p : ℕ) (j : Job) (i : J.Inner) (s : Sizes a) (below : p < 8) (work : AtWork sheet j)
+module _ (sheet : List ℕ) (body : List C.BodyCommand) (a : Arrays) (p : ℕ) (j : Job) (i : J.Inner) (s : Sizes a) (below : p < 8) (work : AtWork sheet j)
     (few : (n : ℕ) → n < 4 → at 0 (row 4 p (a .counts)) n < 4294967295) (f : PassFits a p) where
   abbrev t : J.Task
   t = inside sheet body a p j i
@@ -78,10 +79,10 @@ module _ (sheet : List ℕ) (body : List C.Command) (a : Arrays) (p : ℕ) (j : 
   unfolding blocksOf
   blocks-flat = tabulate-same 16 _ block (λ b h. rw (at-row 0 16 p b (a .kinds) h, at-row 0 16 p b (a .remembered) h))
 
-  done-inside : (y : Parts) → J.doneBy (J.rest (bodyFrom sheet (j .at))) t (y .registers) [] (y .copies) ≡ taskOf sheet body (afterDone sheet (a .counts) p (j .next) 0 .next) (withCounts y (row 4 p (afterDone sheet (a .counts) p (j .next) 0 .array)))
+  done-inside : (y : Parts) → J.doneBy (J.rest (bodyAt sheet (j .at))) t (y .registers) [] (y .copies) ≡ taskOf sheet body (afterDone sheet (a .counts) p (j .next) 0 .next) (withCounts y (row 4 p (afterDone sheet (a .counts) p (j .next) 0 .array)))
   done-inside y =
       rw (sym work)
-      (ap (λ (ps : List X.Entry). J.doneBy (bodyFrom sheet (j .next)) t (y .registers) ps (y .copies)) (sym (no-pairs (y .names) (y .olds) (y .news)))
+      (ap (λ (ps : List X.Entry). J.doneBy (bodyAt sheet (j .next)) t (y .registers) ps (y .copies)) (sym (no-pairs (y .names) (y .olds) (y .news)))
       ∙ done-same sheet (a .counts) p (j .next) 0 (s .counts) below body _ _ _ _ _ y (few 0 (omega arith)))
 
   version : spentFrom 16 (a .kinds) (a .remembered) (16 * p) ≡ false → (b k : ℕ) → b < 16 → at 0 (a .kinds) (16 * p + b) ≡ suc (suc k) → at 0 (a .remembered) (16 * p + b) / 256 < 16777215

@@ -6,9 +6,10 @@ use mathlib.Core.List.{List, [], _∷_}
 use native.Mathlib.Omega.{arith}
 use lib.ListN.{length}
 use Rattle.model.specs.Lists.{at, replace}
-use Rattle.model.specs.Command.{Command}
+use Rattle.model.specs.Command.{BodyCommand}
 use Rattle.model.specs.Word as W
 use Rattle.model.specs.Job as J
+use Rattle.model.specs.Sheet.{bodyAt}
 use Rattle.model.proofs.Lists.{replace-same, replace-other, length-replace}
 use Rattle.memory.specs.Rows.{row}
 use Rattle.memory.proofs.Rows.{at-row, row-same, row-other, length-row}
@@ -19,7 +20,7 @@ use Rattle.jobs.specs.declared.Inner.the-variants as Inner
 use Rattle.jobs.specs.declared.Phase.{Phase}
 use Rattle.jobs.specs.declared.Phase.the-variants as Phase
 use Rattle.jobs.specs.declared.Job.{Job}
-use Rattle.simulation.proofs.View.{Parts, memoryOf, entriesOf, pairsOf, bodyFrom, taskOf}
+use Rattle.simulation.proofs.View.{Parts, memoryOf, entriesOf, pairsOf, taskOf}
 
 -- the sizes of all arrays
 abbrev pub sizesOf : Arrays → List ℕ
@@ -101,12 +102,12 @@ leaves m t = record { memory = m; task = t }
 abbrev pub turnLeaves : J.Turn → Leaves
 turnLeaves v = leaves (v .memory) (v .task)
 
-abbrev pub codeLeaves : List ℕ → List Command → ℕ → Turn → Leaves
+abbrev pub codeLeaves : List ℕ → List BodyCommand → ℕ → Turn → Leaves
 codeLeaves sheet body p u = leaves (sharedOf (u .arrays)) (taskOf sheet body (u .job) (partsOf (u .arrays) p))
 
 -- the command at work ends at the job's next place
 abbrev pub AtWork : List ℕ → Job → Type 0
-AtWork sheet j = bodyFrom sheet (j .next) ≡ J.rest (bodyFrom sheet (j .at))
+AtWork sheet j = bodyAt sheet (j .next) ≡ J.rest (bodyAt sheet (j .at))
 
 -- nothing is loaded yet for the waiting PAIRs
 abbrev pub Unloaded : ℕ → Parts → Type 0
@@ -132,7 +133,7 @@ JobShape sheet j x (Phase.Exchange r s) = AtWork sheet j
 JobShape sheet j x (Phase.Transaction s) = InnerShape sheet j s
 
 -- a statement of task p from arrays a: what it leaves is what the model's turn leaves, and the rows of the other tasks stay
-pub record Simulated (sheet : List ℕ) (body : List Command) (a : Arrays) (p : ℕ) (u : Turn) (v : J.Turn) : Type 0 where
+pub record Simulated (sheet : List ℕ) (body : List BodyCommand) (a : Arrays) (p : ℕ) (u : Turn) (v : J.Turn) : Type 0 where
   pub same : turnLeaves v ≡ codeLeaves sheet body p u
   pub others : (q : ℕ) → q ≢ p → partsOf (u .arrays) q ≡ partsOf a q
   pub sizes : sizesOf (u .arrays) ≡ sizesOf a

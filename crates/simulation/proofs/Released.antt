@@ -10,6 +10,7 @@ use lib.Seq.{ext-getD, set-getD, getD-set-same, getD-set-other}
 use Rattle.model.specs.Lists.{at, replace}
 use Rattle.model.specs.Job as J
 use Rattle.model.specs.Machine as M
+use Rattle.model.specs.Sheet.{bodyAt}
 use Rattle.model.proofs.Lists.{replace-same, replace-other, length-replace, at-replicate, same?}
 use Rattle.memory.specs.Rows.{row}
 use Rattle.memory.proofs.Rows.{row-same, row-other, length-row}
@@ -17,7 +18,7 @@ use Rattle.jobs.specs.Jobs.{jobAt}
 use Rattle.machine.specs.World.{unfinishedJob, droppedBy, begunBy, zeroed, zeroedBy, startedBy, World, world, noJob, jobOf, withRegisters, released}
 use Rattle.jobs.specs.declared.Phase.the-variants as Phase
 use Rattle.jobs.specs.declared.Job.{Job}
-use Rattle.simulation.proofs.View.{bodyFrom, taskOf}
+use Rattle.simulation.proofs.View.{taskOf}
 use Rattle.simulation.proofs.Entries.{no-pairs, no-entries}
 use Rattle.simulation.proofs.Parts.{sizes, partsOf, sharedOf}
 use Rattle.simulation.proofs.Releases.{releasesFrom}
@@ -86,7 +87,7 @@ module _ (sheet bodies : List ℕ) (n : ℕ) (most : n ≤ 8) (w : World) (f : S
       }
 
   job-starts : length (w .arrays .registers) ≡ 64
-      → taskOf sheet (bodyFrom sheet (at 0 bodies p)) (jobAt Phase.Plain (at 0 bodies p) 0) (partsOf (withRegisters (w .arrays) (zeroed 8 (w .arrays .registers) p)) p) ≡ J.started (M.taskAt (tasksOf sheet bodies n (w .arrays) (w .jobs)) p)
+      → taskOf sheet (bodyAt sheet (at 0 bodies p)) (jobAt Phase.Plain (at 0 bodies p) 0) (partsOf (withRegisters (w .arrays) (zeroed 8 (w .arrays .registers) p)) p) ≡ J.started (M.taskAt (tasksOf sheet bodies n (w .arrays) (w .jobs)) p)
   job-starts z =
       rw (task-at sheet bodies n most (w .arrays) (w .jobs) p below, zeroed-row (w .arrays .registers) p (omega arith) z, no-pairs (row 8 p (w .arrays .names)) (row 8 p (w .arrays .olds)) (row 8 p (w .arrays .news)))
 

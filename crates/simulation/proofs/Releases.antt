@@ -8,7 +8,7 @@ use lib.Dec.{eqb}
 use lib.ListN.{length}
 use borrow.Author.Tests.{eqb-true}
 use Rattle.model.specs.Refusal.{Refusal}
-use Rattle.model.specs.Command.{Release, Command, WORD, BLOCK, TASK, RELEASE, END, LOAD, ADD, READ, PAIR, SWAP, BEGIN, access, COMMIT, Found, found, refused, commandAt}
+use Rattle.model.specs.Command.{Release, Command, WORD, BLOCK, TASK, RELEASE, END, body, Found, found, refused, commandAt}
 use Rattle.model.specs.Sheet.{listed, commandsFrom}
 use Rattle.machine.specs.World.{pendingAt, dueBy, comingBy}
 use Rattle.machine.specs.declared.releases.Coming.{Coming}
@@ -23,14 +23,7 @@ leading (WORD v ∷ l) = []
 leading (BLOCK b ∷ l) = []
 leading (TASK ∷ l) = []
 leading (END ∷ l) = []
-leading (LOAD r v ∷ l) = []
-leading (ADD r q ∷ l) = []
-leading (READ r w ∷ l) = []
-leading (PAIR w o n ∷ l) = []
-leading (SWAP r ∷ l) = []
-leading (BEGIN ∷ l) = []
-leading (access a ∷ l) = []
-leading (COMMIT ∷ l) = []
+leading (body c ∷ l) = []
 
 unfoldable pub releasesFrom : List ℕ → ℕ → List Release
 releasesFrom sheet place = leading (commandsFrom (length sheet) sheet place)
@@ -85,11 +78,4 @@ module _ (sheet : List ℕ) (place : ℕ) where
       go (found (BLOCK b) n) e = none-found _ n e refl
       go (found TASK n) e = none-found _ n e refl
       go (found END n) e = none-found _ n e refl
-      go (found (LOAD r v) n) e = none-found _ n e refl
-      go (found (ADD r q) n) e = none-found _ n e refl
-      go (found (READ r w) n) e = none-found _ n e refl
-      go (found (PAIR w o q) n) e = none-found _ n e refl
-      go (found (SWAP r) n) e = none-found _ n e refl
-      go (found BEGIN n) e = none-found _ n e refl
-      go (found (access a) n) e = none-found _ n e refl
-      go (found COMMIT n) e = none-found _ n e refl
+      go (found (body c) n) e = none-found _ n e refl

@@ -8,7 +8,7 @@ use lib.ListN.{length, getD, replicate, length-replicate}
 use lib.Seq.{ext-getD}
 use borrow.Author.Tests.{le-ltb}
 use Rattle.model.specs.Lists.{at}
-use Rattle.model.specs.Sheet.{Sheet}
+use Rattle.model.specs.Sheet.{Sheet, bodyAt}
 use Rattle.model.specs.Machine as M
 use Rattle.model.proofs.Lists.{at-replicate, at-past}
 use Rattle.model.proofs.Fit.Elements.{below?}
@@ -20,7 +20,7 @@ use Rattle.memory.proofs.Rows.{at-row, length-row}
 use Rattle.statements.specs.Statements.{Arrays}
 use Rattle.machine.specs.World.{noJob, zeros, startArrays, startWorld}
 use Rattle.jobs.specs.declared.Job.{Job}
-use Rattle.simulation.proofs.View.{bodyFrom, memoryOf, taskOf}
+use Rattle.simulation.proofs.View.{memoryOf, taskOf}
 use Rattle.simulation.proofs.Entries.{no-pairs}
 use Rattle.simulation.proofs.Parts.{partsOf}
 use Rattle.simulation.proofs.Releases.{releasesFrom}
@@ -35,7 +35,7 @@ pub record Starts (sheet bodies : List ℕ) (place : ℕ) (s : Sheet) (cells sto
   pub storesStart : rows 8 48 stores ≡ M.startMemory s .stores
   pub copiesSize : length copies ≡ 32
   pub copiesStart : (p : ℕ) → p < 8 → row 4 p copies ≡ M.copiesOf p
-  pub body : (p : ℕ) → p < length (s .bodies) → bodyFrom sheet (at 0 bodies p) ≡ at [] (s .bodies) p
+  pub body : (p : ℕ) → p < length (s .bodies) → bodyAt sheet (at 0 bodies p) ≡ at [] (s .bodies) p
   pub releases : releasesFrom sheet place ≡ s .releases
 
 -- a row of zeros
@@ -67,9 +67,9 @@ module _ (sheet bodies : List ℕ) (place : ℕ) (s : Sheet) (c : SheetFit s) (c
   start-memory = rw (f .cellsStart, f .storesStart)
 
   declared-start : (p : ℕ) → p < length (s .bodies) → M.taskAt (tasksOf sheet bodies (length (s .bodies)) a js) p ≡ M.taskAt (M.startMachine s .tasks) p
-  declared-start p h = task-at sheet bodies (length (s .bodies)) (c .bodies) a js p h ∙ ap (λ (j : Job). taskOf sheet (bodyFrom sheet (at 0 bodies p)) j (partsOf a p)) (no-job p) ∙ idle-start ∙ sym (start-task s p h)
+  declared-start p h = task-at sheet bodies (length (s .bodies)) (c .bodies) a js p h ∙ ap (λ (j : Job). taskOf sheet (bodyAt sheet (at 0 bodies p)) j (partsOf a p)) (no-job p) ∙ idle-start ∙ sym (start-task s p h)
     where
-      idle-start : taskOf sheet (bodyFrom sheet (at 0 bodies p)) noJob (partsOf a p) ≡ startTask (at [] (s .bodies) p) p
+      idle-start : taskOf sheet (bodyAt sheet (at 0 bodies p)) noJob (partsOf a p) ≡ startTask (at [] (s .bodies) p) p
       idle-start =
           let below : p < 8 = omega (arith, c .bodies) in
           rw (f .body p h, zero-row 8 p 64 (omega arith), zero-row 4 p 32 (omega arith), f .copiesStart p below, no-pairs (zeros 8) (zeros 8) (zeros 8), nothing-counted 0 (omega arith), nothing-counted 1 (omega arith), nothing-counted 2 (omega arith), nothing-counted 3 (omega arith))

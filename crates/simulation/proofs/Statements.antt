@@ -13,7 +13,8 @@ use Rattle.model.specs.Exchange as X
 use Rattle.model.specs.Job as J
 use Rattle.model.specs.Transaction as T
 use Rattle.model.specs.Machine as M
-use Rattle.model.proofs.Fit.Body.{BodyCommand, Faultless, Open, command-fits}
+use Rattle.model.specs.Sheet.{bodyAt}
+use Rattle.model.proofs.Fit.Body.{Faultless, Open, command-fits}
 use Rattle.model.proofs.Fit.Exchange.{StepFit, ExchangeFit}
 use Rattle.model.proofs.Fit.Transaction.{touched?, namedSoFar, BlocksFit, put?, AgainFit, TransactionFit}
 use Rattle.model.proofs.Fit.Machine.{OutsideFit, PhaseFit, wordOf}
@@ -27,7 +28,7 @@ use Rattle.commands.specs.declared.Access.the-variants.{Get, Put}
 use Rattle.exchanges.specs.Reading.{afterReading}
 use Rattle.transactions.specs.Blocks.{bankOf, namedBlock}
 use Rattle.exchanges.specs.Exchange.{Left, afterExchange}
-use Rattle.jobs.specs.Jobs.{bodyCommand, inPhase}
+use Rattle.jobs.specs.Jobs.{inPhase}
 use Rattle.statements.specs.Statements.{Arrays, plainTick, betweenTick, insideTick, otherTick, transactionTick, statement}
 use Rattle.exchanges.specs.declared.read.Reading.{Reading}
 use Rattle.exchanges.specs.declared.exchange.Step.{Step}
@@ -36,7 +37,7 @@ use Rattle.jobs.specs.declared.Inner.the-variants.{Between, First, Copying, Aga
 use Rattle.jobs.specs.declared.Phase.{Phase}
 use Rattle.jobs.specs.declared.Phase.the-variants as Phase
 use Rattle.jobs.specs.declared.Job.{Job}
-use Rattle.simulation.proofs.View.{readingOf, readOf, pairsOf, partEntries, numberOf, stepOf, exchangeOf, touchedOf, bodyFrom, transactionOf, innerOf, phaseOf, commandsOf, waitingOf, taskOf}
+use Rattle.simulation.proofs.View.{readingOf, readOf, pairsOf, partEntries, numberOf, stepOf, exchangeOf, touchedOf, transactionOf, innerOf, phaseOf, commandsOf, waitingOf, taskOf}
 use Rattle.simulation.proofs.Tabulate.{length-tabulate}
 use Rattle.simulation.proofs.Memory.{length-map}
 use Rattle.simulation.proofs.Body.{body-at, body-found}
@@ -47,40 +48,25 @@ use Rattle.simulation.proofs.Exchange.{ExchangeShape, exchange-tick}
 use Rattle.simulation.proofs.ExchangeFrame.{exchange-frame}
 use Rattle.simulation.proofs.Parts.{Sizes, partsOf, sharedOf, AtWork, Unloaded, InnerShape, JobShape, Simulated}
 use Rattle.simulation.proofs.Answers.{outside, read-by, swap-by}
-use Rattle.simulation.proofs.Plain.{FitsIf, FoundFits, plain-tick}
+use Rattle.simulation.proofs.Plain.{FoundFits, plain-tick}
 use Rattle.simulation.proofs.Access.{inside, first-read, copy-tick, again-read}
 use Rattle.simulation.proofs.Commit.{PassFits, committed-by}
-use Rattle.simulation.proofs.Between.{access-fits, PassIf, PassFound, between-tick}
-
--- a body command, both ways of saying it
-body-command : (c : C.Command) → bodyCommand c ≡ true → BodyCommand c
-body-command (C.WORD v) e = let z : _≡_ {A = ℕ} 0 1 = cc in absurd (omega arith)
-body-command (C.BLOCK b) e = let z : _≡_ {A = ℕ} 0 1 = cc in absurd (omega arith)
-body-command C.TASK e = let z : _≡_ {A = ℕ} 0 1 = cc in absurd (omega arith)
-body-command (C.RELEASE r) e = let z : _≡_ {A = ℕ} 0 1 = cc in absurd (omega arith)
-body-command C.END e = let z : _≡_ {A = ℕ} 0 1 = cc in absurd (omega arith)
-body-command (C.LOAD r v) e = tt
-body-command (C.ADD r q) e = tt
-body-command (C.READ r w) e = tt
-body-command (C.PAIR w o n) e = tt
-body-command (C.SWAP r) e = tt
-body-command C.BEGIN e = tt
-body-command (C.access a) e = tt
-body-command C.COMMIT e = tt
+use Rattle.simulation.proofs.Between.{access-fits, PassFound, between-tick}
 
 -- what the check says of the command found in an open body
-module _ (sheet : List ℕ) (place words blocks : ℕ) (k : Known) (o : Open words blocks k) (h : Faultless k (bodyFrom sheet place)) where
+module _ (sheet : List ℕ) (place words blocks : ℕ) (k : Known) (o : Open words blocks k) (h : Faultless k (bodyAt sheet place)) where
   found-fits : (f : C.Found) → C.commandAt sheet place ≡ f → FoundFits words blocks (k .body) f
+  found-fits (C.found (C.body c) next) e =
+      let first = subst (Faultless k) (body-found sheet place e) h in
+      command-fits k words blocks o c (first .faultless)
   found-fits (C.refused r q) e = tt
-  found-fits (C.found c next) e = go (bodyCommand c) refl
-    where
-      go : (b : Bool) → bodyCommand c ≡ b → FitsIf b words blocks (k .body) c
-      go true q =
-          let first = subst (Faultless k) (body-found sheet place e q) h in
-          command-fits k words blocks o c (first .command) (first .faultless)
-      go false q = tt
+  found-fits (C.found (C.WORD v) next) e = tt
+  found-fits (C.found (C.BLOCK b) next) e = tt
+  found-fits (C.found C.TASK next) e = tt
+  found-fits (C.found (C.RELEASE r) next) e = tt
+  found-fits (C.found C.END next) e = tt
 
-module _ (sheet : List ℕ) (body : List C.Command) (a : Arrays) (p : ℕ) (j : Job) (s : Sizes a) (below : p < 8)
+module _ (sheet : List ℕ) (body : List C.BodyCommand) (a : Arrays) (p : ℕ) (j : Job) (s : Sizes a) (below : p < 8)
     (few : (n : ℕ) → n < 4 → at 0 (row 4 p (a .counts)) n < 4294967295) (words blocks : ℕ) (mostWords : words ≤ 32) (mostBlocks : blocks ≤ 16) where
   abbrev pairs : List X.Entry
   pairs = pairsOf (j .pairs) (row 8 p (a .names)) (row 8 p (a .olds)) (row 8 p (a .news))
@@ -93,12 +79,12 @@ module _ (sheet : List ℕ) (body : List C.Command) (a : Arrays) (p : ℕ) (j : 
   pairs-size = length-tabulate (j .pairs) _
 
   -- PLAIN
-  plain-statement : OutsideFit words blocks (bodyFrom sheet (j .at)) pairs → Unloaded (j .pairs) (partsOf a p)
-      → Simulated sheet body a p (plainTick sheet a p (inPhase j Phase.Plain)) (M.plainTick p (sharedOf a) (outside sheet body a p j J.plain) (bodyFrom sheet (j .at)))
+  plain-statement : OutsideFit words blocks (bodyAt sheet (j .at)) pairs → Unloaded (j .pairs) (partsOf a p)
+      → Simulated sheet body a p (plainTick sheet a p (inPhase j Phase.Plain)) (M.plainTick p (sharedOf a) (outside sheet body a p j J.plain) (bodyAt sheet (j .at)))
   unfolding plainTick
   plain-statement o u =
       let most = o .pairs .most in
-      subst (λ (l : List C.Command). Simulated sheet body a p (plainTick sheet a p (inPhase j Phase.Plain)) (M.plainTick p (sharedOf a) (outside sheet body a p j J.plain) l)) (sym (body-at sheet (j .at)))
+      subst (λ (l : List C.BodyCommand). Simulated sheet body a p (plainTick sheet a p (inPhase j Phase.Plain)) (M.plainTick p (sharedOf a) (outside sheet body a p j J.plain) l)) (sym (body-at sheet (j .at)))
       (plain-tick sheet body a p j s below (few 0 (omega arith)) u words blocks (o .known .body) mostWords (omega (arith, pairs-size))
       (λ r. let named : length (o .known .body .pairs) ≡ length pairs = ap length (o .waiting) ∙ length-map wordOf pairs in omega (arith, pairs-size))
       (C.commandAt sheet (j .at)) refl (found-fits sheet (j .at) words blocks (o .known) (o .opened) (o .faultless) (C.commandAt sheet (j .at)) refl))
@@ -156,7 +142,7 @@ module _ (sheet : List ℕ) (body : List C.Command) (a : Arrays) (p : ℕ) (j : 
   abbrev x : J.Transaction
   x = transactionOf sheet j (partsOf a p)
 
-  module _ (i : J.Inner) (f : TransactionFit words blocks (row 4 p (a .copies)) (bodyFrom sheet (j .at)) [] x i) where
+  module _ (i : J.Inner) (f : TransactionFit words blocks (row 4 p (a .copies)) (bodyAt sheet (j .at)) [] x i) where
     pass-fits : TransactionRange x i → ((k : ℕ) → at 0 (row 4 p (a .copies)) k < 256) → PassFits a p
     pass-fits r copy =
         record {
@@ -169,7 +155,7 @@ module _ (sheet : List ℕ) (body : List C.Command) (a : Arrays) (p : ℕ) (j : 
         put-block : (b k : ℕ) → b < 16 → at 0 (a .kinds) (16 * p + b) ≡ suc (suc k) → T.touchedOf x b ≡ J.copied (at 0 (row 16 p (a .remembered)) b) k
         put-block b k h e = at-blocks (row 16 p (a .kinds)) (row 16 p (a .remembered)) b h ∙ ap (λ (n : ℕ). touchedOf n (at 0 (row 16 p (a .remembered)) b)) (at-row 0 16 p b (a .kinds) h ∙ e)
 
-    pass-at : (c : C.Command) (l : List C.Command) → bodyFrom sheet (j .at) ≡ c ∷ l → PassFit words blocks (c ∷ l) x
+    pass-at : (c : C.BodyCommand) (l : List C.BodyCommand) → bodyAt sheet (j .at) ≡ c ∷ l → PassFit words blocks (c ∷ l) x
     pass-at c l e =
         record {
           kept = f .kept;
@@ -177,16 +163,17 @@ module _ (sheet : List ℕ) (body : List C.Command) (a : Arrays) (p : ℕ) (j : 
           known = f .known;
           inside = f .inside;
           faultless = subst (Faultless (f .known)) e (f .faultless);
-          touched = subst (λ (z : List C.Command). BlocksFit blocks (namedSoFar z (f .known .body)) (x .blocks) (x .used)) e (f .touched);
+          touched = subst (λ (z : List C.BodyCommand). BlocksFit blocks (namedSoFar z (f .known .body)) (x .blocks) (x .used)) e (f .touched);
         }
 
     pass-found : (o : C.Found) → C.commandAt sheet (j .at) ≡ o → PassFound sheet words blocks x o
+    pass-found (C.found (C.body c) next) e = pass-at c (bodyAt sheet next) (body-found sheet (j .at) e)
     pass-found (C.refused r q) e = tt
-    pass-found (C.found c next) e = go (bodyCommand c) refl
-      where
-        go : (b : Bool) → bodyCommand c ≡ b → PassIf b words blocks c (bodyFrom sheet next) x
-        go true q = pass-at c (bodyFrom sheet next) (body-found sheet (j .at) e q)
-        go false q = tt
+    pass-found (C.found (C.WORD v) next) e = tt
+    pass-found (C.found (C.BLOCK b) next) e = tt
+    pass-found (C.found C.TASK next) e = tt
+    pass-found (C.found (C.RELEASE r) next) e = tt
+    pass-found (C.found C.END next) e = tt
 
   abbrev Goal : Inner → Type 0
   Goal i = Simulated sheet body a p (transactionTick sheet a p (inPhase j (Phase.Transaction i)) i) (T.transactionTick p (sharedOf a) (inside sheet body a p j (innerOf (inPhase j (Phase.Transaction i)) (partsOf a p) i)) x (innerOf j (partsOf a p) i))
@@ -207,11 +194,11 @@ module _ (sheet : List ℕ) (body : List C.Command) (a : Arrays) (p : ℕ) (j : 
   again-room (Get r b o) g e = absurd (false≢true e)
   again-room (Put b o r) g e = g .left
 
-  transaction-statement : (i : Inner) → TransactionFit words blocks (row 4 p (a .copies)) (bodyFrom sheet (j .at)) [] x (innerOf j (partsOf a p) i) → TransactionRange x (innerOf j (partsOf a p) i)
+  transaction-statement : (i : Inner) → TransactionFit words blocks (row 4 p (a .copies)) (bodyAt sheet (j .at)) [] x (innerOf j (partsOf a p) i) → TransactionRange x (innerOf j (partsOf a p) i)
       → ((k : ℕ) → at 0 (row 4 p (a .copies)) k < 256) → InnerShape sheet j i → Goal i
   unfolding T.transactionTick transactionTick insideTick betweenTick
   transaction-statement Between f r copy w =
-      subst (λ (l : List C.Command). Simulated sheet body a p (betweenTick sheet a p (inPhase j (Phase.Transaction Between))) (T.commandTick (sharedOf a) (inside sheet body a p j J.between) x l)) (sym (body-at sheet (j .at)))
+      subst (λ (l : List C.BodyCommand). Simulated sheet body a p (betweenTick sheet a p (inPhase j (Phase.Transaction Between))) (T.commandTick (sharedOf a) (inside sheet body a p j J.between) x l)) (sym (body-at sheet (j .at)))
       (between-tick sheet body a p j s below few (pass-fits J.between f r copy) words blocks mostBlocks (C.commandAt sheet (j .at)) refl (pass-found J.between f (C.commandAt sheet (j .at)) refl))
   transaction-statement (First c z) f r copy w =
       let h = block-below c (f .inner .atWork .block) in

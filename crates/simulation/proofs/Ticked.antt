@@ -9,8 +9,8 @@ use borrow.Author.Tests.{eq-eqb, ne-eqb}
 use lib.ListN.{length, getD, set, length-set}
 use lib.Seq.{getD-set-same, getD-set-other}
 use Rattle.model.specs.Lists.{at, replace}
-use Rattle.model.specs.Command.{Command}
-use Rattle.model.specs.Sheet.{Sheet}
+use Rattle.model.specs.Command.{BodyCommand}
+use Rattle.model.specs.Sheet.{Sheet, bodyAt}
 use Rattle.model.specs.Job as J
 use Rattle.model.specs.Machine as M
 use Rattle.model.proofs.Lists.{same?}
@@ -28,7 +28,7 @@ use Rattle.jobs.specs.declared.Phase.the-variants as Phase
 use Rattle.jobs.specs.declared.Inner.{Inner}
 use Rattle.jobs.specs.declared.Inner.the-variants as Inner
 use Rattle.jobs.specs.declared.Job.{Job}
-use Rattle.simulation.proofs.View.{Parts, bodyFrom, transactionOf, innerOf, phaseOf, waitingOf, taskOf, withCounts as partsWith}
+use Rattle.simulation.proofs.View.{Parts, transactionOf, innerOf, phaseOf, waitingOf, taskOf, withCounts as partsWith}
 use Rattle.simulation.proofs.Parts.{sizes, partsOf, sharedOf, Leaves, codeLeaves, JobShape, Simulated, counted-same, counted-other, counted-size, counted-others}
 use Rattle.simulation.proofs.Releases.{releasesFrom}
 use Rattle.simulation.proofs.Statements.{statement-tick}
@@ -66,7 +66,7 @@ waiting-counts j x c (Phase.Exchange r s) = refl
 waiting-counts j x c (Phase.Transaction s) = refl
 
 -- a tick is counted
-ticked-task : (sheet : List ℕ) (body : List Command) (j : Job) (x : Parts) (c : List ℕ)
+ticked-task : (sheet : List ℕ) (body : List BodyCommand) (j : Job) (x : Parts) (c : List ℕ)
     → at 0 c 0 ≡ at 0 (x .counts) 0 → at 0 c 1 ≡ at 0 (x .counts) 1 → at 0 c 2 ≡ at 0 (x .counts) 2 → at 0 c 3 ≡ suc (at 0 (x .counts) 3)
     → taskOf sheet body j (partsWith x c) ≡ J.counting J.ticks (taskOf sheet body j x)
 ticked-task sheet body j x c finished spent rejected more = rw (phase-counts sheet j x c (j .phase), waiting-counts j x c (j .phase), finished, spent, rejected, more)
@@ -125,8 +125,8 @@ module _ (sheet bodies : List ℕ) (s : Sheet) (c : SheetFit s) (w : World) (g :
     small (suc (suc (suc zero))) l = omega (arith, task-fit .ticks)
     small (suc (suc (suc (suc i)))) l = absurd (omega arith)
 
-    abbrev body : List Command
-    body = bodyFrom sheet (at 0 bodies p)
+    abbrev body : List BodyCommand
+    body = bodyAt sheet (at 0 bodies p)
 
     abbrev u : Turn
     u = statement sheet (w .arrays) p j (j .phase)

@@ -6,7 +6,7 @@ use lib.Dec.{eqb}
 use lib.ListN.{length}
 use Rattle.model.specs.Lists.{at}
 use Rattle.model.specs.Command as C
-use Rattle.model.specs.Sheet.{commandsFrom, declared}
+use Rattle.model.specs.Sheet.{bodyAt}
 use Rattle.model.specs.Word as W
 use Rattle.model.specs.Exchange as X
 use Rattle.model.specs.Job as J
@@ -128,15 +128,11 @@ touchedOf (suc (suc k)) v = J.copied v k
 unfoldable pub blocksOf : List ℕ → List ℕ → List J.Touched
 blocksOf kinds remembered = tabulate 16 (λ b. touchedOf (at 0 kinds b) (at 0 remembered b))
 
--- the commands of a body from a place on
-unfoldable pub bodyFrom : List ℕ → ℕ → List C.Command
-bodyFrom sheet place = declared (commandsFrom (length sheet) sheet place) .body
-
 abbrev pub partEntries : Job → Parts → List X.Entry
 partEntries j a = entriesOf (j .pairs) (a .names) (a .olds) (a .news) (a .inits) (a .overlapped)
 
 abbrev pub transactionOf : List ℕ → Job → Parts → J.Transaction
-transactionOf sheet j a = record { kept = a .kept; commands = bodyFrom sheet (j .begin); blocks = blocksOf (a .kinds) (a .remembered); used = j .used }
+transactionOf sheet j a = record { kept = a .kept; commands = bodyAt sheet (j .begin); blocks = blocksOf (a .kinds) (a .remembered); used = j .used }
 
 abbrev pub innerOf : Job → Parts → Inner → J.Inner
 innerOf j a Inner.Between = J.between
@@ -153,12 +149,12 @@ phaseOf sheet j a (Phase.Exchange r s) = J.exchanging r (exchangeOf (partEntries
 phaseOf sheet j a (Phase.Transaction s) = J.transacting (transactionOf sheet j a) (innerOf j a s)
 
 -- an idle job has no commands left
-abbrev pub commandsOf : List ℕ → Job → Phase → List C.Command
+abbrev pub commandsOf : List ℕ → Job → Phase → List C.BodyCommand
 commandsOf sheet j Phase.Idle = []
-commandsOf sheet j Phase.Plain = bodyFrom sheet (j .at)
-commandsOf sheet j (Phase.Read r w s) = bodyFrom sheet (j .at)
-commandsOf sheet j (Phase.Exchange r s) = bodyFrom sheet (j .at)
-commandsOf sheet j (Phase.Transaction s) = bodyFrom sheet (j .at)
+commandsOf sheet j Phase.Plain = bodyAt sheet (j .at)
+commandsOf sheet j (Phase.Read r w s) = bodyAt sheet (j .at)
+commandsOf sheet j (Phase.Exchange r s) = bodyAt sheet (j .at)
+commandsOf sheet j (Phase.Transaction s) = bodyAt sheet (j .at)
 
 -- no PAIRs wait in a transaction
 abbrev pub waitingOf : Job → Parts → Phase → List X.Entry
@@ -168,11 +164,11 @@ waitingOf j a (Phase.Read r w s) = pairsOf (j .pairs) (a .names) (a .olds) (a .n
 waitingOf j a (Phase.Exchange r s) = pairsOf (j .pairs) (a .names) (a .olds) (a .news)
 waitingOf j a (Phase.Transaction s) = []
 
-abbrev pub task : List C.Command → List C.Command → J.Phase → List ℕ → List X.Entry → List ℕ → List ℕ → J.Task
+abbrev pub task : List C.BodyCommand → List C.BodyCommand → J.Phase → List ℕ → List X.Entry → List ℕ → List ℕ → J.Task
 task body commands phase registers pairs copies counts =
     J.task body copies (J.counts (at 0 counts 0) (at 0 counts 1) (at 0 counts 2) (at 0 counts 3)) (J.job phase commands registers pairs)
 
 -- the task with that body
-abbrev pub taskOf : List ℕ → List C.Command → Job → Parts → J.Task
+abbrev pub taskOf : List ℕ → List C.BodyCommand → Job → Parts → J.Task
 taskOf sheet body j a =
     task body (commandsOf sheet j (j .phase)) (phaseOf sheet j a (j .phase)) (a .registers) (waitingOf j a (j .phase)) (a .copies) (a .counts)

@@ -12,6 +12,7 @@ use borrow.Author.Tests.{lt-ltb, le-ltb}
 use Rattle.model.specs.Lists.{at, replace}
 use Rattle.model.specs.Job as J
 use Rattle.model.specs.Machine as M
+use Rattle.model.specs.Sheet.{bodyAt}
 use Rattle.model.proofs.Lists.{at-past}
 use Rattle.model.proofs.Fit.Elements.{below?}
 use Rattle.model.proofs.Fit.Running.{foremost-running, none-nobody}
@@ -22,7 +23,7 @@ use Rattle.jobs.specs.declared.Phase.{Phase}
 use Rattle.jobs.specs.declared.Phase.the-variants as Phase
 use Rattle.jobs.specs.declared.Job.{Job}
 use Rattle.simulation.proofs.Tabulate.{tabulate, at-tabulate, length-tabulate, tabulate-replace}
-use Rattle.simulation.proofs.View.{Parts, bodyFrom, phaseOf, taskOf}
+use Rattle.simulation.proofs.View.{Parts, phaseOf, taskOf}
 use Rattle.simulation.proofs.Parts.{Sized, partsOf, sharedOf, JobShape}
 use Rattle.simulation.proofs.Releases.{releasesFrom}
 use Rattle.simulation.proofs.Unfinished.{busy, maskOf, TopTask}
@@ -34,7 +35,7 @@ declaredBy false t = M.noTask
 
 module _ (sheet bodies : List ℕ) (n : ℕ) where
   abbrev pub taskIn : Arrays → List Job → ℕ → J.Task
-  taskIn a js p = taskOf sheet (bodyFrom sheet (at 0 bodies p)) (getD js p noJob) (partsOf a p)
+  taskIn a js p = taskOf sheet (bodyAt sheet (at 0 bodies p)) (getD js p noJob) (partsOf a p)
 
   unfoldable pub tasksOf : Arrays → List Job → List J.Task
   tasksOf a js = tabulate 8 (λ p. declaredBy (ltb p n) (taskIn a js p))
@@ -63,13 +64,13 @@ module _ (sheet bodies : List ℕ) (n : ℕ) where
 
     -- one task changes
     pub tasks-changed : (a b : Arrays) (js : List Job) (p : ℕ) (j : Job) → p < n → length js ≡ 8 → ((q : ℕ) → q ≢ p → partsOf b q ≡ partsOf a q)
-        → tasksOf b (set js p j) ≡ replace (tasksOf a js) p (taskOf sheet (bodyFrom sheet (at 0 bodies p)) j (partsOf b p))
+        → tasksOf b (set js p j) ≡ replace (tasksOf a js) p (taskOf sheet (bodyAt sheet (at 0 bodies p)) j (partsOf b p))
     unfolding tasksOf
     tasks-changed a b js p j h z others =
         tabulate-replace 8 (λ q. declaredBy (ltb q n) (taskIn a js q)) (λ q. declaredBy (ltb q n) (taskIn b (set js p j) q)) p _
         (λ g. rw (lt-ltb p n h, getD-set-same js p j noJob (omega arith)))
-        (λ q g d. ap (λ (x : Parts). declaredBy (ltb q n) (taskOf sheet (bodyFrom sheet (at 0 bodies q)) (getD (set js p j) q noJob) x)) (others q d)
-        ∙ ap (λ (k : Job). declaredBy (ltb q n) (taskOf sheet (bodyFrom sheet (at 0 bodies q)) k (partsOf a q))) (getD-set-other js p q j noJob d))
+        (λ q g d. ap (λ (x : Parts). declaredBy (ltb q n) (taskOf sheet (bodyAt sheet (at 0 bodies q)) (getD (set js p j) q noJob) x)) (others q d)
+        ∙ ap (λ (k : Job). declaredBy (ltb q n) (taskOf sheet (bodyAt sheet (at 0 bodies q)) k (partsOf a q))) (getD-set-other js p q j noJob d))
 
     -- THE TASK THAT RUNS
     unfinished-view : (j : Job) (x : Parts) (f : Phase) → M.unfinished (phaseOf sheet j x f) ≡ unfinishedJob f

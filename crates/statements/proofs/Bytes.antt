@@ -5,7 +5,7 @@ use mathlib.Core.Bool.{Bool, true, false, _||_, false≢true}
 use mathlib.Core.List.{List}
 use borrow.Author.Tests.{ne-eqb}
 use lib.Dec.{eqb}
-use Rattle.model.specs.Command.{Command, WORD, BLOCK, TASK, RELEASE, END, LOAD, ADD, READ, PAIR, SWAP, BEGIN, access, COMMIT, found}
+use Rattle.model.specs.Command.{LOAD, ADD, outside, inside, Command, WORD, BLOCK, TASK, RELEASE, END, body, found}
 use Rattle.commands.specs.Stages.{commandOf}
 use Rattle.commands.proofs.Bytes.{same, allSame, by-byte}
 use Rattle.jobs.specs.declared.Job.{Job}
@@ -18,14 +18,10 @@ outsideCommand (BLOCK b) = false
 outsideCommand TASK = false
 outsideCommand (RELEASE r) = false
 outsideCommand END = false
-outsideCommand (LOAD r v) = true
-outsideCommand (ADD r q) = true
-outsideCommand (READ r w) = true
-outsideCommand (PAIR w o n) = true
-outsideCommand (SWAP r) = true
-outsideCommand BEGIN = true
-outsideCommand (access x) = false
-outsideCommand COMMIT = false
+outsideCommand (body (LOAD r v)) = true
+outsideCommand (body (ADD r q)) = true
+outsideCommand (body (outside c)) = true
+outsideCommand (body (inside c)) = false
 
 outsideByte : ℕ → Bool
 outsideByte b = eqb b 0x10 || (eqb b 0x11 || (eqb b 0x12 || (eqb b 0x13 || (eqb b 0x14 || eqb b 0x20))))
@@ -37,14 +33,10 @@ insideCommand (BLOCK b) = false
 insideCommand TASK = false
 insideCommand (RELEASE r) = false
 insideCommand END = false
-insideCommand (LOAD r v) = true
-insideCommand (ADD r q) = true
-insideCommand (READ r w) = false
-insideCommand (PAIR w o n) = false
-insideCommand (SWAP r) = false
-insideCommand BEGIN = false
-insideCommand (access x) = true
-insideCommand COMMIT = true
+insideCommand (body (LOAD r v)) = true
+insideCommand (body (ADD r q)) = true
+insideCommand (body (outside c)) = false
+insideCommand (body (inside c)) = true
 
 insideByte : ℕ → Bool
 insideByte b = eqb b 0x10 || (eqb b 0x11 || (eqb b 0x21 || (eqb b 0x22 || eqb b 0x23)))
@@ -57,14 +49,10 @@ module _ (sheet : List ℕ) (a : Arrays) (p : ℕ) (j : Job) (next : ℕ) where
   plain-left TASK e = refl
   plain-left (RELEASE r) e = refl
   plain-left END e = refl
-  plain-left (LOAD r v) e = absurd (false≢true (sym e))
-  plain-left (ADD r q) e = absurd (false≢true (sym e))
-  plain-left (READ r w) e = absurd (false≢true (sym e))
-  plain-left (PAIR w o n) e = absurd (false≢true (sym e))
-  plain-left (SWAP r) e = absurd (false≢true (sym e))
-  plain-left BEGIN e = absurd (false≢true (sym e))
-  plain-left (access x) e = refl
-  plain-left COMMIT e = refl
+  plain-left (body (LOAD r v)) e = absurd (false≢true (sym e))
+  plain-left (body (ADD r q)) e = absurd (false≢true (sym e))
+  plain-left (body (outside c)) e = absurd (false≢true (sym e))
+  plain-left (body (inside c)) e = refl
 
   between-left : (c : Command) → insideCommand c ≡ false → turn j a ≡ betweenBy sheet a p j (found c next)
   unfolding insideCommand betweenBy
@@ -73,14 +61,10 @@ module _ (sheet : List ℕ) (a : Arrays) (p : ℕ) (j : Job) (next : ℕ) where
   between-left TASK e = refl
   between-left (RELEASE r) e = refl
   between-left END e = refl
-  between-left (LOAD r v) e = absurd (false≢true (sym e))
-  between-left (ADD r q) e = absurd (false≢true (sym e))
-  between-left (READ r w) e = refl
-  between-left (PAIR w o n) e = refl
-  between-left (SWAP r) e = refl
-  between-left BEGIN e = refl
-  between-left (access x) e = absurd (false≢true (sym e))
-  between-left COMMIT e = absurd (false≢true (sym e))
+  between-left (body (LOAD r v)) e = absurd (false≢true (sym e))
+  between-left (body (ADD r q)) e = absurd (false≢true (sym e))
+  between-left (body (outside c)) e = refl
+  between-left (body (inside c)) e = absurd (false≢true (sym e))
 
 module _ (sheet : List ℕ) (a : Arrays) (p : ℕ) (j : Job) (place next b : ℕ) where
   outside-byte : b < 256 → outsideCommand (commandOf sheet place b) ≡ outsideByte b

@@ -111,18 +111,17 @@ plainBy sheet a p j (M.found (M.BLOCK b) next) = turn j a
 plainBy sheet a p j (M.found M.TASK next) = turn j a
 plainBy sheet a p j (M.found (M.RELEASE r) next) = turn j a
 plainBy sheet a p j (M.found M.END next) = turn j a
-plainBy sheet a p j (M.found (M.LOAD r v) next) =
+plainBy sheet a p j (M.found (M.body (M.LOAD r v)) next) =
     onCounts a (replace (a .registers) (8 * p + r) v) (afterDone sheet (a .counts) p next (j .pairs))
-plainBy sheet a p j (M.found (M.ADD r q) next) = onCounts a (added (a .registers) p r q) (afterDone sheet (a .counts) p next (j .pairs))
-plainBy sheet a p j (M.found (M.READ r w) next) =
+plainBy sheet a p j (M.found (M.body (M.ADD r q)) next) = onCounts a (added (a .registers) p r q) (afterDone sheet (a .counts) p next (j .pairs))
+plainBy sheet a p j (M.found (M.body (M.outside (M.READ r w))) next) =
     onAnswer a (readBy sheet (a .registers) (a .counts) p (movedTo j next) r w (afterReading (a .cells) (a .status) (a .saves) w Load))
-plainBy sheet a p j (M.found (M.PAIR w o n) next) =
+plainBy sheet a p j (M.found (M.body (M.outside (M.PAIR w o n))) next) =
     onEntries a (paired (a .registers) (entriesOf a) p (j .pairs) w o n) (afterDone sheet (a .counts) p next (nextOf (j .pairs)))
-plainBy sheet a p j (M.found (M.SWAP r) next) = swapTick sheet a p (movedTo j next) r (exchangeTick a p (j .pairs) 0 Start)
-plainBy sheet a p j (M.found M.BEGIN next) =
+plainBy sheet a p j (M.found (M.body (M.outside (M.SWAP r))) next) = swapTick sheet a p (movedTo j next) r (exchangeTick a p (j .pairs) 0 Start)
+plainBy sheet a p j (M.found (M.body (M.outside M.BEGIN)) next) =
     onBegin a (copied 8 (a .kept) (a .registers) p) (cleared 16 (a .kinds) p) (jobAt (P.Transaction Between) next 0)
-plainBy sheet a p j (M.found (M.access x) next) = turn j a
-plainBy sheet a p j (M.found M.COMMIT next) = turn j a
+plainBy sheet a p j (M.found (M.body (M.inside c)) next) = turn j a
 
 unfoldable pub plainTick : List ℕ → Arrays → ℕ → Job → Turn
 plainTick sheet a p j = plainBy sheet a p j (M.commandAt sheet (j .at))
@@ -139,16 +138,13 @@ betweenBy sheet a p j (M.found (M.BLOCK b) next) = turn j a
 betweenBy sheet a p j (M.found M.TASK next) = turn j a
 betweenBy sheet a p j (M.found (M.RELEASE r) next) = turn j a
 betweenBy sheet a p j (M.found M.END next) = turn j a
-betweenBy sheet a p j (M.found (M.LOAD r v) next) = onRegisters a (replace (a .registers) (8 * p + r) v) (goesOn (movedTo j next))
-betweenBy sheet a p j (M.found (M.ADD r q) next) = onRegisters a (added (a .registers) p r q) (goesOn (movedTo j next))
-betweenBy sheet a p j (M.found (M.READ r w) next) = turn j a
-betweenBy sheet a p j (M.found (M.PAIR w o n) next) = turn j a
-betweenBy sheet a p j (M.found (M.SWAP r) next) = turn j a
-betweenBy sheet a p j (M.found M.BEGIN next) = turn j a
-betweenBy sheet a p j (M.found (M.access x) next) =
+betweenBy sheet a p j (M.found (M.body (M.LOAD r v)) next) = onRegisters a (replace (a .registers) (8 * p + r) v) (goesOn (movedTo j next))
+betweenBy sheet a p j (M.found (M.body (M.ADD r q)) next) = onRegisters a (added (a .registers) p r q) (goesOn (movedTo j next))
+betweenBy sheet a p j (M.found (M.body (M.outside c)) next) = turn j a
+betweenBy sheet a p j (M.found (M.body (M.inside (M.access x))) next) =
     onAccess a
     (accessTick (a .cells) (a .status) (a .saves) (a .stores) (a .registers) (a .copies) (a .kinds) (a .remembered) p (movedTo j next) (accessOf x))
-betweenBy sheet a p j (M.found M.COMMIT next) =
+betweenBy sheet a p j (M.found (M.body (M.inside M.COMMIT)) next) =
     onGathered a
     (commitBy sheet (a .copies) (a .names) (a .olds) (a .news) (a .inits) (a .overlapped) (a .kinds) (a .remembered) (a .counts) p (movedTo j next))
 
