@@ -29,14 +29,7 @@ pending-view vs (C.Block v) next = refl
 pending-view vs C.Task next = refl
 pending-view vs (C.Release r) next = refl
 pending-view vs C.End next = refl
-pending-view vs (C.Load r v) next = refl
-pending-view vs (C.Add r q) next = refl
-pending-view vs (C.Read r w) next = refl
-pending-view vs (C.Pair w o n) next = refl
-pending-view vs (C.Swap r) next = refl
-pending-view vs C.Begin next = refl
-pending-view vs (C.Access a) next = refl
-pending-view vs C.Commit next = refl
+pending-view vs (C.Body c) next = refl
 
 -- one turn more of the loop while the highest task is not the one at hand
 abbrev pub apart : Bool → ℕ
