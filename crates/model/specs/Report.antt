@@ -7,7 +7,7 @@ use lib.ListN.{length}
 use Rattle.model.specs.Lists.{at}
 use Rattle.model.specs.Sheet.{Sheet}
 use Rattle.model.specs.Word.{Memory, currentOf, current}
-use Rattle.model.specs.Job.{Task}
+use Rattle.model.specs.Job.{Task, countList}
 use Rattle.model.specs.Transaction.{blockIn}
 use Rattle.model.specs.Machine.{Machine, taskAt}
 
@@ -47,7 +47,7 @@ abbrev pub blockLine : Memory → ℕ → List ℕ
 blockLine m b = line 0x42 (b ∷ blockIn m b .version ∷ blockIn m b .values)
 
 abbrev pub taskLine : ℕ → Task → List ℕ
-taskLine p t = line 0x54 (p ∷ t .counts .finished ∷ t .counts .spent ∷ t .counts .rejected ∷ t .counts .ticks ∷ [])
+taskLine p t = line 0x54 (p ∷ countList (t .counts))
 
 abbrev pub registerLine : ℕ → Task → List ℕ
 registerLine p t = line 0x52 (p ∷ t .job .registers)

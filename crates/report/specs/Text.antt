@@ -6,7 +6,7 @@ use lib.Dec.{leb}
 use lib.ListN.{length}
 use Rattle.model.specs.Ceilings.{maxWords, maxBlocks, maxTasks}
 use Rattle.model.specs.Sheet.{Sheet}
-use Rattle.model.specs.Job.{Task}
+use Rattle.model.specs.Job.{countList}
 use Rattle.model.specs.Machine.{Machine, taskAt}
 use Rattle.model.specs.Report.{line, lines, wordLine, blockLine}
 use Rattle.model.specs.Answer.{written}
@@ -31,10 +31,6 @@ pub record Reported (text before after : List ℕ) (answer : ℕ) : Type 0 where
   pub tells : answer ≡ length text
   pub buffer : after ≡ written (leb (length text) (length before)) text before .buffer
 
--- a task's row of counts
-abbrev pub countsOf : Task → List ℕ
-countsOf t = t .counts .finished ∷ t .counts .spent ∷ t .counts .rejected ∷ t .counts .ticks ∷ []
-
 -- The arrays and totals are those of a machine that ran a sheet: its memory, and of each task with a body the registers and counts.
 pub record Holds (s : Sheet) (m : Machine) (cells status saves stores registers counts : List ℕ) (t : Totals) : Type 0 where
   pub words : t .words ≡ length (s .words)
@@ -42,7 +38,7 @@ pub record Holds (s : Sheet) (m : Machine) (cells status saves stores registers 
   pub tasks : t .tasks ≡ length (s .bodies)
   pub memory : m .memory ≡ memoryOf cells status saves stores
   pub registerRows : (p : ℕ) → p < length (s .bodies) → taskAt (m .tasks) p .job .registers ≡ row 8 p registers
-  pub countRows : (p : ℕ) → p < length (s .bodies) → countsOf (taskAt (m .tasks) p) ≡ row 4 p counts
+  pub countRows : (p : ℕ) → p < length (s .bodies) → countList (taskAt (m .tasks) p .counts) ≡ row 4 p counts
   pub now : m .now ≡ t .now
   pub dropped : m .dropped ≡ t .dropped
 
