@@ -10,7 +10,7 @@ use Rattle.model.specs.Refusal as R
 use Rattle.model.specs.Sheet.{Verdict, accepted, turnedDown, verdict}
 use Rattle.model.specs.Answer as M
 use Rattle.model.specs.Answer.{Checked, checkAnswer, runAnswer, answeredBy, limitedBy, written, refuse, reportOf}
-use Rattle.model.proofs.Run.Theorem.{demand-3}
+use Rattle.model.proofs.Demand3.Theorem.{demand-3}
 use Rattle.model.proofs.Rates.Theorem.{rates}
 use Rattle.commands.specs.View.{viewRefusal}
 use Rattle.sheet.specs.View.{viewVerdict, checkedOf}

@@ -142,6 +142,17 @@ untouchedA =
     ∷ 0x45 ∷ 0x20 ∷ 0x30 ∷ 0x20 ∷ 0x30 ∷ 0x0A
     ∷ []
 
+-- P10's report: "B 0 16777215 41 0 0 0 0 0 0 77", "T 0 0 1 0 20", "R 0 42 1 0 0 0 0 0 0", "E 20 0"
+spentU : List ℕ
+spentU =
+    0x42 ∷ 0x20 ∷ 0x30 ∷ 0x20 ∷ 0x31 ∷ 0x36 ∷ 0x37 ∷ 0x37 ∷ 0x37 ∷ 0x32 ∷ 0x31 ∷ 0x35 ∷ 0x20 ∷ 0x34 ∷ 0x31
+    ∷ 0x20 ∷ 0x30 ∷ 0x20 ∷ 0x30 ∷ 0x20 ∷ 0x30 ∷ 0x20 ∷ 0x30 ∷ 0x20 ∷ 0x30 ∷ 0x20 ∷ 0x30 ∷ 0x20 ∷ 0x37 ∷ 0x37 ∷ 0x0A
+    ∷ 0x54 ∷ 0x20 ∷ 0x30 ∷ 0x20 ∷ 0x30 ∷ 0x20 ∷ 0x31 ∷ 0x20 ∷ 0x30 ∷ 0x20 ∷ 0x32 ∷ 0x30 ∷ 0x0A
+    ∷ 0x52 ∷ 0x20 ∷ 0x30 ∷ 0x20 ∷ 0x34 ∷ 0x32 ∷ 0x20 ∷ 0x31
+    ∷ 0x20 ∷ 0x30 ∷ 0x20 ∷ 0x30 ∷ 0x20 ∷ 0x30 ∷ 0x20 ∷ 0x30 ∷ 0x20 ∷ 0x30 ∷ 0x20 ∷ 0x30 ∷ 0x0A
+    ∷ 0x45 ∷ 0x20 ∷ 0x32 ∷ 0x30 ∷ 0x20 ∷ 0x30 ∷ 0x0A
+    ∷ []
+
 -- THE TABLE
 -- row 5 of the refusal table: 33 WORDs
 words33 : List ℕ
@@ -156,7 +167,7 @@ getsTo zero = []
 getsTo (suc n) = get 0 n 0 ∷ getsTo n
 
 pub table : List Case
-unfolding nineBlocks getsTo refused figures report bytesA reportA untouchedA words33
+unfolding nineBlocks getsTo refused figures report bytesA reportA untouchedA spentU words33
 table =
     -- P1, byte for byte, and the sheet as document 01 writes it
     report sheetA 65535 reportA
@@ -192,6 +203,7 @@ table =
     -- P9 and P10
     ∷ figures (sheetU 3) (ticksDone 29 ∷ valueIs 0 0 42 ∷ valueIs 0 7 77 ∷ versionIs 0 4 ∷ finishedAre 0 1 ∷ spentAre 0 0 ∷ [])
     ∷ figures (sheetU 16777215) (ticksDone 20 ∷ valueIs 0 0 41 ∷ versionIs 0 16777215 ∷ finishedAre 0 0 ∷ spentAre 0 1 ∷ [])
+    ∷ report (sheetU 16777215) 65535 spentU
     -- two tasks U
     ∷ figures sheetUU (ticksDone 75 ∷ valueIs 0 0 43 ∷ versionIs 0 5 ∷ rejectedAre 0 0 ∷ rejectedAre 1 0 ∷ dropsAre 0 ∷ [])
     ∷ []

@@ -10,10 +10,10 @@ pub mod Cases
 pub mod Bounds
 -- well formed machines
 pub mod Fit
--- demand 3 (`demand-3` in Run/Theorem.antt): exchanges, transactions, history and order, and how they join
-pub mod Whole
+-- demand 3 (`demand-3` in Demand3/Theorem.antt): exchanges, transactions, history and order, and how they join
+pub mod Exchanges
 pub mod Transactions
-pub mod Order
-pub mod Run
+pub mod History
+pub mod Demand3
 -- the rates (`rates` in Rates/Theorem.antt)
 pub mod Rates

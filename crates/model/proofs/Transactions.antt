@@ -1,10 +1,10 @@
 -- Demand 3, the transaction layer. Each transaction is followed on the plain machine from BEGIN on; where its exchange says yes, the plain
 -- transaction takes the contents before to the contents after (`commit-replays` in Replay.antt), and no other statement changes a block.
 
--- the invariants V, D and the pass, and what is taken from the exchange layer
+-- the invariants: versions, owners of the stores, the pass; and what is taken from the exchange layer
 pub mod Facts
 pub mod Given
--- V, laws of contents, and what a pass keeps while others move
+-- versions, laws of contents, and what a pass keeps while others move
 pub mod Versions
 pub mod Contents
 pub mod Frame

@@ -1,5 +1,5 @@
 -- Demand 3 on small runs, one for each slip that breaks it: all orders of a run's operations are tried, and one fact over the
--- whole table says that each run has one, by computation. Order/Search.antt proves that the test `whole` decides the claim.
+-- whole table says that each run has one, by computation. History/Search.antt proves that the test `whole` decides the claim.
 use Prim.Native.Nat.{ℕ, zero, suc}
 use mathlib.Core.Bool.{Bool, true, false, not, _&&_, _||_}
 use mathlib.Core.Path.{_≡_, refl}

@@ -20,6 +20,10 @@ pub record Block : Type 0 where
   pub version : ℕ
   pub values : List ℕ
 
+-- what stands for a block that is not there
+abbrev pub noBlock : Block
+noBlock = record { version = 0; values = [] }
+
 -- what stands only outside a transaction
 pub data Outside : Type 0 where
   -- register, word

@@ -69,6 +69,10 @@ counts f s r t = record { finished = f; spent = s; rejected = r; ticks = t }
 abbrev pub noCounts : Counts
 noCounts = counts 0 0 0 0
 
+-- as a list, for the T line
+abbrev pub countList : Counts → List ℕ
+countList c = c .finished ∷ c .spent ∷ c .rejected ∷ c .ticks ∷ []
+
 -- a count rises by one
 abbrev pub raised : Count → Counts → Counts
 raised finished c = counts (suc (c .finished)) (c .spent) (c .rejected) (c .ticks)

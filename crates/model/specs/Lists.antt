@@ -1,6 +1,8 @@
--- The library's `getD` and `set` under names that stay shut in proofs: an element by its number, and a list with one element replaced.
+-- Lists: the library's `getD` and `set` under names that stay shut in proofs, and being in a list.
 use Prim.Native.Nat.{ℕ}
-use mathlib.Core.List.{List}
+use mathlib.Core.Path.{_≡_}
+use mathlib.Core.Logic.{_⊎_}
+use mathlib.Core.List.{List, [], _∷_}
 use lib.ListN.{getD, set}
 
 -- the element with that number, and the first argument past the end
@@ -10,3 +12,8 @@ at d l i = getD l i d
 -- past the end nothing changes
 unfoldable pub replace : {A : Type 0} → List A → ℕ → A → List A
 replace l i a = set l i a
+
+-- the element is in the list
+abbrev pub In : {A : Type 0} → A → List A → Type 0
+In a [] = ⊥
+In a (b ∷ l) = (a ≡ b) ⊎ In a l

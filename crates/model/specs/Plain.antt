@@ -6,7 +6,7 @@ use mathlib.Core.Option.{Option, none, some}
 use lib.Dec.{eqb}
 use lib.ListN.{length, replicate}
 use Rattle.model.specs.Lists.{at, replace}
-use Rattle.model.specs.Command.{GET, PUT, Block, access, COMMIT, BodyCommand, LOAD, ADD, outside, inside}
+use Rattle.model.specs.Command.{GET, PUT, Block, noBlock, access, COMMIT, BodyCommand, LOAD, ADD, outside, inside}
 use Rattle.model.specs.Arguments.{Pair, Arguments, readOf, swapOf, transactionOf}
 use Rattle.model.specs.Transaction.{loaded, added}
 
@@ -44,9 +44,6 @@ pub record Pass : Type 0 where
   pub registers : List ℕ
   pub copies : List (Option (List ℕ))
   pub answers : List ℕ
-
-abbrev pub noBlock : Block
-noBlock = record { version = 0; values = [] }
 
 abbrev pub noCopies : List Block → List (Option (List ℕ))
 noCopies bs = replicate (length bs) none

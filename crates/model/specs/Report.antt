@@ -7,8 +7,8 @@ use lib.ListN.{length}
 use Rattle.model.specs.Lists.{at}
 use Rattle.model.specs.Sheet.{Sheet}
 use Rattle.model.specs.Word.{Memory, currentOf, current}
-use Rattle.model.specs.Job.{Task}
-use Rattle.model.specs.Transaction.{bank, versionOf, storeOf}
+use Rattle.model.specs.Job.{Task, countList}
+use Rattle.model.specs.Transaction.{blockIn}
 use Rattle.model.specs.Machine.{Machine, taskAt}
 
 unfoldable pub digitsBy : Bool → (ℕ → List ℕ → List ℕ) → ℕ → List ℕ → List ℕ
@@ -43,12 +43,11 @@ lines (suc n) i f = f i ++ lines n (suc i) f
 abbrev pub wordLine : Memory → ℕ → List ℕ
 wordLine m w = line 0x57 (w ∷ currentOf m w ∷ [])
 
--- version and values by the bank word's current value
 abbrev pub blockLine : Memory → ℕ → List ℕ
-blockLine m b = line 0x42 (b ∷ versionOf (currentOf m (bank b)) ∷ at [] (m .stores) (storeOf (currentOf m (bank b))))
+blockLine m b = line 0x42 (b ∷ blockIn m b .version ∷ blockIn m b .values)
 
 abbrev pub taskLine : ℕ → Task → List ℕ
-taskLine p t = line 0x54 (p ∷ t .counts .finished ∷ t .counts .spent ∷ t .counts .rejected ∷ t .counts .ticks ∷ [])
+taskLine p t = line 0x54 (p ∷ countList (t .counts))
 
 abbrev pub registerLine : ℕ → Task → List ℕ
 registerLine p t = line 0x52 (p ∷ t .job .registers)

@@ -6,8 +6,8 @@ use lib.Dec.{eqb}
 use lib.ListN.{replicate}
 use Rattle.model.specs.Ceilings.{maxWords, maxBlocks, blockValues, lastVersion, valueRange}
 use Rattle.model.specs.Lists.{at, replace}
-use Rattle.model.specs.Command.{Access, GET, PUT, Inside, access, COMMIT, BodyCommand, LOAD, ADD, outside, inside}
-use Rattle.model.specs.Word.{Memory, stored, setStored, Reading, loading, Read, reads, gives, readTick}
+use Rattle.model.specs.Command.{Access, GET, PUT, Block, Inside, access, COMMIT, BodyCommand, LOAD, ADD, outside, inside}
+use Rattle.model.specs.Word.{Memory, currentOf, stored, setStored, Reading, loading, Read, reads, gives, readTick}
 use Rattle.model.specs.Exchange.{Entry, entry, Exchange, exchangeOf, commitSaidYes, Exchanged, goes, ends, exchangeTick}
 use Rattle.model.specs.Job.{Touched, untouched, remembered, copied, Transaction, Inner, between, first, copying, again, committing, transacting}
 use Rattle.model.specs.Job.{job, rejected, Task, withJob, counting, rest, done, doneBy, ended}
@@ -26,6 +26,10 @@ versionOf v = v / 256
 
 abbrev pub storeOf : ℕ → ℕ
 storeOf v = v % 256
+
+-- block b, by its bank word's current value
+abbrev pub blockIn : Memory → ℕ → Block
+blockIn m b = record { version = versionOf (currentOf m (bank b)); values = at [] (m .stores) (storeOf (currentOf m (bank b))) }
 
 abbrev pub blockOf : Access → ℕ
 blockOf (GET r b o) = b

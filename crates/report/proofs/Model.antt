@@ -48,11 +48,11 @@ module _ {text before after : List ℕ} {r : ℕ} (call : Reported text before a
   pub answer-written : r ≤ length before → answer 0 r after ≡ written (leb (length text) (length before)) text before
   unfolding written
   answer-written fits =
-      let e : leb (length text) (length before) ≡ true = le-leb (length text) (length before) (omega (arith, call .length)) in
-      rw (call .buffer, call .length, e)
+      let e : leb (length text) (length before) ≡ true = le-leb (length text) (length before) (omega (arith, call .tells)) in
+      rw (call .buffer, call .tells, e)
 
   pub answer-too-short : length before < r → answer 10 r after ≡ written (leb (length text) (length before)) text before
   unfolding written
   answer-too-short short =
-      let e : leb (length text) (length before) ≡ false = lt-leb (length text) (length before) (omega (arith, call .length)) in
-      rw (call .buffer, call .length, e)
+      let e : leb (length text) (length before) ≡ false = lt-leb (length text) (length before) (omega (arith, call .tells)) in
+      rw (call .buffer, call .tells, e)

@@ -15,7 +15,7 @@ use Rattle.model.proofs.Lists.{at-past}
 use Rattle.memory.specs.Packed.{unpack, valueOf, countOf, validOf, taskOf}
 use Rattle.memory.specs.Rows.{row, rows, rowsFrom}
 use Rattle.memory.proofs.Rows.{at-row, at-rows}
-use Rattle.report.specs.Text.{memoryOf}
+use Rattle.memory.specs.Held.{memoryOf}
 
 length-rowsFrom : (n p k : ℕ) (l : List ℕ) → length (rowsFrom n p k l) ≡ k
 unfolding rowsFrom

@@ -11,7 +11,8 @@ use Rattle.model.specs.Answer.{written}
 use Rattle.model.specs.Report.{line, lines, wordLine, blockLine}
 use Rattle.report.specs.declared.Totals.{Totals}
 use Rattle.report.specs.Writing.{Written}
-use Rattle.report.specs.Text.{memoryOf, taskLinesOf, reportText, Reported}
+use Rattle.report.specs.Text.{taskLinesOf, reportText, Reported}
+use Rattle.memory.specs.Held.{memoryOf}
 use Rattle.report.proofs.Writing.{then, as-text}
 
 pub whole : (cells status saves stores registers counts : List ℕ) (t : Totals) {w b p i j k r : ℕ} {start middle later last end : List ℕ}
@@ -43,7 +44,7 @@ module _ {m n : ℕ} {text empty : List ℕ} (b : List ℕ) (w : Written m text 
       let inside : length text ≤ length b = omega (arith, found, ap length unchanged) in
       let placed : sets b 0 text ≡ text ++ drop (length text) b = sets-eq text b 0 (omega arith) ∙ ap (λ (x : ℕ). text ++ drop x b) (zero-add (length text)) in
       record {
-        length = again .place ∙ zero-add (length text);
+        tells = again .place ∙ zero-add (length text);
         buffer = again .bytes ∙ ap (λ (x : List ℕ). sets x 0 text) unchanged ∙ rw (le-leb (length text) (length b) inside) placed;
       }
 
@@ -51,4 +52,4 @@ module _ {m n : ℕ} {text empty : List ℕ} (b : List ℕ) (w : Written m text 
   unfolding written
   too-short short =
       let outside : length b < length text = omega (arith, found, ap length unchanged) in
-      record { length = found; buffer = rw (lt-leb (length text) (length b) outside) unchanged }
+      record { tells = found; buffer = rw (lt-leb (length text) (length b) outside) unchanged }

@@ -1,23 +1,18 @@
 -- The report's text, read off the arrays of a finished run by the model's own lines, and what a call leaves in the buffer.
 use Prim.Native.Nat.{ℕ, min, _<_, _≤_}
 use mathlib.Core.Path.{_≡_}
-use mathlib.Core.List.{List, [], _∷_, _++_, map}
+use mathlib.Core.List.{List, [], _∷_, _++_}
 use lib.Dec.{leb}
 use lib.ListN.{length}
 use Rattle.model.specs.Ceilings.{maxWords, maxBlocks, maxTasks}
 use Rattle.model.specs.Sheet.{Sheet}
-use Rattle.model.specs.Word.{Memory, memory}
-use Rattle.model.specs.Job.{Task}
+use Rattle.model.specs.Job.{countList}
 use Rattle.model.specs.Machine.{Machine, taskAt}
 use Rattle.model.specs.Report.{line, lines, wordLine, blockLine}
 use Rattle.model.specs.Answer.{written}
-use Rattle.memory.specs.Packed.{unpack}
-use Rattle.memory.specs.Rows.{row, rows}
+use Rattle.memory.specs.Rows.{row}
+use Rattle.memory.specs.Held.{memoryOf}
 use Rattle.report.specs.declared.Totals.{Totals}
-
--- the memory that the arrays hold: packed cells, save places and stores in rows of eight
-abbrev pub memoryOf : List ℕ → List ℕ → List ℕ → List ℕ → Memory
-memoryOf cells status saves stores = memory (map unpack cells) status (rows 8 8 saves) (rows 8 48 stores)
 
 -- a task's T line with its row of four counts, and its R line with its row of eight registers
 abbrev pub taskLinesOf : List ℕ → List ℕ → ℕ → List ℕ
@@ -33,12 +28,8 @@ reportText cells status saves stores registers counts t =
 
 -- The answer is the report's length; a buffer that is long enough has the report at its start, and nothing else is changed.
 pub record Reported (text before after : List ℕ) (answer : ℕ) : Type 0 where
-  pub length : answer ≡ lib.ListN.length text
-  pub buffer : after ≡ written (leb (lib.ListN.length text) (lib.ListN.length before)) text before .buffer
-
--- a task's row of counts
-abbrev pub countsOf : Task → List ℕ
-countsOf t = t .counts .finished ∷ t .counts .spent ∷ t .counts .rejected ∷ t .counts .ticks ∷ []
+  pub tells : answer ≡ length text
+  pub buffer : after ≡ written (leb (length text) (length before)) text before .buffer
 
 -- The arrays and totals are those of a machine that ran a sheet: its memory, and of each task with a body the registers and counts.
 pub record Holds (s : Sheet) (m : Machine) (cells status saves stores registers counts : List ℕ) (t : Totals) : Type 0 where
@@ -47,7 +38,7 @@ pub record Holds (s : Sheet) (m : Machine) (cells status saves stores registers 
   pub tasks : t .tasks ≡ length (s .bodies)
   pub memory : m .memory ≡ memoryOf cells status saves stores
   pub registerRows : (p : ℕ) → p < length (s .bodies) → taskAt (m .tasks) p .job .registers ≡ row 8 p registers
-  pub countRows : (p : ℕ) → p < length (s .bodies) → countsOf (taskAt (m .tasks) p) ≡ row 4 p counts
+  pub countRows : (p : ℕ) → p < length (s .bodies) → countList (taskAt (m .tasks) p .counts) ≡ row 4 p counts
   pub now : m .now ≡ t .now
   pub dropped : m .dropped ≡ t .dropped
 

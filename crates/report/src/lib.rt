@@ -10,7 +10,8 @@ ghost use Rattle.model.specs.Report.{fields, lines, wordLine, blockLine};
 ghost use Rattle.memory.specs.Packed.{unpack};
 ghost use Rattle.memory.specs.Rows.{rows};
 ghost use Rattle.report.specs.Writing.{Written, farthest};
-ghost use Rattle.report.specs.Text.{memoryOf, taskLinesOf, reportText, Reported};
+ghost use Rattle.report.specs.Text.{taskLinesOf, reportText, Reported};
+ghost use Rattle.memory.specs.Held.{memoryOf};
 
 // How many words, blocks and tasks the sheet declares, the ticks done and the releases dropped.
 pub struct Totals {

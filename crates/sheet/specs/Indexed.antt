@@ -64,9 +64,6 @@ Room x (RELEASE r) = x .releases < 256
 Room x END = 0 ≤ 0
 Room x (body c) = 0 ≤ 0
 
-abbrev pub noBlock : Block
-noBlock = record { version = 0; values = [] }
-
 -- a word, and a block, of an accepted sheet
 pub record IsWord (s : List ℕ) (i : ℕ) : Type 0 where
   pub sound : verdict s ≡ accepted

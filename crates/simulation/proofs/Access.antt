@@ -29,7 +29,8 @@ use Rattle.exchanges.specs.declared.read.Reading.the-variants.{Load}
 use Rattle.exchanges.specs.declared.read.Read.{Read}
 use Rattle.exchanges.specs.declared.read.Read.the-variants.{Reads, Gives}
 use Rattle.jobs.specs.declared.Job.{Job}
-use Rattle.simulation.proofs.View.{memoryOf, readOf, touchedOf, blocksOf, transactionOf, task}
+use Rattle.simulation.proofs.View.{readOf, touchedOf, blocksOf, transactionOf, task}
+use Rattle.memory.specs.Held.{memoryOf}
 use Rattle.simulation.proofs.Memory.{rows-at, rows-written}
 use Rattle.simulation.proofs.Reading.{read-tick}
 use Rattle.simulation.proofs.Blocks.{at-blocks, blocks-written, blocks-kind, value-remembered}

@@ -22,7 +22,8 @@ use Rattle.exchanges.specs.declared.read.Read.the-variants.{Reads, Gives}
 use Rattle.exchanges.specs.declared.exchange.Exchanged.{Exchanged}
 use Rattle.exchanges.specs.declared.exchange.Exchanged.the-variants.{Goes, Finds, Ends}
 use Rattle.jobs.specs.declared.Job.{Job}
-use Rattle.simulation.proofs.View.{memoryOf, entriesOf, pairsOf, readOf, task, withRegisters, withLoaded}
+use Rattle.simulation.proofs.View.{entriesOf, pairsOf, readOf, task, withRegisters, withLoaded}
+use Rattle.memory.specs.Held.{memoryOf}
 use Rattle.simulation.proofs.Entries.{no-pairs, no-entries}
 use Rattle.simulation.proofs.Exchange.{exchangedOf}
 use Rattle.simulation.proofs.ExchangeFrame.{ExchangeFrame}

@@ -28,7 +28,8 @@ use Rattle.exchanges.specs.declared.exchange.Exchanged.the-variants.{Goes, Find
 use Rattle.jobs.specs.declared.Phase.the-variants.{Idle}
 use Rattle.jobs.specs.declared.Job.{Job}
 use Rattle.simulation.proofs.Tabulate.{tabulate, tabulate-same}
-use Rattle.simulation.proofs.View.{Parts, memoryOf, touchedOf, blocksOf, transactionOf, taskOf, withCopies, withCounts, withLoaded}
+use Rattle.simulation.proofs.View.{Parts, touchedOf, blocksOf, transactionOf, taskOf, withCopies, withCounts, withLoaded}
+use Rattle.memory.specs.Held.{memoryOf}
 use Rattle.simulation.proofs.View.{entriesOf as viewEntries}
 use Rattle.simulation.proofs.Entries.{no-pairs, no-entries}
 use Rattle.simulation.proofs.Entered.{EntrySizes}

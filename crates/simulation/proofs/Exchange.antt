@@ -22,7 +22,8 @@ use Rattle.exchanges.specs.declared.exchange.Step.{Step}
 use Rattle.exchanges.specs.declared.exchange.Step.the-variants.{Start, Test, Load, Look, Fetch, Save, Fail, Mark, Install, Commit, Clean, CleanMark}
 use Rattle.exchanges.specs.declared.exchange.Exchanged.{Exchanged}
 use Rattle.exchanges.specs.declared.exchange.Exchanged.the-variants.{Goes, Finds, Ends}
-use Rattle.simulation.proofs.View.{memoryOf, entriesOf, numberOf, stepOf, exchangeOf}
+use Rattle.simulation.proofs.View.{entriesOf, numberOf, stepOf, exchangeOf}
+use Rattle.memory.specs.Held.{memoryOf}
 use Rattle.simulation.proofs.Memory.{cell-at, own-unpack, rows-written}
 use Rattle.simulation.proofs.Entries.{at-entries, length-entries, entries-loaded, entries-looked}
 use Rattle.simulation.proofs.Reading.{saved-for}

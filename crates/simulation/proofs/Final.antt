@@ -7,7 +7,7 @@ use lib.ListN.{length, getD}
 use lib.Seq.{ext-getD}
 use Rattle.model.specs.Lists.{at}
 use Rattle.model.specs.Sheet.{Sheet, sheetOf, verdict, accepted}
-use Rattle.model.specs.Job.{Task}
+use Rattle.model.specs.Job.{Task, countList}
 use Rattle.model.specs.Machine.{Machine, taskAt, run, startMachine}
 use Rattle.model.proofs.Fit.Start.{start-fit}
 use Rattle.model.proofs.Fit.Accepted.{accepted-fit}
@@ -24,15 +24,11 @@ use Rattle.simulation.proofs.World.{machineOf, task-at}
 use Rattle.simulation.proofs.Run.{run-fits}
 use Rattle.simulation.proofs.Start.{Starts, start-same, start-sound}
 
--- a task's row of counts
-abbrev pub countsOf : Task → List ℕ
-countsOf t = t .counts .finished ∷ t .counts .spent ∷ t .counts .rejected ∷ t .counts .ticks ∷ []
-
 -- the arrays hold that machine of a sheet: its memory, and of each task that the sheet declares the registers and counts
 pub record Holds (s : Sheet) (m : Machine) (b : Arrays) (e : Ended) : Type 0 where
   pub memory : m .memory ≡ sharedOf b
   pub registers : (p : ℕ) → p < length (s .bodies) → taskAt (m .tasks) p .job .registers ≡ row 8 p (b .registers)
-  pub counts : (p : ℕ) → p < length (s .bodies) → countsOf (taskAt (m .tasks) p) ≡ row 4 p (b .counts)
+  pub counts : (p : ℕ) → p < length (s .bodies) → countList (taskAt (m .tasks) p .counts) ≡ row 4 p (b .counts)
   pub now : m .now ≡ e .ticks
   pub dropped : m .dropped ≡ e .dropped
 
@@ -65,7 +61,7 @@ module _ (bytes : List ℕ) (small : (i : ℕ) → getD bytes i 0 < 256) (good :
       record {
         memory = ap (λ (m : Machine). m .memory) last;
         registers = λ p h. ap (λ (m : Machine). taskAt (m .tasks) p .job .registers) last ∙ ap (λ (t : Task). t .job .registers) (task-at bytes bodies (length (s .bodies)) (c .bodies) b (f .jobs) p h);
-        counts = λ p h. ap (λ (m : Machine). countsOf (taskAt (m .tasks) p)) last ∙ ap countsOf (task-at bytes bodies (length (s .bodies)) (c .bodies) b (f .jobs) p h)
+        counts = λ p h. ap (λ (m : Machine). countList (taskAt (m .tasks) p .counts)) last ∙ ap (λ (t : Task). countList (t .counts)) (task-at bytes bodies (length (s .bodies)) (c .bodies) b (f .jobs) p h)
             ∙ four (row 4 p (b .counts)) (length-row 4 p (b .counts) (omega (arith, sized .counts, c .bodies)));
         now = ap (λ (m : Machine). m .now) last;
         dropped = ap (λ (m : Machine). m .dropped) last;

@@ -20,7 +20,8 @@ use Rattle.jobs.specs.declared.Inner.the-variants as Inner
 use Rattle.jobs.specs.declared.Phase.{Phase}
 use Rattle.jobs.specs.declared.Phase.the-variants as Phase
 use Rattle.jobs.specs.declared.Job.{Job}
-use Rattle.simulation.proofs.View.{Parts, memoryOf, entriesOf, pairsOf, taskOf}
+use Rattle.simulation.proofs.View.{Parts, entriesOf, pairsOf, taskOf}
+use Rattle.memory.specs.Held.{memoryOf}
 
 -- the sizes of all arrays
 abbrev pub sizesOf : Arrays → List ℕ

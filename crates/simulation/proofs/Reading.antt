@@ -13,7 +13,8 @@ use Rattle.exchanges.specs.declared.read.Reading.{Reading}
 use Rattle.exchanges.specs.declared.read.Reading.the-variants.{Load, Look, Fetch}
 use Rattle.exchanges.specs.declared.read.Read.the-variants.{Reads, Gives}
 use Rattle.memory.specs.Rows.{rows}
-use Rattle.simulation.proofs.View.{memoryOf, readingOf, readOf}
+use Rattle.simulation.proofs.View.{readingOf, readOf}
+use Rattle.memory.specs.Held.{memoryOf}
 use Rattle.simulation.proofs.Memory.{cell-at, own-unpack, rows-at}
 
 eighth : (w : ℕ) → w % 8 < 8

@@ -20,7 +20,8 @@ use Rattle.memory.proofs.Rows.{at-row, length-row}
 use Rattle.statements.specs.Statements.{Arrays}
 use Rattle.machine.specs.World.{noJob, zeros, startArrays, startWorld}
 use Rattle.jobs.specs.declared.Job.{Job}
-use Rattle.simulation.proofs.View.{memoryOf, taskOf}
+use Rattle.simulation.proofs.View.{taskOf}
+use Rattle.memory.specs.Held.{memoryOf}
 use Rattle.simulation.proofs.Entries.{no-pairs}
 use Rattle.simulation.proofs.Parts.{partsOf}
 use Rattle.simulation.proofs.Releases.{releasesFrom}

@@ -27,10 +27,6 @@ use Rattle.jobs.specs.declared.Phase.the-variants as Phase
 use Rattle.jobs.specs.declared.Job.{Job}
 use Rattle.simulation.proofs.Tabulate.{tabulate}
 
--- packed cells; eight save places a task, eight values a store
-abbrev pub memoryOf : List ℕ → List ℕ → List ℕ → List ℕ → W.Memory
-memoryOf cells status saves stores = W.memory (map unpack cells) status (rows 8 8 saves) (rows 8 48 stores)
-
 abbrev pub readingOf : Reading → W.Reading
 readingOf Reading.Load = W.loading
 readingOf (Reading.Look w) = W.looking (unpack w)

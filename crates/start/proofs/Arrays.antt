@@ -7,12 +7,12 @@ use native.Mathlib.Omega.{arith}
 use borrow.Author.Tests.{lt-ltb, le-ltb}
 use lib.ListN.{length, getD, set, length-map, length-set}
 use Rattle.model.specs.Lists.{at, replace}
-use Rattle.model.specs.Command.{Block, bigEndian, operand, blockFrom}
+use Rattle.model.specs.Command.{Block, bigEndian, operand, blockFrom, noBlock}
 use Rattle.model.specs.Sheet.{Sheet, sheetOf, verdict, accepted}
 use Rattle.model.specs.Machine.{copiesOf}
 use Rattle.model.specs.Word.{freshWord}
 use Rattle.model.proofs.Lists.{same?, at-map, at-past, replace-same, replace-other, length-replace}
-use Rattle.model.proofs.Fit.Sheet.{SheetFit, noBlock, blockAt}
+use Rattle.model.proofs.Fit.Sheet.{SheetFit, blockAt}
 use Rattle.model.proofs.Fit.Accepted.{accepted-fit}
 use Rattle.memory.specs.Packed.{unpack, packed}
 use Rattle.memory.specs.Rows.{row, rows}

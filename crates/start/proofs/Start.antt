@@ -9,14 +9,14 @@ use lib.Dec.{ltb}
 use lib.ListN.{length, getD, replicate, length-map, length-append, length-replicate}
 use lib.Seq.{ext-getD, getD-append-add}
 use Rattle.model.specs.Lists.{at}
-use Rattle.model.specs.Command.{Block}
+use Rattle.model.specs.Command.{Block, noBlock}
 use Rattle.model.specs.Sheet.{Sheet}
 use Rattle.model.specs.Word.{Word, freshWord}
 use Rattle.model.specs.Transaction.{bankValue}
 use Rattle.model.specs.Machine.{startMemory, filled, banksFrom, zeros, startValues}
 use Rattle.model.proofs.Lists.{at-append, at-replicate, at-past, at-map}
 use Rattle.model.proofs.Fit.Elements.{below?, at-filled}
-use Rattle.model.proofs.Fit.Sheet.{SheetFit, noBlock}
+use Rattle.model.proofs.Fit.Sheet.{SheetFit}
 use Rattle.model.proofs.Fit.Memory.{MemoryFit}
 use Rattle.model.proofs.Fit.Start.{filled-size, start-memory-fit}
 use Rattle.memory.specs.Rows.{row, rowsFrom, rows}

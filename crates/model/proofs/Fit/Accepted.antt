@@ -17,8 +17,8 @@ use Rattle.model.proofs.Fit.Machine.{Fit}
 use Rattle.model.proofs.Fit.Reading.{FoundAt, good}
 use Rattle.model.proofs.Fit.Declared.{EightValues}
 use Rattle.model.proofs.Fit.Walk.{walk}
-use Rattle.model.proofs.Fit.Tick.{after-ticks-fit, run-fit, run-now}
-use Rattle.model.proofs.Order.Steps.{stateAfter}
+use Rattle.model.proofs.Fit.Tick.{after-ticks-fit, run-fit}
+use Rattle.model.proofs.History.Steps.{stateAfter}
 use Rattle.model.proofs.Fit.Start.{start-fit}
 
 -- THE TABLE'S ROWS
@@ -73,8 +73,3 @@ module _ (bytes : List ℕ) (e : verdict bytes ≡ accepted) where
   -- at the end
   pub final-fit : (limit : ℕ) → Fit (sheetOf bytes) (run limit (startMachine (sheetOf bytes)))
   final-fit limit = let c = accepted-fit bytes e in run-fit c limit (start-fit c)
-
--- no more ticks than the limit
-pub final-now : (s : Sheet) (limit : ℕ) → run limit (startMachine s) .now ≤ limit
-unfolding startMachine
-final-now s limit = omega (arith, run-now limit (startMachine s))

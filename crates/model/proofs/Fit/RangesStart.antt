@@ -5,7 +5,7 @@ use mathlib.Core.List.{List, [], _∷_, _++_, map}
 use native.Mathlib.Omega.{arith}
 use lib.ListN.{length, replicate, getD}
 use Rattle.model.specs.Lists.{at}
-use Rattle.model.specs.Command.{Block, Release, BodyCommand, Command, WORD, BLOCK, TASK, RELEASE, END, body, blockFrom, Row, table, operand, bigEndian}
+use Rattle.model.specs.Command.{Block, Release, BodyCommand, Command, WORD, BLOCK, TASK, RELEASE, END, body, blockFrom, Row, table, operand, bigEndian, noBlock}
 use Rattle.model.specs.Sheet.{Sheet, Declared, declares, inOpenBody, declare, declared, accepted, verdict, sheetOf}
 use Rattle.model.specs.Transaction.{bankValue}
 use Rattle.model.specs.Machine.{noTask, taskAt, filled, zeros, copiesOf, banksFrom, tasksFrom, startMemory, startMachine, run, startValues}
@@ -13,13 +13,13 @@ use Rattle.model.specs.Fault.{Known}
 use Rattle.model.specs.Word.{freshWord}
 use Rattle.model.proofs.Lists.{at-map}
 use Rattle.model.proofs.Fit.Elements.{append-every, replicate-every, first-every}
-use Rattle.model.proofs.Fit.Sheet.{releaseAt, noBlock, blockAt, SheetFit, noRelease}
+use Rattle.model.proofs.Fit.Sheet.{releaseAt, blockAt, SheetFit, noRelease}
 use Rattle.model.proofs.Fit.Ranges.{Value, WordRange, MemoryRange, CommandsRange, TaskRange, Ranges, CommandRange}
 use Rattle.model.proofs.Fit.RangesTransaction.{no-entry-range}
 use Rattle.model.proofs.Fit.RangesStatement.{zeros-range, after-ticks-range}
 use Rattle.model.proofs.Fit.Reading.{FoundAt, Good, ending, going, good}
 use Rattle.model.proofs.Fit.Accepted.{EachRow, row-each, accepted-fit}
-use Rattle.model.proofs.Order.Steps.{stateAfter, stopped}
+use Rattle.model.proofs.History.Steps.{stateAfter, stopped}
 use Rattle.model.proofs.Fit.Start.{start-fit}
 
 -- the numbers of a sheet

@@ -20,7 +20,7 @@ use Rattle.model.proofs.Fit.Sheet.{SheetFit}
 use Rattle.model.proofs.Fit.Machine.{PhaseFit, TaskFit, Fit}
 use Rattle.model.proofs.Fit.Running.{RunningFit, running-fit}
 use Rattle.model.proofs.Fit.Tick.{tasks-of, arrive-fit, arrived-fit, declared, after-ticks-fit}
-use Rattle.model.proofs.Order.Steps.{stateAfter}
+use Rattle.model.proofs.History.Steps.{stateAfter}
 use Rattle.model.proofs.Fit.Ranges.{Value, MemoryRange, ReadRange, EntryRange, CommandsRange, PhaseRange, TaskRange, Ranges}
 use Rattle.model.proofs.Fit.RangesExchange.{read-range, ExchangedRange, exchange-range}
 use Rattle.model.proofs.Fit.RangesTransaction.{TurnRange, no-entry, no-entry-range, done-range, in-phase-range, fresh-range, within-range, loaded-range, added-range, transaction-range}

@@ -4,7 +4,7 @@ use mathlib.Core.Path.{_≡_}
 use mathlib.Core.List.{List, [], _∷_}
 use lib.ListN.{length}
 use Rattle.model.specs.Lists.{at}
-use Rattle.model.specs.Command.{Release, Block, BodyCommand}
+use Rattle.model.specs.Command.{Release, Block, BodyCommand, noBlock}
 use Rattle.model.specs.Fault.{Known, emptyBody}
 use Rattle.model.specs.Sheet.{Sheet}
 use Rattle.model.proofs.Fit.Body.{Open, Faultless}
@@ -32,9 +32,6 @@ pub record ReleasesFit (tasks now : ℕ) (rs : List Release) : Type 0 where
   pub task : (i : ℕ) → i < length rs → releaseAt rs i .task < tasks
   pub rising : (i j : ℕ) → i < j → j < length rs → Rises (releaseAt rs i) (releaseAt rs j)
   pub later : (i : ℕ) → i < length rs → now ≤ releaseAt rs i .tick
-
-abbrev pub noBlock : Block
-noBlock = record { version = 0; values = [] }
 
 abbrev pub blockAt : List Block → ℕ → Block
 blockAt bs b = at noBlock bs b

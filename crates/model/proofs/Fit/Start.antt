@@ -6,14 +6,14 @@ use native.Mathlib.Omega.{arith}
 use lib.ListN.{length, replicate, length-append, length-replicate, length-map}
 use Rattle.model.specs.Ceilings.{registers}
 use Rattle.model.specs.Lists.{at}
-use Rattle.model.specs.Command.{Block, BodyCommand}
+use Rattle.model.specs.Command.{Block, BodyCommand, noBlock}
 use Rattle.model.specs.Sheet.{Sheet}
 use Rattle.model.specs.Word.{Word, freshWord}
 use Rattle.model.specs.Job.{idle, Task, task, noCounts, noJob}
 use Rattle.model.specs.Machine.{noTask, taskAt, filled, zeros, copiesOf, banksFrom, tasksFrom, startMemory, startMachine, startValues}
 use Rattle.model.proofs.Lists.{at-append, at-map, at-replicate}
 use Rattle.model.proofs.Fit.Elements.{append-each, replicate-each, at-filled}
-use Rattle.model.proofs.Fit.Sheet.{noBlock, SheetFit}
+use Rattle.model.proofs.Fit.Sheet.{SheetFit}
 use Rattle.model.proofs.Fit.Memory.{MemoryFit}
 use Rattle.model.proofs.Fit.Machine.{TaskFit, DeclaredFit, Fit}
 

@@ -19,7 +19,7 @@ use Rattle.model.proofs.Fit.Sheet.{BodyFit, SheetFit, ReleasesFit, rele
 use Rattle.model.proofs.Fit.Machine.{OutsideFit, PlainFit, TaskFit, DeclaredFit, Fit}
 use Rattle.model.proofs.Fit.Outside.{no-entries, no-unloaded, TurnFit}
 use Rattle.model.proofs.Fit.Memory.{MemoryFit}
-use Rattle.model.proofs.Order.Steps.{stateAfter, stopped}
+use Rattle.model.proofs.History.Steps.{stateAfter, stopped}
 use Rattle.model.proofs.Fit.Elements.{below?}
 use Rattle.model.proofs.Fit.Statement.{statement-fit}
 use Rattle.model.proofs.Fit.Running.{RunningFit, running-fit, busy}
@@ -223,13 +223,5 @@ unfolding stateAfter
 after-ticks-fit c zero f = f
 after-ticks-fit c (suc n) f = tick-fit c (after-ticks-fit c n f)
 
-after-ticks-now : (n : ℕ) (m : Machine) → stateAfter m n .now ≡ m .now + n
-unfolding stateAfter
-after-ticks-now zero m = omega arith
-after-ticks-now (suc n) m = omega (arith, tick-now (stateAfter m n), after-ticks-now n m)
-
 pub run-fit : {s : Sheet} → SheetFit s → (limit : ℕ) {m : Machine} → Fit s m → Fit s (run limit m)
 run-fit {s} c limit {m} f = let r = stopped limit m in subst (λ (z : Machine). Fit s z) (sym (r .state)) (after-ticks-fit c (r .ticks) f)
-
-pub run-now : (limit : ℕ) (m : Machine) → run limit m .now ≤ m .now + limit
-run-now limit m = let r = stopped limit m in omega (arith, ap (λ (z : Machine). z .now) (r .state), after-ticks-now (r .ticks) m, r .most)

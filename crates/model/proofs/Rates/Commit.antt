@@ -15,11 +15,11 @@ use Rattle.model.specs.Machine.{Machine, noTask, taskAt, Running, nobody
 use Rattle.model.specs.Rates.{ownBefore}
 use Rattle.model.proofs.Lists.{same?, replace-same, replace-other, impossible}
 use Rattle.model.proofs.Fit.Sheet.{SheetFit}
-use Rattle.model.proofs.Whole.Rates.{Ran, before-start, own-tick, others, exchange-rate, exchange-ends}
-use Rattle.model.proofs.Order.Steps.{stateAfter, arrivedAt, state-next}
+use Rattle.model.proofs.Exchanges.Rates.{Ran, before-start, own-tick, others, exchange-rate, exchange-ends}
+use Rattle.model.proofs.History.Steps.{stateAfter, arrivedAt, state-next}
 use Rattle.model.proofs.Fit.Running.{running-foremost}
-use Rattle.model.proofs.Order.Arrive.{JobArrived, waits, starts, Arrived, none-runs}
-use Rattle.model.proofs.Order.Ticks.{arrived-at}
+use Rattle.model.proofs.History.Arrive.{JobArrived, waits, starts, Arrived, none-runs}
+use Rattle.model.proofs.History.Ticks.{arrived-at}
 use Rattle.model.proofs.Rates.Own.{other-task, own-none, own-runs, own-waits}
 use Rattle.model.proofs.Rates.Status.{status-stays}
 use Rattle.model.proofs.Rates.Run.{who, below-status}

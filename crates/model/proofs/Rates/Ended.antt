@@ -9,10 +9,10 @@ use Rattle.model.specs.History.{Operation, History, operationAt, Event, 
 use Rattle.model.specs.Rates.{ownBefore}
 use Rattle.model.specs.Arguments.{Arguments}
 use Rattle.model.proofs.Lists.{same?, impossible}
-use Rattle.model.proofs.Order.Advance.{Changed}
-use Rattle.model.proofs.Order.Moves.{Settling, Moves, staysOutside, begun, goesOn, answers, readEnds, swapCommits, swapEnds, swapCommitsAndEnds, swapRejected, transactionCommits, transactionEnds, transactionCommitsAndEnds, nothingTouched, endsSpent}
-use Rattle.model.proofs.Order.Noted.{latestOf, noted-nothing, noted-begins, noted-amends}
-use Rattle.model.proofs.Order.Linked.{Open, OpenBy}
+use Rattle.model.proofs.History.Advance.{Changed}
+use Rattle.model.proofs.History.Moves.{Settling, Moves, staysOutside, begun, goesOn, answers, readEnds, swapCommits, swapEnds, swapCommitsAndEnds, swapRejected, transactionCommits, transactionEnds, transactionCommitsAndEnds, nothingTouched, endsSpent}
+use Rattle.model.proofs.History.Noted.{latestOf, noted-nothing, noted-begins, noted-amends}
+use Rattle.model.proofs.History.Linked.{Open, OpenBy}
 use Rattle.model.proofs.Rates.Timely.{Rate, RateBy}
 
 -- `who` does the statements

@@ -8,10 +8,10 @@ use lib.ListN.{length}
 use Rattle.model.specs.History.{Operation, History, operationAt, Event, nothing, begins, amends, noted}
 use Rattle.model.specs.Arguments.{Arguments}
 use Rattle.model.proofs.Lists.{same?}
-use Rattle.model.proofs.Order.Advance.{Changed}
-use Rattle.model.proofs.Order.Moves.{Settling, Moves, staysOutside, begun, goesOn, answers, readEnds, swapCommits, swapEnds, swapCommitsAndEnds, swapRejected, transactionCommits, transactionEnds, transactionCommitsAndEnds, nothingTouched, endsSpent}
-use Rattle.model.proofs.Order.Noted.{latestOf, newOperation, noted-nothing, latest-nothing, noted-begins, latest-begins, latest-begins-else, noted-amends, latest-amends}
-use Rattle.model.proofs.Order.Linked.{Open, OpenBy}
+use Rattle.model.proofs.History.Advance.{Changed}
+use Rattle.model.proofs.History.Moves.{Settling, Moves, staysOutside, begun, goesOn, answers, readEnds, swapCommits, swapEnds, swapCommitsAndEnds, swapRejected, transactionCommits, transactionEnds, transactionCommitsAndEnds, nothingTouched, endsSpent}
+use Rattle.model.proofs.History.Noted.{latestOf, newOperation, noted-nothing, latest-nothing, noted-begins, latest-begins, latest-begins-else, noted-amends, latest-amends}
+use Rattle.model.proofs.History.Linked.{Open, OpenBy}
 use Rattle.model.proofs.Rates.Ended.{not-some, the-same}
 
 -- where operation a with task and arguments stands, the tasks being inside operations with the arguments `inside`

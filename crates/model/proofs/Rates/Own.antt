@@ -14,7 +14,7 @@ use Rattle.model.specs.Rates.{inTick, runningIn, isTask, oneIf, onlyIf, 
 use Rattle.model.proofs.Lists.{test?}
 use Rattle.model.proofs.Fit.Elements.{and-left, and-right}
 use Rattle.model.proofs.Fit.Running.{busy, running-foremost, nobody-none, none-nobody}
-use Rattle.model.proofs.Order.Steps.{stateAfter, arrivedAt}
+use Rattle.model.proofs.History.Steps.{stateAfter, arrivedAt}
 
 -- COUNTING
 pub other-task : {p q : ℕ} (r : Running) → q ≢ p → r ≡ running p → isTask q r ≡ false

@@ -16,16 +16,16 @@ use Rattle.model.specs.Rates.{ownBefore}
 use Rattle.model.specs.Arguments.{Arguments}
 use Rattle.model.proofs.Lists.{same?, replace-same, replace-other, impossible}
 use Rattle.model.proofs.Fit.Sheet.{SheetFit}
-use Rattle.model.proofs.Order.Steps.{stateAfter, arrivedAt, historyAfter, state-next, history-next}
+use Rattle.model.proofs.History.Steps.{stateAfter, arrivedAt, historyAfter, state-next, history-next}
 use Rattle.model.proofs.Fit.Running.{Foremost, running-foremost}
-use Rattle.model.proofs.Order.Arrive.{JobArrived, waits, starts, Arrived, none-runs}
-use Rattle.model.proofs.Order.Moves.{given, staysOutside}
-use Rattle.model.proofs.Order.Statement.{moves}
-use Rattle.model.proofs.Order.Noted.{latestOf}
-use Rattle.model.proofs.Order.Linked.{InOperation, givenTo}
-use Rattle.model.proofs.Order.Ticks.{given-arrived, MachineLinked, next-of, arrived-at, arrived-now, arrived-linked}
-use Rattle.model.proofs.Order.Start.{started}
-use Rattle.model.proofs.Run.Always.{holds, holds-at}
+use Rattle.model.proofs.History.Arrive.{JobArrived, waits, starts, Arrived, none-runs}
+use Rattle.model.proofs.History.Moves.{given, staysOutside}
+use Rattle.model.proofs.History.Statement.{moves}
+use Rattle.model.proofs.History.Noted.{latestOf}
+use Rattle.model.proofs.History.Linked.{InOperation, givenTo}
+use Rattle.model.proofs.History.Ticks.{given-arrived, MachineLinked, next-of, arrived-at, arrived-now, arrived-linked}
+use Rattle.model.proofs.History.Start.{started}
+use Rattle.model.proofs.Demand3.Always.{holds, holds-at}
 use Rattle.model.proofs.Rates.Own.{other-task, own-none, own-runs, own-waits}
 use Rattle.model.proofs.Rates.Status.{status-stays}
 use Rattle.model.proofs.Rates.Timely.{Timely, RateBy, timely-inside, timely-others, timely-next, timely-first}

@@ -11,10 +11,10 @@ use Rattle.model.specs.Exchange.{Exchange, Exchanged}
 use Rattle.model.specs.Job.{Task}
 use Rattle.model.specs.Machine.{statement}
 use Rattle.model.proofs.Lists.{same?, test?, replace-same, replace-other, replace-past}
-use Rattle.model.proofs.Whole.Act.{Act, memoryAfter}
-use Rattle.model.proofs.Whole.Outcome.{Decides, commits, refuses, Cleans, renews, passes, gives-back, leaves, marks-after, Outcome, starts, tests-done, tests-on, loads, looks-own, looks-other, fetches, saves-differing, saves-to-mark, saves, fails, marks, installs, misses, decides, decides-last, cleans, cleans-last, cleans-to-mark, outcome}
-use Rattle.model.proofs.Run.Acts.{Touches, nothing, looks, exchanges, touches}
-use Rattle.model.proofs.Run.Acts.{loads as loadsWord}
+use Rattle.model.proofs.Exchanges.Act.{Act, memoryAfter}
+use Rattle.model.proofs.Exchanges.Outcome.{Decides, commits, refuses, Cleans, renews, passes, gives-back, leaves, marks-after, Outcome, starts, tests-done, tests-on, loads, looks-own, looks-other, fetches, saves-differing, saves-to-mark, saves, fails, marks, installs, misses, decides, decides-last, cleans, cleans-last, cleans-to-mark, outcome}
+use Rattle.model.proofs.Demand3.Acts.{Touches, nothing, looks, exchanges, touches}
+use Rattle.model.proofs.Demand3.Acts.{loads as loadsWord}
 
 module _ (p q : ℕ) (ne : q ≢ p) where
   marked-stays : (m : Memory) (r : ℕ) → statusOf m q ≡ 1 → statusOf (setStatus m r 1) q ≡ 1

@@ -12,9 +12,9 @@ use Rattle.model.specs.Rates.{ReadsBank, Loads, Gives, IsAt, NoneIn, Rea
 use Rattle.model.specs.Arguments.{Arguments}
 use Rattle.model.proofs.Fit.Sheet.{SheetFit}
 use Rattle.model.proofs.Fit.Accepted.{accepted-fit}
-use Rattle.model.proofs.Order.Steps.{stateAfter, arrivedAt, stopped}
-use Rattle.model.proofs.Order.Ticks.{now-is}
-use Rattle.model.proofs.Order.Start.{started}
+use Rattle.model.proofs.History.Steps.{stateAfter, arrivedAt, stopped}
+use Rattle.model.proofs.History.Ticks.{now-is}
+use Rattle.model.proofs.History.Start.{started}
 use Rattle.model.proofs.Rates.Own.{in-tick}
 use Rattle.model.proofs.Rates.Timely.{Rate, Fewer, timely-fewer}
 use Rattle.model.proofs.Rates.Run.{who, rated}

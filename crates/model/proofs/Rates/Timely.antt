@@ -14,11 +14,11 @@ use Rattle.model.specs.Machine.{readBy, swapBy, plainTick, statement, pa
 use Rattle.model.specs.History.{Event}
 use Rattle.model.specs.Arguments.{Arguments, readOf, swapOf, transactionOf, untilCommit}
 use Rattle.model.proofs.Lists.{impossible}
-use Rattle.model.proofs.Whole.Rates.{Reads, at-first, goes-on, reading-rate, reading-ends, Ran, before-start, own-tick, others, exchange-rate, exchange-ends}
-use Rattle.model.proofs.Order.Exchange.{pairsOf, Follows, follows}
-use Rattle.model.proofs.Order.Moves.{given, Settling, Moves, staysOutside, begun, goesOn, answers, readEnds, swapCommits, swapEnds, swapCommitsAndEnds, swapRejected, transactionCommits, transactionEnds, transactionCommitsAndEnds, nothingTouched, endsSpent}
-use Rattle.model.proofs.Order.Statement.{moves}
-use Rattle.model.proofs.Order.Linked.{InOperation}
+use Rattle.model.proofs.Exchanges.Rates.{Reads, at-first, goes-on, reading-rate, reading-ends, Ran, before-start, own-tick, others, exchange-rate, exchange-ends}
+use Rattle.model.proofs.History.Exchange.{pairsOf, Follows, follows}
+use Rattle.model.proofs.History.Moves.{given, Settling, Moves, staysOutside, begun, goesOn, answers, readEnds, swapCommits, swapEnds, swapCommitsAndEnds, swapRejected, transactionCommits, transactionEnds, transactionCommitsAndEnds, nothingTouched, endsSpent}
+use Rattle.model.proofs.History.Statement.{moves}
+use Rattle.model.proofs.History.Linked.{InOperation}
 
 -- the exchange x of task p has done t ticks of its own; it began with entries of the same pairs
 pub record InExchange (t p : ℕ) (m : Memory) (x : Exchange) : Type 0 where

@@ -13,12 +13,12 @@ use Rattle.model.specs.Rates.{ownBefore}
 use Rattle.model.proofs.Lists.{same?, replace-same, replace-other}
 use Rattle.model.proofs.Fit.Sheet.{SheetFit}
 use Rattle.model.proofs.Fit.Statement.{statement-fit}
-use Rattle.model.proofs.Order.Steps.{stateAfter, arrivedAt, state-next}
+use Rattle.model.proofs.History.Steps.{stateAfter, arrivedAt, state-next}
 use Rattle.model.proofs.Fit.Running.{Foremost, running-foremost}
-use Rattle.model.proofs.Order.Ticks.{arrived-at, arrived-linked}
-use Rattle.model.proofs.Order.Start.{started}
-use Rattle.model.proofs.Run.Always.{holds, holds-at, value-now}
-use Rattle.model.proofs.Run.State.{declared-task, ready}
+use Rattle.model.proofs.History.Ticks.{arrived-at, arrived-linked}
+use Rattle.model.proofs.History.Start.{started}
+use Rattle.model.proofs.Demand3.Always.{holds, holds-at, value-now}
+use Rattle.model.proofs.Demand3.State.{declared-task, ready}
 use Rattle.model.proofs.Rates.Own.{other-task, own-runs, own-waits}
 use Rattle.model.proofs.Rates.Run.{who}
 

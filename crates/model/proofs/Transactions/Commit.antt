@@ -7,14 +7,14 @@ use mathlib.Core.Option.{Option, none, some}
 use native.Mathlib.Omega.{arith}
 use lib.ListN.{length}
 use Rattle.model.specs.Lists.{at}
-use Rattle.model.specs.Command.{Block, BodyCommand}
+use Rattle.model.specs.Command.{Block, BodyCommand, noBlock}
 use Rattle.model.specs.Sheet.{Sheet}
 use Rattle.model.specs.Word.{Memory, currentOf}
 use Rattle.model.specs.Exchange.{Entry}
 use Rattle.model.specs.Job.{Touched, untouched, remembered, copied, Transaction, Inner}
-use Rattle.model.specs.Transaction.{bank, versionOf, storeOf, rememberedOf, touchedOf, gather}
-use Rattle.model.specs.Plain.{Contents, Pass, noBlock, passed, passOf, commitBlocks, commits, result, plainly}
-use Rattle.model.specs.Claim.{blockIn, contentsOf}
+use Rattle.model.specs.Transaction.{bank, versionOf, storeOf, rememberedOf, touchedOf, gather, blockIn}
+use Rattle.model.specs.Plain.{Contents, Pass, passed, passOf, commitBlocks, commits, result, plainly}
+use Rattle.model.specs.Claim.{contentsOf}
 use Rattle.model.specs.Arguments.{transactionOf, untilCommit}
 use Rattle.model.proofs.Lists.{impossible}
 use Rattle.model.proofs.Fit.Exchange.{entryOf, SamePairs}
@@ -69,11 +69,11 @@ module _ {m n : Memory} {copies : List ℕ} {ts : List Touched} (C : Committed m
     now-at : (t : Touched) → at untouched ts b ≡ t → touched? t ≡ true → bankIn n b ≡ newValue copies t
     now-at t e h = rw e at (C .now b (rw e h))
 
-  -- V: the version of a PUT block rises by one, every other bank word stays
+  -- versions: the version of a PUT block rises by one, every other bank word stays
   pub committed-raised : (b v k : ℕ) → at untouched ts b ≡ copied v k → versionOf (bankIn n b) ≡ suc (versionOf (bankIn m b))
   committed-raised b v k e = rw (now-at b (copied v k) e refl, was-at b (copied v k) e refl) (version-bank (suc (versionOf v)) (at 0 copies k) (small b v k e))
 
-  pub committed-stays : (b : ℕ) → copied? (at untouched ts b) ≡ false → bankIn n b ≡ bankIn m b
+  committed-stays : (b : ℕ) → copied? (at untouched ts b) ≡ false → bankIn n b ≡ bankIn m b
   committed-stays b h = go (at untouched ts b) refl h
     where
       go : (t : Touched) → at untouched ts b ≡ t → copied? t ≡ false → bankIn n b ≡ bankIn m b

@@ -17,8 +17,8 @@ use Rattle.model.specs.History.{Operation, eventOf}
 use Rattle.model.specs.Arguments.{transactionOf, untilCommit}
 use Rattle.model.proofs.Lists.{impossible}
 use Rattle.model.proofs.Fit.Transaction.{TransactionFit}
-use Rattle.model.proofs.Whole.Outcome.{outcome}
-use Rattle.model.proofs.Order.Exchange.{saysYes, says-not}
+use Rattle.model.proofs.Exchanges.Outcome.{outcome}
+use Rattle.model.proofs.History.Exchange.{saysYes, says-not}
 use Rattle.model.proofs.Transactions.Facts.{bankIn, unchanged, slotsOf, PassFacts, TransactionFacts, TaskFacts}
 use Rattle.model.proofs.Transactions.Given.{Swapped, Cells, same, swapped}
 use Rattle.model.proofs.Transactions.Frame.{Apart, Blocks, blocks-fit, pass-apart}

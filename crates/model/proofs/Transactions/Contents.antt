@@ -7,8 +7,8 @@ use native.Mathlib.Omega.{arith}
 use lib.ListN.{length}
 use lib.Seq.{ext-getD}
 use Rattle.model.specs.Lists.{at}
-use Rattle.model.specs.Command.{Block}
-use Rattle.model.specs.Plain.{noBlock, commitBlocks}
+use Rattle.model.specs.Command.{Block, noBlock}
+use Rattle.model.specs.Plain.{commitBlocks}
 use Rattle.model.specs.Claim.{each}
 
 pub ext-at : {A : Type 0} (d : A) (l r : List A) → length l ≡ length r → ((i : ℕ) → i < length l → at d l i ≡ at d r i) → l ≡ r

@@ -5,8 +5,8 @@ use mathlib.Core.Path.{_≡_, refl, sym, _∙_, ap}
 use borrow.Author.Tests.{ne-eqb}
 use Rattle.model.specs.Word.{Memory, statusOf, setStatus}
 use Rattle.model.specs.Exchange.{Step, start, test, load, look, fetch, fail, mark, install, commit, save, clean, Exchange, Exchanged, goes, ends, to, saidYes}
-use Rattle.model.proofs.Whole.Outcome.{commits, refuses, Cleans, renews, passes, gives-back, leaves, marks-after, Outcome, starts, tests-done, tests-on, loads, looks-own, looks-other, fetches, saves-differing, saves-to-mark, saves, fails, marks, installs, misses, decides, decides-last, cleans, cleans-last, cleans-to-mark}
-use Rattle.model.proofs.Order.Exchange.{saysYes}
+use Rattle.model.proofs.Exchanges.Outcome.{commits, refuses, Cleans, renews, passes, gives-back, leaves, marks-after, Outcome, starts, tests-done, tests-on, loads, looks-own, looks-other, fetches, saves-differing, saves-to-mark, saves, fails, marks, installs, misses, decides, decides-last, cleans, cleans-last, cleans-to-mark}
+use Rattle.model.proofs.History.Exchange.{saysYes}
 
 -- a tick, by what it says
 pub data Seen (p : ℕ) (m : Memory) (x : Exchange) : Exchanged → Type 0 where

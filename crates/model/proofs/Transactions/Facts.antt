@@ -1,4 +1,4 @@
--- The invariants of the transaction layer: versions (V), the owners of the block stores (D), and each pass as the plain machine does it.
+-- The invariants of the transaction layer: versions, the owners of the block stores, and each pass as the plain machine does it.
 use Prim.Native.Nat.{ℕ, suc, _<_, _≤_}
 use mathlib.Core.Bool.{Bool, true, false}
 use mathlib.Core.Path.{_≡_, subst}
@@ -6,16 +6,16 @@ use mathlib.Core.List.{List, [], _∷_}
 use mathlib.Core.Option.{Option, none, some}
 use lib.ListN.{length}
 use Rattle.model.specs.Lists.{at}
-use Rattle.model.specs.Command.{Access, GET, PUT, Block, access, BodyCommand, inside}
+use Rattle.model.specs.Command.{Access, GET, PUT, Block, access, BodyCommand, inside, noBlock}
 use Rattle.model.specs.Word.{Memory, stored, own, current, currentOf, Reading, loading, looking, fetching}
 use Rattle.model.specs.Job.{Touched, untouched, remembered, copied, Transaction, Inner, between, first, copying, again, committing, Phase, idle, plain, reading, exchanging, transacting, Task}
 use Rattle.model.specs.Transaction.{bank, versionOf, storeOf, blockOf, rememberedOf, touchedOf, takenBack}
 use Rattle.model.specs.Machine.{taskAt}
-use Rattle.model.specs.Plain.{Pass, noBlock, passed, passOf}
+use Rattle.model.specs.Plain.{Pass, passed, passOf}
 use Rattle.model.specs.History.{Operation}
 use Rattle.model.specs.Arguments.{transactionOf, untilCommit}
 use Rattle.model.proofs.Fit.Transaction.{touched?}
-use Rattle.model.proofs.Order.Moves.{innerCommitted}
+use Rattle.model.proofs.History.Moves.{innerCommitted}
 
 -- VERSIONS
 -- the current value of block b's bank word

@@ -7,12 +7,12 @@ use mathlib.Core.Option.{Option, none, some}
 use native.Mathlib.Omega.{arith}
 use lib.ListN.{length}
 use Rattle.model.specs.Lists.{at}
-use Rattle.model.specs.Command.{GET, PUT, Block, BodyCommand}
+use Rattle.model.specs.Command.{GET, PUT, Block, BodyCommand, noBlock}
 use Rattle.model.specs.Word.{Word, Memory, Reading, loading, looking, fetching}
 use Rattle.model.specs.Exchange.{Entry}
 use Rattle.model.specs.Job.{Touched, untouched, remembered, copied, Transaction, Inner, between, first, copying, again, committing}
 use Rattle.model.specs.Transaction.{storeOf, blockOf, rememberedOf, touchedOf}
-use Rattle.model.specs.Plain.{Pass, noBlock}
+use Rattle.model.specs.Plain.{Pass}
 use Rattle.model.proofs.Fit.Transaction.{touched?, TransactionFit}
 use Rattle.model.proofs.Transactions.Facts.{bankIn, Past, Change, SameCopy, Beside, Agrees, Way, InReading, CopiedTo, Fetched, AtInner, PassFacts}
 use Rattle.model.proofs.Transactions.Given.{loadedBy, innerReading, SameContent}

@@ -18,7 +18,7 @@ use Rattle.model.proofs.Fit.Transaction.{copied?}
 use Rattle.model.proofs.Transactions.Facts.{bankIn, transaction-facts, Change, unchanged, slotsOf, block, slot, Owners, TaskFacts, Transactions}
 use Rattle.model.proofs.Transactions.Given.{Given}
 use Rattle.model.proofs.Transactions.Frame.{Apart, pass-apart}
-use Rattle.model.proofs.Transactions.Commit.{committed-stays, committed-change}
+use Rattle.model.proofs.Transactions.Commit.{committed-change}
 use Rattle.model.proofs.Transactions.Owners.{owners-stay, slots-apart, owners-exchanged}
 use Rattle.model.proofs.Transactions.Pass.{operationAfter}
 use Rattle.model.proofs.Transactions.Committing.{TransactionYes, CommitsNow, Effect, quiet, commits, Stated}
@@ -72,21 +72,13 @@ module _ {words blocks tasks p : ℕ} {m : Memory} {ts : List Task} {operations 
       })
       now (taskAt ts p .job .phase) refl (R .fitAfter) (R .given .cells)
 
-  -- V: a bank word keeps its current value, or its version rises by one
+  -- versions: a bank word keeps its current value, or its version rises by one
   pub bank-changes : (b : ℕ) → Change (bankIn m b) (bankIn (statementOf p m ts .memory) b)
   bank-changes b = go (stated .effect)
     where
       go : Effect blocks p m (taskAt ts p) (operations p) (statementOf p m ts .memory) (statementOf p m ts .task) → Change (bankIn m b) (bankIn (statementOf p m ts .memory) b)
       go (quiet y h e) = unchanged (h b)
       go (commits y C e f) = committed-change (C .cells) (small (R .declared) (R .invariant .owners) C e) b
-
-  -- it rises only where a transaction commits that has PUT the block
-  pub bank-stays : (b : ℕ) → ((y : TransactionYes p m (taskAt ts p)) → copied? (touchedOf (y .transaction) b) ≡ true → ⊥) → bankIn (statementOf p m ts .memory) b ≡ bankIn m b
-  bank-stays b n = go (stated .effect)
-    where
-      go : Effect blocks p m (taskAt ts p) (operations p) (statementOf p m ts .memory) (statementOf p m ts .task) → bankIn (statementOf p m ts .memory) b ≡ bankIn m b
-      go (quiet y h e) = h b
-      go (commits y C e f) = test? (copied? (touchedOf (y .transaction) b)) (λ k. absurd (n y k)) (committed-stays (C .cells) (small (R .declared) (R .invariant .owners) C e) b)
 
   -- stores are written only in copy slots of the task that runs
   pub block-stores : (b : ℕ) → b < blocks → at [] (statementOf p m ts .memory .stores) (storeOf (bankIn m b)) ≡ at [] (m .stores) (storeOf (bankIn m b))

@@ -1,4 +1,4 @@
--- D: each block and each copy slot has a store of its own. The yes of an exchange renames the owners; no other statement moves one.
+-- Owners: each block and each copy slot has a store of its own. The yes of an exchange renames the owners; no other statement moves one.
 use Prim.Native.Nat.{ℕ, suc, _<_}
 use mathlib.Core.Bool.{Bool, true, false}
 use mathlib.Core.Path.{_≡_, refl, sym, _∙_, ap}
@@ -37,7 +37,7 @@ module _ {blocks tasks : ℕ} {banks banks′ : ℕ → ℕ} {slots slots′ : �
       same (block b) i = rw (eb b)
       same (slot p k) i = rw (es p)
 
--- D as task p needs it
+-- the owners as task p needs them
 pub slots-apart : {blocks tasks : ℕ} {m : Memory} {slots : ℕ → List ℕ} (p : ℕ) (copies : List ℕ) → p < tasks → slots p ≡ copies → Owners blocks tasks (bankIn m) slots → SlotsApart blocks m copies
 slots-apart p copies lt e D =
     record {

@@ -19,10 +19,10 @@ use Rattle.model.specs.Plain.{Pass as Plain}
 use Rattle.model.specs.History.{Operation, Event, nothing, begins, amends, answering, eventOf}
 use Rattle.model.specs.Arguments.{transactionOf, untilCommit}
 use Rattle.model.proofs.Lists.{replace-other, impossible}
-use Rattle.model.proofs.Whole.Words.{current-own, current-other}
+use Rattle.model.proofs.Exchanges.Words.{current-own, current-other}
 use Rattle.model.proofs.Fit.Memory.{MemoryFit}
 use Rattle.model.proofs.Fit.Transaction.{touched?, AgainFit, TransactionFit}
-use Rattle.model.proofs.Order.Moves.{innerCommitted}
+use Rattle.model.proofs.History.Moves.{innerCommitted}
 use Rattle.model.proofs.Transactions.Facts.{bankIn, Past, slotsOf, PutAtWork, InReading, CopiedTo, Ready, AtInner, PassFacts, TaskFacts}
 use Rattle.model.proofs.Transactions.Versions.{now-past}
 use Rattle.model.proofs.Transactions.Frame.{blocks-fit}

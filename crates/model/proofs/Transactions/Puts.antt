@@ -8,11 +8,11 @@ use mathlib.Core.Option.{Option, none, some}
 use native.Mathlib.Omega.{arith}
 use lib.ListN.{length}
 use Rattle.model.specs.Lists.{at, replace}
-use Rattle.model.specs.Command.{PUT, Block, access, BodyCommand, inside}
+use Rattle.model.specs.Command.{PUT, Block, access, BodyCommand, inside, noBlock}
 use Rattle.model.specs.Word.{Memory, stored, setStored}
 use Rattle.model.specs.Job.{Touched, untouched, remembered, copied, Transaction, Inner, between}
 use Rattle.model.specs.Transaction.{storeOf, rememberedOf, touchedOf, touch}
-use Rattle.model.specs.Plain.{Pass, noBlock, valuesOf, puts, passBy, passed}
+use Rattle.model.specs.Plain.{Pass, valuesOf, puts, passBy, passed}
 use Rattle.model.specs.Arguments.{untilCommit}
 use Rattle.model.proofs.Lists.{replace-same, replace-other, length-replace, same?}
 use Rattle.model.proofs.Fit.Memory.{MemoryFit}

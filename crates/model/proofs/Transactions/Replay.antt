@@ -10,11 +10,11 @@ use Rattle.model.specs.Sheet.{Sheet}
 use Rattle.model.specs.Word.{Memory, currentOf}
 use Rattle.model.specs.Exchange.{Exchange}
 use Rattle.model.specs.Job.{Transaction, between, Phase, transacting, Task}
-use Rattle.model.specs.Transaction.{nothing?}
+use Rattle.model.specs.Transaction.{nothing?, blockIn}
 use Rattle.model.specs.Machine.{taskAt}
 use Rattle.model.specs.Plain.{result, plainly}
 use Rattle.model.specs.History.{Operation}
-use Rattle.model.specs.Claim.{blockIn, contentsOf}
+use Rattle.model.specs.Claim.{contentsOf}
 use Rattle.model.specs.Arguments.{untilCommit}
 use Rattle.model.proofs.Lists.{impossible}
 use Rattle.model.proofs.Transactions.Facts.{transaction-facts}

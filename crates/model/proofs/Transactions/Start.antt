@@ -8,9 +8,10 @@ use Rattle.model.specs.Sheet.{Sheet}
 use Rattle.model.specs.Transaction.{storeOf}
 use Rattle.model.specs.Machine.{taskAt, copiesOf, startMemory, startMachine}
 use Rattle.model.specs.History.{Operation}
-use Rattle.model.proofs.Fit.Sheet.{noBlock, SheetFit}
+use Rattle.model.specs.Command.{noBlock}
+use Rattle.model.proofs.Fit.Sheet.{SheetFit}
 use Rattle.model.proofs.Fit.Start.{start-task}
-use Rattle.model.proofs.Order.Start.{bank-start, start-memory}
+use Rattle.model.proofs.History.Start.{bank-start, start-memory}
 use Rattle.model.proofs.Transactions.Facts.{bankIn, slotsOf, Owner, block, slot, Declared, place, Owners, Transactions}
 use Rattle.model.proofs.Transactions.Versions.{store-bank}
 

@@ -20,9 +20,9 @@ use Rattle.model.proofs.Fit.Memory.{MemoryFit}
 use Rattle.model.proofs.Fit.Exchange.{entryOf}
 use Rattle.model.proofs.Fit.Transaction.{TransactionFit}
 use Rattle.model.proofs.Fit.Machine.{PhaseFit}
-use Rattle.model.proofs.Whole.Act.{memoryAfter}
-use Rattle.model.proofs.Whole.Outcome.{outcome}
-use Rattle.model.proofs.Order.Moves.{innerCommitted}
+use Rattle.model.proofs.Exchanges.Act.{memoryAfter}
+use Rattle.model.proofs.Exchanges.Outcome.{outcome}
+use Rattle.model.proofs.History.Moves.{innerCommitted}
 use Rattle.model.proofs.Transactions.Facts.{bankIn, slotsOf, transaction-facts, TaskFacts}
 use Rattle.model.proofs.Transactions.Given.{exchangeIn, Swapped, Cells, same, swapped}
 use Rattle.model.proofs.Transactions.Steps.{SlotsApart}

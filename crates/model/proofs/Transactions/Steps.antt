@@ -9,17 +9,17 @@ use native.Mathlib.Decide.{decLt}
 use native.Mathlib.Omega.{arith}
 use lib.ListN.{length, replicate, length-replicate}
 use Rattle.model.specs.Lists.{at, replace}
-use Rattle.model.specs.Command.{GET, Block, access, BodyCommand, inside}
+use Rattle.model.specs.Command.{GET, Block, access, BodyCommand, inside, noBlock}
 use Rattle.model.specs.Word.{Memory}
 use Rattle.model.specs.Job.{Touched, untouched, remembered, copied, Transaction, Inner, between}
 use Rattle.model.specs.Transaction.{storeOf, rememberedOf, touchedOf, freshTransaction}
-use Rattle.model.specs.Plain.{Pass, noBlock, noCopies, valuesBy, valuesOf, computes, passBy, passed}
+use Rattle.model.specs.Plain.{Pass, noCopies, valuesBy, valuesOf, computes, passBy, passed}
 use Rattle.model.specs.Arguments.{untilCommit}
 use Rattle.model.proofs.Lists.{at-past, at-replicate, impossible}
 use Rattle.model.proofs.Fit.Transaction.{touched?}
 use Rattle.model.proofs.Transactions.Facts.{bankIn, PutAtWork, SameCopy, Fetched, AtInner, PassFacts}
 
--- D as one task needs it: its slots are apart from the blocks' stores and from each other
+-- the owners as one task needs them: its slots are apart from the blocks' stores and from each other
 pub record SlotsApart (blocks : ℕ) (m : Memory) (copies : List ℕ) : Type 0 where
   pub fromBlocks : (b k : ℕ) → b < blocks → k < 4 → storeOf (bankIn m b) ≢ at 0 copies k
   pub different : (k j : ℕ) → k < 4 → j < 4 → at 0 copies k ≡ at 0 copies j → k ≡ j

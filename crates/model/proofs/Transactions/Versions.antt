@@ -1,4 +1,4 @@
--- V: a remembered value stays the current one or its version has been passed, and never comes back.
+-- Versions: a remembered value stays the current one or its version has been passed, and never comes back.
 use Prim.Native.Nat.{ℕ, _<_}
 use mathlib.Core.Path.{_≡_, refl, sym, _∙_}
 use native.Mathlib.Omega.{arith}

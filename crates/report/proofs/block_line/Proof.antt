@@ -1,6 +1,6 @@
 -- A B line: block, version, and the store's values.
 use borrow.Author.Needs.{needs}
-use Rattle.report.specs.Text.{memoryOf}
+use Rattle.memory.specs.Held.{memoryOf}
 use Rattle.model.specs.Report.{fields}
 use Rattle.report.proofs.Writing.{then, as-text}
 use Rattle.report.proofs.Views.{block-text}

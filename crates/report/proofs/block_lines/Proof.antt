@@ -4,7 +4,7 @@ use mathlib.Core.Path.{refl}
 use native.Mathlib.Omega.{arith}
 use borrow.Author.Needs.{needs}
 use Rattle.report.specs.Writing.{Written}
-use Rattle.report.specs.Text.{memoryOf}
+use Rattle.memory.specs.Held.{memoryOf}
 use Rattle.model.specs.Report.{lines, blockLine}
 use Rattle.report.proofs.Writing.{no-lines, line-more, all-lines, same-size}
 use Rattle.report.proofs.block_lines.Statement.{statement}

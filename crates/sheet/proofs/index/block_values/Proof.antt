@@ -1,8 +1,7 @@
 -- `block_values` meets its contract: the blocks stand behind the words, 37 bytes each.
 use Prim.Native.Nat.{ℕ}
-use Rattle.model.specs.Command.{Block}
+use Rattle.model.specs.Command.{Block, noBlock}
 use Rattle.sheet.proofs.Declared.{block-of, fits}
-use Rattle.sheet.specs.Indexed.{noBlock}
 use Rattle.commands.specs.Stages.{valuesFrom}
 use mathlib.Core.Path.{_∙_, ap, sym}
 use native.Mathlib.Omega.{arith}

@@ -1,8 +1,7 @@
 -- `version` meets its contract: the blocks stand behind the words, 37 bytes each.
 use Prim.Native.Nat.{ℕ}
-use Rattle.model.specs.Command.{Block, bigEndian}
+use Rattle.model.specs.Command.{Block, bigEndian, noBlock}
 use Rattle.sheet.proofs.Declared.{block-of, fits}
-use Rattle.sheet.specs.Indexed.{noBlock}
 use mathlib.Core.Path.{_∙_, ap, sym}
 use native.Mathlib.Omega.{arith}
 use Rattle.sheet.proofs.index.version.Statement.{statement}
