@@ -4,8 +4,8 @@ use mathlib.Core.Path.{_≡_, refl, sym, ap, _∙_}
 use mathlib.Core.List.{List, [], _∷_}
 use lib.ListN.{length, getD}
 use Rattle.model.specs.Lists.{at}
-use Rattle.model.specs.Command.{Release, Command, WORD, BLOCK, TASK, RELEASE, END, LOAD, ADD, READ, PAIR, SWAP, BEGIN, access, COMMIT}
-use Rattle.model.specs.Sheet.{declared, commandsFrom, sheetOf, verdict, accepted, commandsAt, declaredAt, bodyAt, releasesAt}
+use Rattle.model.specs.Command.{Release, Command, WORD, BLOCK, TASK, RELEASE, END, body}
+use Rattle.model.specs.Sheet.{declared, commandsFrom, sheetOf, verdict, accepted, commandsAt, declaredAt, bodyAt}
 use Rattle.model.specs.Machine.{Machine, run, startMachine}
 use Rattle.model.specs.Report.{report}
 use Rattle.model.specs.Answer.{reportOf}
@@ -28,19 +28,12 @@ leading-declared (END ∷ l) h = refl
 leading-declared (WORD v ∷ l) h = absurd h
 leading-declared (BLOCK b ∷ l) h = absurd h
 leading-declared (TASK ∷ l) h = absurd h
-leading-declared (LOAD r v ∷ l) h = absurd h
-leading-declared (ADD r q ∷ l) h = absurd h
-leading-declared (READ r w ∷ l) h = absurd h
-leading-declared (PAIR w o n ∷ l) h = absurd h
-leading-declared (SWAP r ∷ l) h = absurd h
-leading-declared (BEGIN ∷ l) h = absurd h
-leading-declared (access a ∷ l) h = absurd h
-leading-declared (COMMIT ∷ l) h = absurd h
+leading-declared (body c ∷ l) h = absurd h
 
 -- the places of an index are those of the model's bodies and releases
 module _ {s : List ℕ} {x : Sheet} (h : Indexed s x) where
-  body-start : (p : ℕ) → p < length (sheetOf s .bodies) → bodyFrom s (at 0 (x .bodies) p) ≡ at [] (sheetOf s .bodies) p
-  unfolding at bodyFrom declaredAt commandsAt
+  body-start : (p : ℕ) → p < length (sheetOf s .bodies) → bodyAt s (at 0 (x .bodies) p) ≡ at [] (sheetOf s .bodies) p
+  unfolding at
   body-start p l = sym (h .bodies p (rw (h .tasks) l))
 
   releases-start : releasesFrom s (x .released) ≡ sheetOf s .releases
