@@ -6,7 +6,8 @@ ghost use lib.ListN.{getD};
 ghost use Rattle.model.specs.Sheet.{sheetOf, verdict, accepted};
 ghost use Rattle.commands.specs.View.{viewCommand};
 ghost use lib.Dec.{eqb};
-ghost use Rattle.sheet.specs.Indexed.{Indexed, Room, counted, placeOr, emptyIndex, IsWord, IsBlock, noBlock};
+ghost use Rattle.model.specs.Command.{noBlock};
+ghost use Rattle.sheet.specs.Indexed.{Indexed, Room, counted, placeOr, emptyIndex, IsWord, IsBlock};
 use commands::Command;
 use commands::Decoded;
 
