@@ -16,7 +16,7 @@ use Rattle.model.specs.Plain.{Contents, plainly}
 use Rattle.model.specs.History.{Operation, History, operationAt, historyOf}
 use Rattle.model.specs.Claim.{countedBy, contentsOf, declaredContents, each}
 use Rattle.model.specs.Arguments.{Pair, Arguments, readOf, swapOf, transactionOf}
-use Rattle.model.proofs.Sheets.{body₀, body₁, bodyRead, against}
+use Rattle.model.proofs.Sheets.{body₀, body₁, bodyRead, against, bodyU, oneBlock}
 use Rattle.model.proofs.Bytes.{word, block, task, release, end, load, pair, swap, begin, get, put, commit}
 
 -- EQUAL NUMBERS AND CONTENTS
@@ -174,13 +174,17 @@ restarting =
     ++ task ++ begin ++ put 2 1 0 ++ commit
     ++ release 0 0 ++ release 45 1 ++ end
 
+-- two of U; the upper commits while the lower copies, so that the lower's GET has answered when its pass is lost
+lostAnswer : List ℕ
+lostAnswer = oneBlock 3 ++ bodyU ++ bodyU ++ release 0 0 ++ release 10 1 ++ end
+
 ownCopy : List ℕ
 unfolding zeroBlock
 ownCopy = zeroBlock ++ task ++ load 0 5 ++ begin ++ put 0 0 0 ++ get 1 0 0 ++ commit ++ release 0 0 ++ end
 
 -- THE TABLE, and beside each sheet the slips that leave its run without an order
 pub table : List (List ℕ)
-unfolding marking reading givenBack overtaken sameValue takenBack restarting ownCopy
+unfolding marking reading givenBack overtaken sameValue takenBack restarting lostAnswer ownCopy
 table =
     -- Mark skipped when the marker may still fail, Mark before Install dropped, Commit that ignores the status
     marking
@@ -196,6 +200,8 @@ table =
     ∷ takenBack
     -- a restart that keeps the copies' slots as used
     ∷ restarting
+    -- answers of a lost pass kept
+    ∷ lostAnswer
     -- a GET of a PUT block answered from the block
     ∷ ownCopy
     ∷ []
