@@ -68,7 +68,8 @@ module _ (s : List ℕ) (limit : ℕ) (b : List ℕ) where
   pub run-too-high : viewVerdict Accepted ≡ verdict s → 65535 < limit → RunsFor s limit b b 9 0
   run-too-high e h = answers (high-answer (sym e) h)
 
-  module _ (small : (i : ℕ) → getD s i 0 < 256) (e : viewVerdict Accepted ≡ verdict s) (most : limit ≤ 65535) {after : List ℕ} {n : ℕ} (r : Ran s limit b after n) where
+  module _ (small : (i : ℕ) → getD s i 0 < 256) (e : viewVerdict Accepted ≡ verdict s) (most : limit ≤ 65535) {after : List ℕ} {n : ℕ}
+      (r : Ran s limit b after n) where
     reported : Reported (reportOf s limit) b after n
     reported = subst (λ (text : List ℕ). Reported text b after n) (same-text small (sym e) limit most (r .run)) (r .reported)
 

@@ -40,7 +40,8 @@ module _ {s : List ℕ} {x : Sheet} (h : Indexed s x) where
   unfolding releasesFrom declaredAt commandsAt
   releases-start = leading-declared (commandsFrom (length s) s (x .released)) (h .released .only) ∙ sym (h .released .all)
 
-module _ {s : List ℕ} (small : (i : ℕ) → getD s i 0 < 256) (good : verdict s ≡ accepted) (limit : ℕ) (most : limit ≤ 65535) {text : List ℕ} (r : FlatRun s limit text) where
+module _ {s : List ℕ} (small : (i : ℕ) → getD s i 0 < 256) (good : verdict s ≡ accepted) (limit : ℕ) (most : limit ≤ 65535) {text : List ℕ}
+    (r : FlatRun s limit text) where
   abbrev last-machine : Machine
   last-machine = run limit (startMachine (sheetOf s))
 
@@ -58,9 +59,12 @@ module _ {s : List ℕ} (small : (i : ℕ) → getD s i 0 < 256) (good : verdict
       }
 
   ended : simulation.Holds (sheetOf s) last-machine (r .last) (r .ended)
-  ended = simulation.final s small good limit most (r .index .bodies) (r .index .released) (r .cells) (r .stores) (r .copies) starts (r .last) (r .ended) (r .finished)
+  ended =
+      simulation.final s small good limit most (r .index .bodies) (r .index .released) (r .cells) (r .stores) (r .copies) starts (r .last) (r .ended)
+      (r .finished)
 
-  held : Holds (sheetOf s) last-machine (r .last .cells) (r .last .status) (r .last .saves) (r .last .stores) (r .last .registers) (r .last .counts) (totals (r .index) (r .ended))
+  held : Holds (sheetOf s) last-machine (r .last .cells) (r .last .status) (r .last .saves) (r .last .stores) (r .last .registers) (r .last .counts)
+      (totals (r .index) (r .ended))
   held =
       record {
         words = r .indexed .words;

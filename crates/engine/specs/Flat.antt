@@ -26,7 +26,8 @@ pub record FlatRun (s : List ℕ) (limit : ℕ) (text : List ℕ) : Type 0 where
   pub last : Arrays
   pub ended : Ended
   pub finished : Finished s (index .bodies) (index .released) limit (startArrays cells stores copies) last ended
-  pub text-is : text ≡ reportText (last .cells) (last .status) (last .saves) (last .stores) (last .registers) (last .counts) (totals index ended)
+  pub text-is :
+      text ≡ reportText (last .cells) (last .status) (last .saves) (last .stores) (last .registers) (last .counts) (totals index ended)
 
 -- what the run leaves in the buffer
 pub record Ran (s : List ℕ) (limit : ℕ) (before after : List ℕ) (length : ℕ) : Type 0 where

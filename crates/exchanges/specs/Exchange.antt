@@ -8,7 +8,8 @@ use Rattle.memory.specs.Packed.{packed, valueOf, taskOf}
 use Rattle.exchanges.specs.Places.{if, nextOf, Went, went}
 use Rattle.exchanges.specs.Reading.{owned, savedFor}
 use Rattle.exchanges.specs.declared.exchange.Step.{Step}
-use Rattle.exchanges.specs.declared.exchange.Step.the-variants.{Start, Test, Load, Look, Fetch, Save, Fail, Mark, Install, Commit, Clean, CleanMark}
+use Rattle.exchanges.specs.declared.exchange.Step.the-variants.{Start, Test, Load, Look, Fetch, Save, Fail}
+use Rattle.exchanges.specs.declared.exchange.Step.the-variants.{Mark, Install, Commit, Clean, CleanMark}
 use Rattle.exchanges.specs.declared.exchange.Found.{Found}
 use Rattle.exchanges.specs.declared.exchange.Exchanged.{Exchanged}
 use Rattle.exchanges.specs.declared.exchange.Exchanged.the-variants.{Goes, Finds, Ends}
@@ -55,7 +56,8 @@ savedStep true false false i = Mark i
 unfoldable pub afterSave : List ℕ → List ℕ → List ℕ → List ℕ → ℕ → ℕ → ℕ → Went Step
 afterSave saves olds news overlapped p i v =
     went
-    (savedStep (eqb v (at 0 olds (8 * p + i))) (eqb (at 0 overlapped (8 * p + i)) 0) (eqb (at 0 olds (8 * p + i)) (at 0 news (8 * p + i))) i)
+    (savedStep (eqb v (at 0 olds (8 * p + i))) (eqb (at 0 overlapped (8 * p + i)) 0) (eqb (at 0 olds (8 * p + i)) (at 0 news (8 * p + i)))
+    i)
     (replace saves (8 * p + i) v)
 
 unfoldable pub afterFail : List ℕ → ℕ → ℕ → Went Step
@@ -95,7 +97,8 @@ cleaned false true o cells cell new init next marks = went next (replace cells c
 cleaned false false true cells cell new init next marks = went next cells
 cleaned false false false cells cell new init next marks = went marks cells
 
-unfoldable pub afterClean : List ℕ → List ℕ → List ℕ → List ℕ → List ℕ → List ℕ → ℕ → ℕ → ℕ → Bool → Went Exchanged
+unfoldable pub afterClean : List ℕ → List ℕ → List ℕ → List ℕ → List ℕ → List ℕ → ℕ → ℕ → ℕ → Bool
+    → Went Exchanged
 afterClean cells names inits olds news overlapped p i j yes? =
     cleaned
     (asNew (at 0 olds (8 * p + j)) (at 0 news (8 * p + j)) yes?)
@@ -142,7 +145,8 @@ abbrev pub inOverlapped : List ℕ → List ℕ → List ℕ → List ℕ → We
 inOverlapped c s v l w = exchanged (w .next) c s v l (w .array)
 
 -- one statement of the exchange of k words by task p, with x the value found last
-unfoldable pub afterExchange : List ℕ → List ℕ → List ℕ → List ℕ → List ℕ → List ℕ → List ℕ → List ℕ → ℕ → ℕ → ℕ → Step → Left
+unfoldable pub afterExchange : List ℕ → List ℕ → List ℕ → List ℕ → List ℕ → List ℕ → List ℕ → List ℕ → ℕ
+    → ℕ → ℕ → Step → Left
 afterExchange c s v names olds news l o p k x Start = inStatus c v l o (goes (afterStart s p))
 afterExchange c s v names olds news l o p k x (Test i) = exchanged (Goes (afterTest s p k i)) c s v l o
 afterExchange c s v names olds news l o p k x (Load i) = inNotes c s v (afterLoad c names l o p i)

@@ -95,7 +95,8 @@ withRegisters registers w = answered (w .next) registers (w .array)
 
 -- a register is written and the command is done
 unfoldable pub afterGiving : List ℕ → List ℕ → List ℕ → ℕ → ℕ → ℕ → ℕ → ℕ → Answered
-afterGiving sheet registers counts p place pairs r v = withRegisters (replace registers (8 * p + r) v) (afterDone sheet counts p place pairs)
+afterGiving sheet registers counts p place pairs r v =
+    withRegisters (replace registers (8 * p + r) v) (afterDone sheet counts p place pairs)
 
 unfoldable pub readBy : List ℕ → List ℕ → List ℕ → ℕ → Job → ℕ → ℕ → Read → Answered
 readBy sheet registers counts p j r w (Reads s) = answered (inPhase j (P.Read r w s)) registers counts

@@ -16,7 +16,9 @@ use Rattle.commands.specs.View.{viewCommand}
 use Rattle.commands.specs.declared.Command.{Command}
 use Rattle.commands.specs.declared.Command.the-variants as C
 use Rattle.statements.specs.Statements.{Arrays, turn, statement}
-use Rattle.machine.specs.World.{unfinishedJob, pendingBy, pendingAt, dueBy, comingBy, stopsBy, topOf, startWorld, droppedBy, begunBy, zeroedBy, startedBy, leftBy, tickedBy, World, world, noJob, withRegisters, withCounts, released, ticked, comingIn, Ends, stopped, releases, ticks}
+use Rattle.machine.specs.World.{unfinishedJob, pendingBy, pendingAt, dueBy, comingBy, stopsBy, topOf, startWorld}
+use Rattle.machine.specs.World.{droppedBy, begunBy, zeroedBy, startedBy, leftBy, tickedBy, World, world, noJob}
+use Rattle.machine.specs.World.{withRegisters, withCounts, released, ticked, comingIn, Ends, stopped, releases, ticks}
 use Rattle.jobs.specs.Jobs.{jobAt}
 use Rattle.jobs.specs.declared.Phase.the-variants as P
 use Rattle.jobs.specs.declared.Job.{Job}
@@ -74,7 +76,8 @@ module _ (sheet : List ℕ) (a b : Arrays) (jobs : List Job) (k s : Job) (m r t 
   unfolding ticked
   tick-turn work e1 e2 e3 lt e4 e5 e6 = rw (ne-eqb m 0 work, e5, e6, e3, sym e1 ∙ e2, getD-set-same jobs p k noJob lt, ← e4, set-set jobs p k s)
 
-pub pass-turn : (sheet : List ℕ) (a : Arrays) (jobs : List Job) (m r t d : ℕ) → m ≡ 0 → world a jobs m r (t + 1) d ≡ ticked sheet (world a jobs m r t d)
+pub pass-turn : (sheet : List ℕ) (a : Arrays) (jobs : List Job) (m r t d : ℕ) → m ≡ 0
+    → world a jobs m r (t + 1) d ≡ ticked sheet (world a jobs m r t d)
 unfolding ticked
 pass-turn sheet a jobs m r t d e = rw (eq-eqb m 0 e)
 
@@ -101,7 +104,8 @@ module _ (sheet : List ℕ) (place : ℕ) (c : M.Command) (next : ℕ) where
       byte false q = let z : _≡_ {A = ℕ} 0 1 = cc in (omega arith, omega arith)
 
 -- a release due now is a command found
-pub due-within : (sheet : List ℕ) (place tick task next : ℕ) → comingBy (pendingAt (M.commandAt sheet place)) tick ≡ Due task next → (place < next) × (next ≤ length sheet)
+pub due-within : (sheet : List ℕ) (place tick task next : ℕ) → comingBy (pendingAt (M.commandAt sheet place)) tick ≡ Due task next
+    → (place < next) × (next ≤ length sheet)
 due-within sheet place tick task next e = go (M.commandAt sheet place) refl e
   where
     no : {P : Type 0} → Nothing ≡ Due task next → P
@@ -128,10 +132,13 @@ module _ (sheet bodies : List ℕ) (limit : ℕ) (w v : World) {c : Coming} wher
       → (u : World) → Ends sheet bodies limit v u → Ends sheet bodies limit w u
   after-release task next lt e1 e2 e3 u r = releases task next lt (sym e1 ∙ e2) (subst (λ (x : World). Ends sheet bodies limit x u) e3 r)
 
-  pub after-tick : w .ticks < limit → c ≡ comingIn sheet w → ((task next : ℕ) → c ≡ Due task next → ⊥) → stopsBy c (w .mask) ≡ false → v ≡ ticked sheet w
+  pub after-tick : w .ticks < limit → c ≡ comingIn sheet w → ((task next : ℕ) → c ≡ Due task next → ⊥) → stopsBy c (w .mask) ≡ false
+      → v ≡ ticked sheet w
       → (u : World) → Ends sheet bodies limit v u → Ends sheet bodies limit w u
   after-tick lt e1 other e2 e3 u r =
-      ticks lt (λ task next q. other task next (e1 ∙ q)) (sym (ap (λ (x : Coming). stopsBy x (w .mask)) e1) ∙ e2) (subst (λ (x : World). Ends sheet bodies limit x u) e3 r)
+      ticks lt (λ task next q. other task next (e1 ∙ q)) (sym (ap (λ (x : Coming). stopsBy x (w .mask)) e1) ∙ e2)
+      (subst (λ (x : World). Ends sheet bodies limit x u) e3 r)
 
-pub after-stop : (sheet bodies : List ℕ) (limit : ℕ) (w : World) {c : Coming} → c ≡ comingIn sheet w → stopsBy c (w .mask) ≡ true → Ends sheet bodies limit w w
+pub after-stop : (sheet bodies : List ℕ) (limit : ℕ) (w : World) {c : Coming} → c ≡ comingIn sheet w → stopsBy c (w .mask) ≡ true
+    → Ends sheet bodies limit w w
 after-stop sheet bodies limit w e1 e2 = stopped (sym (ap (λ (x : Coming). stopsBy x (w .mask)) e1) ∙ e2)

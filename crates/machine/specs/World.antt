@@ -1,4 +1,5 @@
--- The machine over flat arrays: the jobs, the mask of unfinished ones, the place of the next release, the ticks done and the releases dropped.
+-- The machine over flat arrays: the jobs, the mask of unfinished ones, the place of the next release,
+-- the ticks done and the releases dropped.
 use Prim.Native.Nat.{ℕ, zero, suc, _+_, _*_, _-_, _/_, _%_, _^_, _<_, _≤_}
 use mathlib.Core.Path.{_≡_}
 use mathlib.Core.Bool.{Bool, true, false}
@@ -123,10 +124,14 @@ abbrev pub jobOf : World → ℕ → Job
 jobOf w p = getD (w .jobs) p noJob
 
 abbrev pub withRegisters : Arrays → List ℕ → Arrays
-withRegisters a r = arrays (a .cells) (a .status) (a .saves) (a .stores) r (a .kept) (a .copies) (a .names) (a .olds) (a .news) (a .inits) (a .overlapped) (a .kinds) (a .remembered) (a .counts)
+withRegisters a r =
+    arrays (a .cells) (a .status) (a .saves) (a .stores) r (a .kept) (a .copies) (a .names) (a .olds) (a .news) (a .inits) (a .overlapped)
+    (a .kinds) (a .remembered) (a .counts)
 
 abbrev pub withCounts : Arrays → List ℕ → Arrays
-withCounts a c = arrays (a .cells) (a .status) (a .saves) (a .stores) (a .registers) (a .kept) (a .copies) (a .names) (a .olds) (a .news) (a .inits) (a .overlapped) (a .kinds) (a .remembered) c
+withCounts a c =
+    arrays (a .cells) (a .status) (a .saves) (a .stores) (a .registers) (a .kept) (a .copies) (a .names) (a .olds) (a .news) (a .inits)
+    (a .overlapped) (a .kinds) (a .remembered) c
 
 -- a release to task p arrives, whose job is j
 abbrev pub releasedBy : List ℕ → World → ℕ → ℕ → Job → World
@@ -171,9 +176,11 @@ comingIn sheet w = comingBy (pendingAt (M.commandAt sheet (w .place))) (w .ticks
 pub data Ends (sheet bodies : List ℕ) (limit : ℕ) : World → World → Type 0 where
   limited : {w : World} → limit ≤ w .ticks → Ends sheet bodies limit w w
   stopped : {w : World} → stopsBy (comingIn sheet w) (w .mask) ≡ true → Ends sheet bodies limit w w
-  releases : {w u : World} (task next : ℕ) → w .ticks < limit → comingIn sheet w ≡ Due task next → Ends sheet bodies limit (released bodies w task next) u
+  releases : {w u : World} (task next : ℕ) → w .ticks < limit → comingIn sheet w ≡ Due task next
+      → Ends sheet bodies limit (released bodies w task next) u
       → Ends sheet bodies limit w u
-  ticks : {w u : World} → w .ticks < limit → ((task next : ℕ) → comingIn sheet w ≡ Due task next → ⊥) → stopsBy (comingIn sheet w) (w .mask) ≡ false
+  ticks : {w u : World} → w .ticks < limit → ((task next : ℕ) → comingIn sheet w ≡ Due task next → ⊥)
+      → stopsBy (comingIn sheet w) (w .mask) ≡ false
       → Ends sheet bodies limit (ticked sheet w) u → Ends sheet bodies limit w u
 
 abbrev pub zeros : ℕ → List ℕ
@@ -182,7 +189,8 @@ zeros n = replicate n 0
 -- nothing is saved, no job has run
 abbrev pub startArrays : List ℕ → List ℕ → List ℕ → Arrays
 startArrays cells stores copies =
-    arrays cells (zeros 8) (zeros 64) stores (zeros 64) (zeros 64) copies (zeros 64) (zeros 64) (zeros 64) (zeros 64) (zeros 64) (zeros 128) (zeros 128) (zeros 32)
+    arrays cells (zeros 8) (zeros 64) stores (zeros 64) (zeros 64) copies (zeros 64) (zeros 64) (zeros 64) (zeros 64) (zeros 64) (zeros 128)
+    (zeros 128) (zeros 32)
 
 abbrev pub startWorld : Arrays → ℕ → World
 startWorld a place = world a (replicate 8 noJob) 0 place 0 0

@@ -1,6 +1,7 @@
 -- Demand 3, the exchange layer: what READ, SWAP and the inner readings and exchanges of transactions do to cells, statuses and save places.
 -- Of a task only its act counts: free, reading a cell, exchanging (Act). `below p q` says that q's job runs before p's; Order and Rank in
--- Invariant are all that is used of it, and Reorder lets it change between ticks. Demand3/Cells has the order in use: by the first ticks of operations.
+-- Invariant are all that is used of it, and Reorder lets it change between ticks. Demand3/Cells has the order in use:
+-- by the first ticks of operations.
 --
 -- THE INVARIANT (Invariant), document 01's rules as they hold between ticks:
 --   contents  a cell's word is valid, or stands for an uncleaned entry of its task's exchange;
@@ -14,10 +15,12 @@
 --             2. that one changes exactly its entries' cells, from old to new: `commit-all`, `-installed`, `-old`, `-new`, `-others`
 --   Grounded  3. what a reading gives was the current value at its Load: `reading-gives`; the grounds are kept: `exchange-past`, `start-past`,
 --             `reading-past`, `free-past`; a no has its grounds: `no-has-grounds`
---   Rates     a reading ends in its 2nd or 3rd tick, an exchange of k entries by its (9k + 4)th: `reading-rate`, `reading-ends`, `exchange-rate`, `exchange-ends`
+--   Rates     a reading ends in its 2nd or 3rd tick, an exchange of k entries by its (9k + 4)th: `reading-rate`, `reading-ends`, `exchange-rate`,
+--             `exchange-ends`
 -- Ground asks a History for what was seen and hit and how that passes a tick (Passes, SeesNow); it does not say how one is kept.
 --
--- THE MACHINE: Demand3/Acts walks over all statements, by act before and after, and Demand3/Cells draws the conclusions, also what the transaction layer asks.
+-- THE MACHINE: Demand3/Acts walks over all statements, by act before and after, and Demand3/Cells draws the conclusions,
+-- also what the transaction layer asks.
 pub mod Act
 pub mod Invariant
 pub mod Words

@@ -124,7 +124,8 @@ unfoldable pub whole : List ℕ → ℕ → Bool
 unfolding counted orderedAll at current each historyOf run startMachine sheetOf
 whole sheet limit =
     let h : History = historyOf limit (startMachine (sheetOf sheet)) in
-    orderedAll h (contentsOf (sheetOf sheet) (run limit (startMachine (sheetOf sheet)) .memory)) (counted 0 (h .began)) (declaredContents (sheetOf sheet))
+    orderedAll h (contentsOf (sheetOf sheet) (run limit (startMachine (sheetOf sheet)) .memory)) (counted 0 (h .began))
+    (declaredContents (sheetOf sheet))
 
 -- THE SHEETS: task 1 comes when the exchange of sheet A's task is installed and not yet committed
 -- P5 with the second word's old value loaded: task 1 Marks while its second word may still differ, and says yes

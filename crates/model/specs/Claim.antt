@@ -65,7 +65,8 @@ pub record Interfered (h : History) (a : ℕ) (o : Operation) : Type 0 where
 -- THE REPLAY: operation a takes the contents c to c′ on the plain machine and gives the answers of the run
 pub data Replays (h : History) (a : ℕ) (c c′ : Contents) : Type 0 where
   exactly : (o : Operation) → operationAt h a ≡ some o → plainly (o .arguments) c ≡ result c′ (o .answers) → Replays h a c c′
-  freely : (o : Operation) → operationAt h a ≡ some o → o .answers ≡ 0 ∷ [] → Interfered h a o → c ≡ c′ → Replays h a c c′
+  freely : (o : Operation) → operationAt h a ≡ some o → o .answers ≡ 0 ∷ [] → Interfered h a o → c ≡ c′
+      → Replays h a c c′
 
 -- one after the other, each finds what the last one left
 pub data Sequence (h : History) : List ℕ → Contents → Contents → Type 0 where

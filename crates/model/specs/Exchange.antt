@@ -145,7 +145,8 @@ exchangeTick p m x look = lookBy (own (m .status) (entryAt x (x .i) .init)) m x 
 -- Fetch the save place if not
 exchangeTick p m x fetch = goes m (to x (save (saved (m .saves) (entryAt x (x .i) .init .task) (entryAt x (x .i) .init .count))))
 -- Save: the value found goes to save place i of p; Fail if it isn't old; Mark only if overlapped and old is not new
-exchangeTick p m x (save v) = goes (setSave m p (x .i) v) (to x (afterSave (eqb v (entryAt x (x .i) .old)) (entryAt x (x .i) .overlapped && changing (entryAt x (x .i)))))
+exchangeTick p m x (save v) = goes (setSave m p (x .i) v)
+    (to x (afterSave (eqb v (entryAt x (x .i) .old)) (entryAt x (x .i) .overlapped && changing (entryAt x (x .i)))))
 -- Fail sets p's status to 1
 exchangeTick p m x fail = goes (setStatus m p 1) (to x test)
 -- Mark: init's task gets status 1
@@ -155,6 +156,8 @@ exchangeTick p m x install = installBy (sameWord (cellOf m (entryAt x (x .i) .ce
 -- Commit: status 0 becomes 2, answer yes; else no
 exchangeTick p m x commit = commitBy (eqb (statusOf m p) 0) p m x
 -- Clean word j: on yes with old not new as new; else init again, and where it isn't as installed and was overlapped, Mark
-exchangeTick p m x (clean j yes?) = cleanWordBy (yes? && changing (entryAt x j)) (sameWord (cellOf m (entryAt x j .cell)) (installed p (entryAt x j) j)) (entryAt x j .overlapped) p m x (entryAt x j) j yes?
+exchangeTick p m x (clean j yes?) =
+    cleanWordBy (yes? && changing (entryAt x j)) (sameWord (cellOf m (entryAt x j .cell)) (installed p (entryAt x j) j))
+    (entryAt x j .overlapped) p m x (entryAt x j) j yes?
 -- Mark init's task, in one more tick
 exchangeTick p m x (cleanMark j yes?) = next (setStatus m (entryAt x j .init .task) 1) x j yes?

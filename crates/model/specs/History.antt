@@ -1,4 +1,5 @@
--- The history of a run: its operations with task, arguments, first and last tick, commit and answers, read off the statements that the run does.
+-- The history of a run: its operations with task, arguments, first and last tick, commit and answers,
+-- read off the statements that the run does.
 use Prim.Native.Nat.{ℕ, zero, suc}
 use mathlib.Core.Bool.{Bool, true, false}
 use mathlib.Core.List.{List, [], _∷_, _++_}
@@ -39,16 +40,20 @@ pub data Event : Type 0 where
   amends : (Operation → Operation) → Event
 
 abbrev pub answering : List ℕ → Operation → Operation
-answering vs o = record { task = o .task; arguments = o .arguments; last = o .last; committed = o .committed; spent = o .spent; answers = vs }
+answering vs o =
+    record { task = o .task; arguments = o .arguments; last = o .last; committed = o .committed; spent = o .spent; answers = vs }
 
 abbrev pub ending : ℕ → Operation → Operation
-ending t o = record { task = o .task; arguments = o .arguments; last = some t; committed = o .committed; spent = o .spent; answers = o .answers }
+ending t o =
+    record { task = o .task; arguments = o .arguments; last = some t; committed = o .committed; spent = o .spent; answers = o .answers }
 
 abbrev pub asCommitted : Operation → Operation
-asCommitted o = record { task = o .task; arguments = o .arguments; last = o .last; committed = true; spent = o .spent; answers = o .answers }
+asCommitted o =
+    record { task = o .task; arguments = o .arguments; last = o .last; committed = true; spent = o .spent; answers = o .answers }
 
 abbrev pub asSpent : Operation → Operation
-asSpent o = record { task = o .task; arguments = o .arguments; last = o .last; committed = o .committed; spent = true; answers = o .answers }
+asSpent o =
+    record { task = o .task; arguments = o .arguments; last = o .last; committed = o .committed; spent = true; answers = o .answers }
 
 -- by what the statement of tick t did; a committed SWAP's answer is 1 from its Commit on, and a lost pass's answers are forgotten
 unfoldable pub eventOf : ℕ → Deed → Event
@@ -74,7 +79,8 @@ unfolding at replace
 noted t p nothing h = record { began = h .began ++ (none ∷ []); latest = h .latest }
 noted t p (begins given) h =
     record {
-      began = h .began ++ (some (record { task = p; arguments = given; last = none; committed = false; spent = false; answers = [] }) ∷ []);
+      began =
+          h .began ++ (some (record { task = p; arguments = given; last = none; committed = false; spent = false; answers = [] }) ∷ []);
       latest = replace (h .latest) p t;
     }
 noted t p (amends f) h =

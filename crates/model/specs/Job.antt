@@ -120,8 +120,9 @@ started t = withJob t (job plain (t .body) (replicate registers 0) [])
 abbrev pub ended : Task → Task
 ended t = counting spent (withJob t (job idle [] (t .job .registers) []))
 
--- WHAT A STATEMENT DID, for whoever watches the run: an operation began; a READ gave its value; the Commit of a SWAP said yes; a SWAP gave its
--- answer; a GET gave its value; a pass was lost; the Commit of a transaction said yes; it ended after that, with nothing touched, or spent.
+-- WHAT A STATEMENT DID, for whoever watches the run: an operation began; a READ gave its value; the Commit of a SWAP said yes;
+-- a SWAP gave its answer; a GET gave its value; a pass was lost; the Commit of a transaction said yes; it ended after that,
+-- with nothing touched, or spent.
 pub data Deed : Type 0 where
   nothingDone : Deed
   began : Arguments → Deed

@@ -11,8 +11,9 @@ use Rattle.model.specs.Sheet.{Sheet}
 use Rattle.model.specs.Word.{Word, freshWord, Memory, memory, Reading, loading, Read, reads, gives, readTick}
 use Rattle.model.specs.Exchange.{Entry, entry, Exchange, exchangeOf, commitSaidYes, Exchanged, goes, ends, exchangeTick, start}
 use Rattle.model.specs.Arguments.{Pair, Arguments, readOf, swapOf, transactionOf, untilCommit}
-use Rattle.model.specs.Job.{between, Phase, idle, plain, reading, exchanging, transacting, noJob, noCounts, ticks, Task, task, counting, inPhase}
-use Rattle.model.specs.Job.{rest, done, doneBy, started, Deed, nothingDone, began, readGave, swapCommitted, swapAnswered, Turn, turn}
+use Rattle.model.specs.Job.{between, Phase, idle, plain, reading, exchanging, transacting, noJob}
+use Rattle.model.specs.Job.{noCounts, ticks, Task, task, counting, inPhase, rest, done, doneBy, started}
+use Rattle.model.specs.Job.{Deed, nothingDone, began, readGave, swapCommitted, swapAnswered, Turn, turn}
 use Rattle.model.specs.Transaction.{bankValue, freshTransaction, within, loaded, added, transactionTick}
 
 -- STATEMENTS
@@ -251,7 +252,8 @@ unfoldable pub startMemory : Sheet → Memory
 unfolding filled banksFrom
 startMemory s =
     memory
-    (filled maxWords (freshWord 0) (map freshWord (s .words)) ++ filled maxBlocks (freshWord 0) (banksFrom (4 * length (s .bodies)) (s .blocks)))
+    (filled maxWords (freshWord 0) (map freshWord (s .words))
+    ++ filled maxBlocks (freshWord 0) (banksFrom (4 * length (s .bodies)) (s .blocks)))
     (zeros maxTasks)
     (replicate maxTasks (zeros savePlaces))
     (filled (4 * maxTasks + maxBlocks) (zeros blockValues)

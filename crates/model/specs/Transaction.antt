@@ -9,9 +9,9 @@ use Rattle.model.specs.Lists.{at, replace}
 use Rattle.model.specs.Command.{Access, GET, PUT, Block, Inside, access, COMMIT, BodyCommand, LOAD, ADD, outside, inside}
 use Rattle.model.specs.Word.{Memory, currentOf, stored, setStored, Reading, loading, Read, reads, gives, readTick}
 use Rattle.model.specs.Exchange.{Entry, entry, Exchange, exchangeOf, commitSaidYes, Exchanged, goes, ends, exchangeTick}
-use Rattle.model.specs.Job.{Touched, untouched, remembered, copied, Transaction, Inner, between, first, copying, again, committing, transacting}
-use Rattle.model.specs.Job.{job, rejected, Task, withJob, counting, rest, done, doneBy, ended}
-use Rattle.model.specs.Job.{Deed, nothingDone, getGave, passLost, transactionCommitted, transactionEnded, endedUntouched, endedSpent, Turn, turn}
+use Rattle.model.specs.Job.{Touched, untouched, remembered, copied, Transaction, Inner, between, first, copying, again, committing}
+use Rattle.model.specs.Job.{transacting, job, rejected, Task, withJob, counting, rest, done, doneBy, ended, Deed, nothingDone}
+use Rattle.model.specs.Job.{getGave, passLost, transactionCommitted, transactionEnded, endedUntouched, endedSpent, Turn, turn}
 
 -- the bank word of block b is the cell after the words' cells
 abbrev pub bank : ℕ → ℕ

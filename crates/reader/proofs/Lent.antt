@@ -35,15 +35,18 @@ module _ {M : Type 1} (𝓤 : URA M) (H : Heap 𝓤) (A : Atoms 𝓤) (W : Given
       → ent 𝓤 (sep 𝓤 (sem 𝓤 H A (fat fullShare (T′.mir erased) l 0 u)) (sem 𝓤 H A (R κ .own h (u ∷ [])))) (sem 𝓤 H A (mem (R κ) .lies h l 0))
   unfolding partOf
   lays h l u =
-      qed W (‵ (fat fullShare (T′.mir erased) l 0 u) ∷ ‵ (R κ .own h (u ∷ [])) ∷ []) ∵ use1 W (‵ (cellAt fullShare (R κ .mir) (u ∷ []) l 0)) (W .laws .at-raw fullShare (T′.mir erased) l 0 u) $
+      qed W (‵ (fat fullShare (T′.mir erased) l 0 u) ∷ ‵ (R κ .own h (u ∷ [])) ∷ []) ∵
+      use1 W (‵ (cellAt fullShare (R κ .mir) (u ∷ []) l 0)) (W .laws .at-raw fullShare (T′.mir erased) l 0 u) $
       fjoin ! $ fpack ! (List Val) (λ vs. fsep (cellAt fullShare (R κ .mir) vs l 0) (R κ .own h vs)) (u ∷ []) $ done !
 
   pub lifts : (h : Reader) (l : ℕ)
-      → ent 𝓤 (sem 𝓤 H A (mem (R κ) .lies h l 0)) (sep 𝓤 (sem 𝓤 H A (fat fullShare (T′.mir erased) l 0 (T′.lowered h))) (sem 𝓤 H A (R κ .own h (T′.lowered h ∷ []))))
+      → ent 𝓤 (sem 𝓤 H A (mem (R κ) .lies h l 0))
+      (sep 𝓤 (sem 𝓤 H A (fat fullShare (T′.mir erased) l 0 (T′.lowered h))) (sem 𝓤 H A (R κ .own h (T′.lowered h ∷ []))))
   unfolding partOf
   lifts h l =
       qed W (‵ (mem (R κ) .lies h l 0) ∷ []) ∵ fpick ! (λ vs. fsplit ! $
-      spelt ! (R κ) (Is (R κ)) (shows 𝓤 H A (R κ)) (LL.vals (T.the-type (α κ)) (T′.the-laws (α κ))) (LL.tells (T.the-type (α κ)) (T′.the-laws (α κ))) fullShare h vs l 0 $
+      spelt ! (R κ) (Is (R κ)) (shows 𝓤 H A (R κ)) (LL.vals (T.the-type (α κ)) (T′.the-laws (α κ))) (LL.tells (T.the-type (α κ)) (T′.the-laws (α κ)))
+      fullShare h vs l 0 $
       use1 W (‵ (fat fullShare (T′.mir erased) l 0 (T′.lowered h))) (W .laws .raw-at fullShare (T′.mir erased) l 0 (T′.lowered h)) $ done !)
 
   module _ (ν : ℕ) (q : Share) where
@@ -68,6 +71,7 @@ module _ {M : Type 1} (𝓤 : URA M) (H : Heap 𝓤) (A : Atoms 𝓤) (W : Given
         qed W ((‵ (flft (ν ∷ κ) (PosShare·left q)) ⊛ ‵ (flft κ (PosShare·right q)) ⊛ ‵ ftrue) ∷ raw Kept ∷ []) ∵ split ! $
         use1 W (‵ (flft (ν ∷ []) (PosShare·left q)) ⊛ ‵ (flft κ (PosShare·left q))) (W .lfts .lft-unmeet (ν ∷ []) κ (PosShare·left q)) $ split ! $
         -- [ν, left; κ, left; (κ, right; true); kept]
-        move ! (0 ∷ 3 ∷ []) $ use2 W (‵ (flft (ν ∷ []) fullShare)) (apply∗ 𝓤 (A .lft (ν ∷ []) (PosShare·left q)) (A .lft (ν ∷ []) fullShare)) $ move ! (2 ∷ []) $ split ! $ move ! (3 ∷ 0 ∷ []) $ use2 W (‵ (flft κ q)) (W .lfts .lft-join κ q) $
+        move ! (0 ∷ 3 ∷ []) $ use2 W (‵ (flft (ν ∷ []) fullShare)) (apply∗ 𝓤 (A .lft (ν ∷ []) (PosShare·left q)) (A .lft (ν ∷ []) fullShare)) $
+        move ! (2 ∷ []) $ split ! $ move ! (3 ∷ 0 ∷ []) $ use2 W (‵ (flft κ q)) (W .lfts .lft-join κ q) $
         -- [κ; true; ν]
         join ! $ move ! (1 ∷ 0 ∷ []) $ done !

@@ -13,5 +13,6 @@ after-viewed : (at : ℕ) (vs ws : List ℕ) (d : Decoded) → after at (viewDec
 after-viewed at vs ws (Got c next) = refl
 after-viewed at vs ws (Refused f) = refl
 
-pub after-command : (sheet : List ℕ) (at : ℕ) (d : Decoded) → HandsOut sheet at d → (place : ℕ) → place ≡ after at (viewDecoded [] d) → place ≡ after at (commandAt sheet at)
+pub after-command : (sheet : List ℕ) (at : ℕ) (d : Decoded) → HandsOut sheet at d → (place : ℕ) → place ≡ after at (viewDecoded [] d)
+    → place ≡ after at (commandAt sheet at)
 after-command sheet at d e place p = p ∙ (after-viewed at [] (valuesFrom sheet (suc at)) d ∙ ap (after at) e)

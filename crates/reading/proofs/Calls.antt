@@ -1,4 +1,5 @@
--- The calls that `first_fault` makes: each callee's contract, what it is passed, that what is owned gives what it asks, and what is known of its result.
+-- The calls that `first_fault` makes: each callee's contract, what it is passed, that what is owned gives what it asks,
+-- and what is known of its result.
 -- Assumes `Given`.
 use mathlib.Core.Path.{_≡_, refl}
 use Prim.Native.Nat.{ℕ, _<_, _^_}
@@ -69,7 +70,8 @@ module _ {M : Type 1} (𝓤 : URA M) (H : Heap 𝓤) (A : Atoms 𝓤) (at-mem : 
   abbrev pub ReadOn : Contract 𝓤
   ReadOn = tripleOf 𝓤 H A read-on.signature (read-on.spec 𝓤 H A at-mem run)
 
-module _ {M : Type 1} (𝓤 : URA M) (H : Heap 𝓤) (A : Atoms 𝓤) (W : Given 𝓤 H A) (at-mem : Memory → SProp 𝓤) (run : Routine → Fun 𝓤) (κ : Lft) (q : Share) (s : RefT (List ℕ)) where
+module _ {M : Type 1} (𝓤 : URA M) (H : Heap 𝓤) (A : Atoms 𝓤) (W : Given 𝓤 H A) (at-mem : Memory → SProp 𝓤) (run : Routine → Fun 𝓤) (κ : Lft)
+    (q : Share) (s : RefT (List ℕ)) where
   -- the machine value of the slice, and what it owns
   abbrev pub v : Val
   v = sliceVal (s .ptr) (length (s .now))
@@ -85,11 +87,15 @@ module _ {M : Type 1} (𝓤 : URA M) (H : Heap 𝓤) (A : Atoms 𝓤) (W : Given
   abbrev pub to-over : Over 𝓤 H A at-mem run .Ghost
   to-over = (((κ, tt), (q, tt), tt, (s, tt), (v ∷ [], tt)), tt)
 
-  pub goes-over : ent 𝓤 (onEntry 𝓤 H A over.signature (κ, tt) (q, tt) (s, tt) (v ∷ [], tt)) (sep 𝓤 (Over 𝓤 H A at-mem run .pre to-over) (sem 𝓤 H A Own))
+  pub goes-over :
+      ent 𝓤 (onEntry 𝓤 H A over.signature (κ, tt) (q, tt) (s, tt) (v ∷ [], tt)) (sep 𝓤 (Over 𝓤 H A at-mem run .pre to-over) (sem 𝓤 H A Own))
   goes-over =
       qed W ((‵ (flft κ q) ⊛ ‵ ftrue) ∷ ‵ (owns (ShrSlice (named 0) κ u8 ∷ []) (s, tt) (v ∷ [], tt)) ∷ []) ∵
       move ! (1 ∷ []) $ fsplit ! $ use1 W (‵ Own ⊛ ‵ Own) (shr-slice-copy 𝓤 H A W (named 0) κ u8 .twice s (v ∷ [])) $ split ! $
-      move ! (0 ∷ 2 ∷ []) $ fjoin ! $ move ! (2 ∷ 0 ∷ []) $ use2 W (raw (Over 𝓤 H A at-mem run .pre to-over)) (qed W ((‵ (flft κ q) ⊛ ‵ ftrue) ∷ ‵ (owns (ShrSlice (named 0) κ u8 ∷ []) (s, tt) (v ∷ [], tt)) ∷ []) ∵ join ! $ frame ! $ done !) $ frame ! $ done !
+      move ! (0 ∷ 2 ∷ []) $ fjoin ! $ move ! (2 ∷ 0 ∷ []) $
+      use2 W (raw (Over 𝓤 H A at-mem run .pre to-over))
+      (qed W ((‵ (flft κ q) ⊛ ‵ ftrue) ∷ ‵ (owns (ShrSlice (named 0) κ u8 ∷ []) (s, tt) (v ∷ [], tt)) ∷ []) ∵ join ! $ frame ! $ done !) $
+      frame ! $ done !
 
   abbrev pub Starts : Reader → Type 0
   Starts r = (r .sheet ≡ s) × (r .at ≡ 0)
@@ -102,12 +108,17 @@ module _ {M : Type 1} (𝓤 : URA M) (H : Heap 𝓤) (A : Atoms 𝓤) (W : Given
   lent l γ p = record { ptr = (l, 0); name = γ; now = h p }
 
   abbrev pub to-next : ℕ → ℕ → GName → ℕ → Next 𝓤 H A at-mem run .Ghost
-  to-next ν l γ p = (((ν ∷ κ, (κ, tt)), (PosShare·left q, (PosShare·right q, tt)), (meet-⊑-right (ν ∷ []) κ, tt), (lent l γ p, tt), (vptr l 0 ∷ [], tt)), tt)
+  to-next ν l γ p =
+      (((ν ∷ κ, (κ, tt)), (PosShare·left q, (PosShare·right q, tt)), (meet-⊑-right (ν ∷ []) κ, tt), (lent l γ p, tt), (vptr l 0 ∷ [], tt)), tt)
 
   pub goes-next : (ν l : ℕ) (γ : GName) (p : ℕ)
-      → ent 𝓤 (⋆ 𝓤 H A ((‵ (flft (ν ∷ κ) (PosShare·left q)) ⊛ ‵ (flft κ (PosShare·right q)) ⊛ ‵ ftrue) ∷ ‵ (MutRef (named 0) (ν ∷ κ) (R κ) .own (lent l γ p) (vptr l 0 ∷ [])) ∷ [])) (Next 𝓤 H A at-mem run .pre (to-next ν l γ p))
+      → ent 𝓤
+      (⋆ 𝓤 H A ((‵ (flft (ν ∷ κ) (PosShare·left q)) ⊛ ‵ (flft κ (PosShare·right q)) ⊛ ‵ ftrue)
+      ∷ ‵ (MutRef (named 0) (ν ∷ κ) (R κ) .own (lent l γ p) (vptr l 0 ∷ [])) ∷ []))
+      (Next 𝓤 H A at-mem run .pre (to-next ν l γ p))
   goes-next ν l γ p =
-      qed W ((‵ (flft (ν ∷ κ) (PosShare·left q)) ⊛ ‵ (flft κ (PosShare·right q)) ⊛ ‵ ftrue) ∷ ‵ (MutRef (named 0) (ν ∷ κ) (R κ) .own (lent l γ p) (vptr l 0 ∷ [])) ∷ []) ∵
+      qed W ((‵ (flft (ν ∷ κ) (PosShare·left q)) ⊛ ‵ (flft κ (PosShare·right q)) ⊛ ‵ ftrue)
+      ∷ ‵ (MutRef (named 0) (ν ∷ κ) (R κ) .own (lent l γ p) (vptr l 0 ∷ [])) ∷ []) ∵
       nothing ! $ move ! (2 ∷ 0 ∷ []) $ fjoin ! $ move ! (1 ∷ 0 ∷ []) $ join ! $ frame ! $ done !
 
   abbrev pub Hands : ℕ → Decoded → Reader → Type 0
@@ -148,7 +159,8 @@ module _ {M : Type 1} (𝓤 : URA M) (H : Heap 𝓤) (A : Atoms 𝓤) (W : Given
   abbrev pub Ends : Reading → Verdict → Type 0
   Ends r w = w ≡ verdictOf (r .judged)
 
-  pub ended-said : (r : Reading) (w : Verdict) → ent 𝓤 (ensured 𝓤 H A ended.ended (ended.clauses 𝓤 H A at-mem run) tt (r, tt) tt w) (fact 𝓤 (Ends r w))
+  pub ended-said : (r : Reading) (w : Verdict)
+      → ent 𝓤 (ensured 𝓤 H A ended.ended (ended.clauses 𝓤 H A at-mem run) tt (r, tt) tt w) (fact 𝓤 (Ends r w))
   ended-said r w = exE 𝓤 _ (λ ws. snd∗ 𝓤 (sem 𝓤 H A (lasts ended.ended tt (r, tt) ws)) (fact 𝓤 (Ends r w)))
 
   -- READ_ON, at the place p, of the reading r with the machine value w and the command d with the machine value u
@@ -162,20 +174,30 @@ module _ {M : Type 1} (𝓤 : URA M) (H : Heap 𝓤) (A : Atoms 𝓤) (W : Given
     abbrev pub Come : Type 0
     Come = Reached (now s) p (viewKnown (r .known)) × HandsOut (now s) p d
 
-    asked : Come → ent 𝓤 (⋆ 𝓤 H A ((‵ (flft κ q) ⊛ ‵ ftrue) ∷ ‵ (owns (ShrSlice (named 0) κ u8 ∷ usize ∷ B.the-row ∷ S.the-row ∷ []) (s, (p, (r, (d, tt)))) passed) ∷ [])) (ReadOn 𝓤 H A at-mem run .pre to-read-on)
-    asked come = qed W ((‵ (flft κ q) ⊛ ‵ ftrue) ∷ ‵ (owns (ShrSlice (named 0) κ u8 ∷ usize ∷ B.the-row ∷ S.the-row ∷ []) (s, (p, (r, (d, tt)))) passed) ∷ []) ∵ says ! come $ frame ! $ done !
+    asked : Come
+        → ent 𝓤
+        (⋆ 𝓤 H A
+        ((‵ (flft κ q) ⊛ ‵ ftrue) ∷ ‵ (owns (ShrSlice (named 0) κ u8 ∷ usize ∷ B.the-row ∷ S.the-row ∷ []) (s, (p, (r, (d, tt)))) passed) ∷ []))
+        (ReadOn 𝓤 H A at-mem run .pre to-read-on)
+    asked come =
+        qed W
+        ((‵ (flft κ q) ⊛ ‵ ftrue) ∷ ‵ (owns (ShrSlice (named 0) κ u8 ∷ usize ∷ B.the-row ∷ S.the-row ∷ []) (s, (p, (r, (d, tt)))) passed) ∷ []) ∵
+        says ! come $ frame ! $ done !
 
     pub goes-read-on : p < 2 ^ 64 → Come
-        → ent 𝓤 (⋆ 𝓤 H A ((‵ (flft κ q) ⊛ ‵ ftrue) ∷ ‵ Own ∷ (‵ (B.the-row .own r (w ∷ [])) ⊛ ‵ (S.the-row .own d (u ∷ []))) ∷ [])) (sep 𝓤 (ReadOn 𝓤 H A at-mem run .pre to-read-on) (sem 𝓤 H A Own))
+        → ent 𝓤 (⋆ 𝓤 H A ((‵ (flft κ q) ⊛ ‵ ftrue) ∷ ‵ Own ∷ (‵ (B.the-row .own r (w ∷ [])) ⊛ ‵ (S.the-row .own d (u ∷ []))) ∷ []))
+        (sep 𝓤 (ReadOn 𝓤 H A at-mem run .pre to-read-on) (sem 𝓤 H A Own))
     goes-read-on fits come =
         qed W ((‵ (flft κ q) ⊛ ‵ ftrue) ∷ ‵ Own ∷ (‵ (B.the-row .own r (w ∷ [])) ⊛ ‵ (S.the-row .own d (u ∷ []))) ∷ []) ∵
         move ! (1 ∷ []) $ use1 W (‵ Own ⊛ ‵ Own) (shr-slice-copy 𝓤 H A W (named 0) κ u8 .twice s (v ∷ [])) $ split ! $ move ! (3 ∷ []) $ split ! $
         -- [the reading's; the command's; s's; s's; the token]
-        move ! (1 ∷ []) $ nothing ! $ move ! (1 ∷ 0 ∷ []) $ fjoin ! $ move ! (1 ∷ 0 ∷ []) $ fjoin ! $ owned ! usize (Is usize) (uint-makes 𝓤 H A W w64) p _ (refl, fits) $ fjoin ! $ move ! (1 ∷ 0 ∷ []) $ fjoin ! $
+        move ! (1 ∷ []) $ nothing ! $ move ! (1 ∷ 0 ∷ []) $ fjoin ! $ move ! (1 ∷ 0 ∷ []) $ fjoin ! $
+        owned ! usize (Is usize) (uint-makes 𝓤 H A W w64) p _ (refl, fits) $ fjoin ! $ move ! (1 ∷ 0 ∷ []) $ fjoin ! $
         move ! (2 ∷ 0 ∷ []) $ use2 W (raw (ReadOn 𝓤 H A at-mem run .pre to-read-on)) (asked come) $ frame ! $ done !
 
     abbrev pub Reads : Reading → Type 0
     Reads r′ = RightAt (now s) (after p (viewDecoded [] d)) r′ × Further (now s) p (after p (viewDecoded [] d)) (r′ .judged)
 
-    pub read-on-said : (r′ : Reading) → ent 𝓤 (ensured 𝓤 H A read-on.ended (read-on.clauses 𝓤 H A at-mem run) (κ, tt) (s, (p, (r, (d, tt)))) tt r′) (fact 𝓤 (Reads r′))
+    pub read-on-said : (r′ : Reading)
+        → ent 𝓤 (ensured 𝓤 H A read-on.ended (read-on.clauses 𝓤 H A at-mem run) (κ, tt) (s, (p, (r, (d, tt)))) tt r′) (fact 𝓤 (Reads r′))
     read-on-said r′ = exE 𝓤 _ (λ ws. snd∗ 𝓤 (sem 𝓤 H A (lasts read-on.ended (κ, tt) (s, (p, (r, (d, tt)))) ws)) (fact 𝓤 (Reads r′)))

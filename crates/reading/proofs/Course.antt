@@ -71,5 +71,8 @@ module _ (s : List ℕ) (x : Course s) (d : Decoded) (e : HandsOut s (x .at) d) 
   abbrev pub onward : Val → RightAt s (after (x .at) (viewDecoded [] d)) r → Course s
   onward w h = record { at = after (x .at) (commandAt s (x .at)); reading = r; value = w; right = right-after h }
 
-  pub nearer : (w : Val) (h : RightAt s (after (x .at) (viewDecoded [] d)) r) → T (goes? (x .reading .judged)) → Further s (x .at) (after (x .at) (viewDecoded [] d)) (r .judged) → Nearer s (onward w h) x
-  nearer w h t f = subst (λ (p : ℕ). leftOf (r .judged) (length s) p < leftOf (x .reading .judged) (length s) (x .at)) moves (less s (x .at) _ (x .reading .judged) (r .judged) t f)
+  pub nearer : (w : Val) (h : RightAt s (after (x .at) (viewDecoded [] d)) r) → T (goes? (x .reading .judged))
+      → Further s (x .at) (after (x .at) (viewDecoded [] d)) (r .judged) → Nearer s (onward w h) x
+  nearer w h t f =
+      subst (λ (p : ℕ). leftOf (r .judged) (length s) p < leftOf (x .reading .judged) (length s) (x .at)) moves
+      (less s (x .at) _ (x .reading .judged) (r .judged) t f)

@@ -47,8 +47,13 @@ module _ (s : List ℕ) (at : ℕ) (k : Known) (r : Reached s at k) (d : Decoded
     no-fault goes = subst (JudgedSays s at k (viewCommand [] c) next) goes says .0
 
     at-command : (q : Known) → j ≡ Goes → q ≡ whole.after k (viewCommand [] c) → Reached s next q × ((at < next) × (next ≤ length s))
-    at-command q goes known =
-        (gone (went-on s at k (come r) (valuesFrom s (suc at)) c (sym found) (subst (JudgedSays s at k (viewCommand [] c) next) goes says) known), next-after s at (sym found))
+    at-command q goes known = (
+      gone (went-on s at k (come r) (valuesFrom s (suc at)) c (sym found) (subst (JudgedSays s at k (viewCommand [] c) next) goes says) known),
+      next-after s at (sym found),
+    )
 
-    pub at-next : (q : Known) → j ≡ Goes → q ≡ whole.after k (viewCommand [] c) → Reached s (after at (viewDecoded [] d)) q × ((at < after at (viewDecoded [] d)) × (after at (viewDecoded [] d) ≤ length s))
-    at-next q goes known = subst (λ x. Reached s (after at (viewDecoded [] x)) q × ((at < after at (viewDecoded [] x)) × (after at (viewDecoded [] x) ≤ length s))) (sym is) (at-command q goes known)
+    pub at-next : (q : Known) → j ≡ Goes → q ≡ whole.after k (viewCommand [] c)
+        → Reached s (after at (viewDecoded [] d)) q × ((at < after at (viewDecoded [] d)) × (after at (viewDecoded [] d) ≤ length s))
+    at-next q goes known =
+        subst (λ x. Reached s (after at (viewDecoded [] x)) q × ((at < after at (viewDecoded [] x)) × (after at (viewDecoded [] x) ≤ length s)))
+        (sym is) (at-command q goes known)

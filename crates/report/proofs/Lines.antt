@@ -32,7 +32,8 @@ abbrev pub fieldOf : List ℕ → ℕ → ℕ → List ℕ
 fieldOf l start i = 0x20 ∷ decimal (at 0 l (start + i))
 
 -- a line's numbers and its end
-pub numbers : (l : List ℕ) (start n i : ℕ) → start + i + n ≤ length l → lines n i (fieldOf l start) ++ (0x0A ∷ []) ≡ fields (take n (drop (start + i) l))
+pub numbers : (l : List ℕ) (start n i : ℕ) → start + i + n ≤ length l
+    → lines n i (fieldOf l start) ++ (0x0A ∷ []) ≡ fields (take n (drop (start + i) l))
 unfolding lines fields at
 numbers l start zero i h = refl
 numbers l start (suc n) i h =

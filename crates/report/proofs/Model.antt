@@ -20,7 +20,8 @@ use Rattle.report.proofs.Lines.{lines-equal}
 least : (n k c : ℕ) → n ≡ k → k ≤ c → min n c ≡ k
 least n k c e h = omega arith
 
-module _ {s : Sheet} {m : Machine} {cells status saves stores registers counts : List ℕ} {t : Totals} (h : Holds s m cells status saves stores registers counts t) (c : Within s) where
+module _ {s : Sheet} {m : Machine} {cells status saves stores registers counts : List ℕ} {t : Totals}
+    (h : Holds s m cells status saves stores registers counts t) (c : Within s) where
   pub same-report : reportText cells status saves stores registers counts t ≡ report s m
   unfolding reportText report
   same-report =

@@ -41,7 +41,8 @@ module _ {value rest first : ℕ} {text : List ℕ} (l : Left value text rest fi
         whole = rw length-set (l .whole);
         inside = omega (arith, l .inside);
         small = rw e (omega (arith, power, l .small));
-        same = rw (e, stored text first (0x30 + rest % 10) (omega (arith, l .whole, l .inside))) (l .same ∙ last-digit rest (drop (first + 1) text) h);
+        same =
+            rw (e, stored text first (0x30 + rest % 10) (omega (arith, l .whole, l .inside))) (l .same ∙ last-digit rest (drop (first + 1) text) h);
       }
 
   -- the first digit is stored

@@ -40,7 +40,8 @@ module _ (status saves : List ℕ) (w : ℕ) where
   unfolding current unpack
   current-valid e = rw e
 
-  pub current-committed : {task found : ℕ} → validOf w ≡ false → task ≡ taskOf w → found ≡ at 0 status task → found ≡ 2 → valueOf w ≡ current status (rows 8 8 saves) (unpack w)
+  pub current-committed : {task found : ℕ} → validOf w ≡ false → task ≡ taskOf w → found ≡ at 0 status task → found ≡ 2
+      → valueOf w ≡ current status (rows 8 8 saves) (unpack w)
   unfolding current unpack
   current-committed e t f two = rw (e, ← t, ← f, eq-eqb _ _ two)
 

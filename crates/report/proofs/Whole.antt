@@ -42,7 +42,8 @@ module _ {m n : ℕ} {text empty : List ℕ} (b : List ℕ) (w : Written m text 
   unfolding written
   long-enough fits again =
       let inside : length text ≤ length b = omega (arith, found, ap length unchanged) in
-      let placed : sets b 0 text ≡ text ++ drop (length text) b = sets-eq text b 0 (omega arith) ∙ ap (λ (x : ℕ). text ++ drop x b) (zero-add (length text)) in
+      let placed : sets b 0 text ≡ text ++ drop (length text) b =
+      sets-eq text b 0 (omega arith) ∙ ap (λ (x : ℕ). text ++ drop x b) (zero-add (length text)) in
       record {
         tells = again .place ∙ zero-add (length text);
         buffer = again .bytes ∙ ap (λ (x : List ℕ). sets x 0 text) unchanged ∙ rw (le-leb (length text) (length b) inside) placed;

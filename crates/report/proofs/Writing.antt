@@ -32,10 +32,12 @@ pub same-size : {m i j : ℕ} {s b c : List ℕ} → Written m s b c i j → len
 same-size {i = i} {s = s} {b = b} w = ap length (w .bytes) ∙ length-sets b i s
 
 -- one more byte of a text
-pub byte-more : {from j k : ℕ} {b c d : List ℕ} (i : ℕ) (l : List ℕ) → i < length l → Written i (take i l) b c from j → Written 1 (getD l i 0 ∷ []) c d j k → Written (i + 1) (take (i + 1) l) b d from k
+pub byte-more : {from j k : ℕ} {b c d : List ℕ} (i : ℕ) (l : List ℕ) → i < length l → Written i (take i l) b c from j
+    → Written 1 (getD l i 0 ∷ []) c d j k → Written (i + 1) (take (i + 1) l) b d from k
 byte-more i l h u w = rw (add-one i, take-suc l i 0 h, ← add-one i) (then u w)
 
-pub all-bytes : {from j : ℕ} {b c : List ℕ} (i : ℕ) (l : List ℕ) → i ≤ length l → length l ≤ i → Written i (take i l) b c from j → Written (length l) l b c from j
+pub all-bytes : {from j : ℕ} {b c : List ℕ} (i : ℕ) (l : List ℕ) → i ≤ length l → length l ≤ i → Written i (take i l) b c from j
+    → Written (length l) l b c from j
 all-bytes i l below above w =
     let e : i ≡ length l = omega arith in
     rw (e, take-length l) at w
@@ -49,7 +51,8 @@ pub line-more : {m n i j k : ℕ} {s b c d : List ℕ} (f : ℕ → List ℕ) �
     → Written (m * (n + 1)) (lines (n + 1) 0 f) b d i k
 line-more {m} {n} f e u w = rw (add-one n, lines-last n 0 f, mul-suc m n, zero-add n, ← e) (then u w)
 
-pub all-lines : {i j : ℕ} {b c : List ℕ} (m k n : ℕ) (f : ℕ → List ℕ) → k ≤ n → n ≤ k → Written (m * k) (lines k 0 f) b c i j → Written (m * n) (lines n 0 f) b c i j
+pub all-lines : {i j : ℕ} {b c : List ℕ} (m k n : ℕ) (f : ℕ → List ℕ) → k ≤ n → n ≤ k → Written (m * k) (lines k 0 f) b c i j
+    → Written (m * n) (lines n 0 f) b c i j
 all-lines m k n f below above w =
     let e : k ≡ n = omega arith in
     rw e at w
@@ -64,12 +67,14 @@ as-text {i = i} {b = b} e h w =
     }
 
 -- a part of a text that goes to its end
-pub to-the-end : {m k from j : ℕ} {t b c : List ℕ} (l : List ℕ) (i n : ℕ) → Written m (take (n - i) (drop i l)) b c from j → drop i l ≡ t → length l ≤ n → m ≤ k → Written k t b c from j
+pub to-the-end : {m k from j : ℕ} {t b c : List ℕ} (l : List ℕ) (i n : ℕ) → Written m (take (n - i) (drop i l)) b c from j → drop i l ≡ t
+    → length l ≤ n → m ≤ k → Written k t b c from j
 to-the-end l i n w e h wide = as-text (take-all (n - i) (drop i l) (simp length-drop (omega arith)) ∙ e) wide w
 
 -- all the numbers of a line, and its end
 pub all-fields : {from j k : ℕ} {b c d : List ℕ} (l : List ℕ) (start n i : ℕ) → i ≤ n → n ≤ i → start + n ≤ length l
-    → Written (11 * i) (lines i 0 (fieldOf l start)) b c from j → Written 1 (0x0A ∷ []) c d j k → Written (11 * n + 1) (fields (take n (drop start l))) b d from k
+    → Written (11 * i) (lines i 0 (fieldOf l start)) b c from j → Written 1 (0x0A ∷ []) c d j k
+    → Written (11 * n + 1) (fields (take n (drop start l))) b d from k
 all-fields l start n i below above inside u w =
     let e : start + 0 ≡ start = omega arith in
     let text = rw e at (numbers l start n 0 (omega arith)) in

@@ -13,8 +13,10 @@ pub data Broken (k : Known) (c : Command) : Refusal → Type 0 where
   -- 6
   range : inPlace k c ≡ true → underCeiling k c ≡ true → inRange (k .counts) c ≡ false → Broken k c outOfRange
   -- 7
-  repeated : inPlace k c ≡ true → underCeiling k c ≡ true → inRange (k .counts) c ≡ true → newWord (k .body) c ≡ false → Broken k c wordRepeated
+  repeated : inPlace k c ≡ true → underCeiling k c ≡ true → inRange (k .counts) c ≡ true → newWord (k .body) c ≡ false
+      → Broken k c wordRepeated
   -- 8
   falling :
-      inPlace k c ≡ true → underCeiling k c ≡ true → inRange (k .counts) c ≡ true → newWord (k .body) c ≡ true → rising k c ≡ false
+      inPlace k c ≡ true → underCeiling k c ≡ true → inRange (k .counts) c ≡ true → newWord (k .body) c ≡ true
+      → rising k c ≡ false
       → Broken k c releasesNotRising

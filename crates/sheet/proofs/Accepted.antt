@@ -14,7 +14,8 @@ use Rattle.model.specs.Refusal.{Refusal}
 use Rattle.model.specs.Command.{Command, END, Found, found, refused, commandAt}
 use Rattle.model.specs.Fault.{Known, nothingKnown, faultOf}
 use Rattle.model.specs.Sheet.{Verdict, accepted, turnedDown, end?, atEnd, verdictFrom, verdict, after}
-use Rattle.sheet.specs.WellFormed.{Stand, nothing, first, Faultless, unread, good, Read, WellFormed, Wrong, missing, faulty, followed, TurnedDown}
+use Rattle.sheet.specs.WellFormed.{Stand, nothing, first, Faultless, unread, good, Read}
+use Rattle.sheet.specs.WellFormed.{WellFormed, Wrong, missing, faulty, followed, TurnedDown}
 use Rattle.model.proofs.Ends.{is-end}
 use Rattle.rules.proofs.Faults.{is-fault, is-broken}
 use Rattle.sheet.proofs.Gaps.{is-missing, is-refused-there}
@@ -31,7 +32,8 @@ more-faultless :
 more-faultless c unread e f = good e f unread
 more-faultless c (good g h r) e f = good g h (more-faultless c r e f)
 
-more : {s : List ℕ} {p next : ℕ} {k : Known} {c : Command} → Read s p k → commandAt s p ≡ found c next → faultOf k c ≡ none → end? c ≡ false → Read s next (after k c)
+more : {s : List ℕ} {p next : ℕ} {k : Known} {c : Command} → Read s p k → commandAt s p ≡ found c next → faultOf k c ≡ none → end? c ≡ false
+    → Read s next (after k c)
 more {c = c} r e f g = record { commands = _; stand = more-stand (r .stand) e; faultless = more-faultless c (r .faultless) f g }
 
 -- FROM THE VERDICT
@@ -51,7 +53,8 @@ module _ (s : List ℕ) (p : ℕ) (k : Known) (r : Read s p k) where
       well (record { place = p; known = k; read = r; last = rw (← is) e; ends = f })
 
 -- a command, given the outcome from the next place on
-module _ (n : ℕ) (s : List ℕ) (p : ℕ) (k : Known) (r : Read s p k) (go : (next : ℕ) (m : Known) → p < next → Read s next m → Outcome s (verdictFrom n s next m)) where
+module _ (n : ℕ) (s : List ℕ) (p : ℕ) (k : Known) (r : Read s p k)
+    (go : (next : ℕ) (m : Known) → p < next → Read s next m → Outcome s (verdictFrom n s next m)) where
   module _ (c : Command) (next : ℕ) (e : commandAt s p ≡ found c next) where
     on-end : faultOf k c ≡ none → (b : Bool) → end? c ≡ b → Outcome s (verdictFrom (suc n) s p k)
     on-end f true g =
@@ -65,7 +68,8 @@ module _ (n : ℕ) (s : List ℕ) (p : ℕ) (k : Known) (r : Read s p k) (go : (
     on-fault : (o : Option Refusal) → faultOf k c ≡ o → Outcome s (verdictFrom (suc n) s p k)
     on-fault none f = on-end f (end? c) refl
     on-fault (some x) f =
-        subst (Outcome s) (sym (judged-found n s p k e ∙ stops-at-fault (verdictFrom n s) s p k c next f)) (wrong-at s p k r (faulty e (is-broken k c f)))
+        subst (Outcome s) (sym (judged-found n s p k e ∙ stops-at-fault (verdictFrom n s) s p k c next f))
+        (wrong-at s p k r (faulty e (is-broken k c f)))
 
   on-found : (o : Found) → commandAt s p ≡ o → Outcome s (verdictFrom (suc n) s p k)
   on-found (refused f q) e = subst (Outcome s) (sym (judged-refused n s p k e)) (wrong-at s p k r (missing (is-missing s p e)))

@@ -36,7 +36,8 @@ words-none unread h = refl
 words-none {k} (good {c = c} {l = l} f e r) h = words-none-by k l c (kind k c (keeps k c f .place) e) h (words-none r)
 
 module _ (k : Known) (l : List Command) where
-  blocks-none-by : (c : Command) → Kind k c → 1 < rank (k .section) → (1 < rank (after k c .section) → whole l .blocks ≡ []) → whole (c ∷ l) .blocks ≡ []
+  blocks-none-by : (c : Command) → Kind k c → 1 < rank (k .section) → (1 < rank (after k c .section) → whole l .blocks ≡ [])
+      → whole (c ∷ l) .blocks ≡ []
   unfolding declared after
   blocks-none-by c (isWord e) h go = absurd (omega arith)
   blocks-none-by c (isBlock e) h go = absurd (omega arith)
@@ -114,19 +115,24 @@ blocks-from {s} {o} {k = k} d (first {next = next} {c = c} {l = l} f r) (good g 
 -- AN ACCEPTED SHEET
 pub whole-sheet : {s : List ℕ} (w : WellFormed s) → sheetOf s ≡ whole (w .read .commands)
 whole-sheet {s} w =
-    let last : commandsAt s (w .place) ≡ END ∷ [] = commands-found s (w .place) (w .last) ∙ ap (λ (l : List Command). END ∷ l) (commands-refused s (length s) (past-the-end s (length s) (omega arith))) in
-    sheet-is s ∙ ap (λ (d : Declared). d .sheet) (declared-is s 0 ∙ ap declared (commands-stand (w .read .stand) ∙ ap (λ (l : List Command). w .read .commands ++ l) last))
+    let last : commandsAt s (w .place) ≡ END ∷ [] = commands-found s (w .place) (w .last)
+    ∙ ap (λ (l : List Command). END ∷ l) (commands-refused s (length s) (past-the-end s (length s) (omega arith))) in
+    sheet-is s
+    ∙ ap (λ (d : Declared). d .sheet)
+    (declared-is s 0 ∙ ap declared (commands-stand (w .read .stand) ∙ ap (λ (l : List Command). w .read .commands ++ l) last))
 
 module _ (s : List ℕ) (e : verdict s ≡ accepted) (i : ℕ) where
   pub word-of : i < length (sheetOf s .words) → getD (sheetOf s .words) i 0 ≡ bigEndian s (suc (5 * i)) 4
   word-of h =
       let w : WellFormed s = accepted-when-well-formed s .0 e in
-      rw (whole-sheet w) (words-from (w .read .stand) (w .read .faultless) refl i (rw (whole-sheet w) at h) ∙ ap (λ (p : ℕ). bigEndian s (suc p) 4) (omega arith))
+      rw (whole-sheet w)
+      (words-from (w .read .stand) (w .read .faultless) refl i (rw (whole-sheet w) at h) ∙ ap (λ (p : ℕ). bigEndian s (suc p) 4) (omega arith))
 
   pub block-of : (d : Block) → i < length (sheetOf s .blocks) → getD (sheetOf s .blocks) i d ≡ readBlock s (5 * length (sheetOf s .words) + 37 * i)
   block-of d h =
       let w : WellFormed s = accepted-when-well-formed s .0 e in
-      rw (whole-sheet w) (blocks-from d (w .read .stand) (w .read .faultless) (omega arith) i (rw (whole-sheet w) at h) ∙ ap (readBlock s) (omega arith))
+      rw (whole-sheet w)
+      (blocks-from d (w .read .stand) (w .read .faultless) (omega arith) i (rw (whole-sheet w) at h) ∙ ap (readBlock s) (omega arith))
 
 -- ROOM: the words and blocks lie within the sheet
 module _ (s : List ℕ) (o place : ℕ) (k : Known) (l : List Command) (next : ℕ) where

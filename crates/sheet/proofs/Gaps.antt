@@ -20,7 +20,8 @@ module _ (s : List ℕ) (p : ℕ) where
   is-refused-there (cut {r = r} h e l) = decoding.cut s p h (record { row = r; is = e; wide = refl }) l
 
   module _ {f : Refusal} {q : ℕ} where
-    missing-whole : (r : Row) → p < length s → rowOf (getD s p 0) table ≡ some r → (b : Bool) → leb (suc p + total (r .widths)) (length s) ≡ b → foundWhole b s p r ≡ refused f q → Missing s p f q
+    missing-whole : (r : Row) → p < length s → rowOf (getD s p 0) table ≡ some r → (b : Bool) → leb (suc p + total (r .widths)) (length s) ≡ b
+        → foundWhole b s p r ≡ refused f q → Missing s p f q
     unfolding foundWhole
     missing-whole r h e true l g = let z : _≡_ {A = ℕ} 0 1 = cc in absurd (omega arith)
     missing-whole r h e false l g =

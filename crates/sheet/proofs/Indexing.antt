@@ -86,17 +86,23 @@ begin s x is e =
     }))
 
 -- what the commands from a place on declare
-rest-declared : {s : List ℕ} {at place : ℕ} {l : List Command} → Stand s at l place → commandAt s place ≡ found END (length s) → declaredAt s at ≡ declared (l ++ (END ∷ []))
+rest-declared : {s : List ℕ} {at place : ℕ} {l : List Command} → Stand s at l place → commandAt s place ≡ found END (length s)
+    → declaredAt s at ≡ declared (l ++ (END ∷ []))
 rest-declared {s} {at} {place} {l} r last =
-    let end : commandsAt s place ≡ END ∷ [] = commands-found s place last ∙ ap (λ (q : List Command). END ∷ q) (commands-refused s (length s) (past-the-end s (length s) (omega arith))) in
+    let end : commandsAt s place ≡ END ∷ [] =
+    commands-found s place last ∙ ap (λ (q : List Command). END ∷ q) (commands-refused s (length s) (past-the-end s (length s) (omega arith))) in
     declared-is s at ∙ ap declared (commands-stand r ∙ ap (λ (q : List Command). l ++ q) end)
 
-rest-commands : {s : List ℕ} {at place : ℕ} {l : List Command} → Stand s at l place → commandAt s place ≡ found END (length s) → commandsAt s at ≡ l ++ (END ∷ [])
+rest-commands : {s : List ℕ} {at place : ℕ} {l : List Command} → Stand s at l place → commandAt s place ≡ found END (length s)
+    → commandsAt s at ≡ l ++ (END ∷ [])
 rest-commands {s} {at} {place} {l} r last =
-    commands-stand r ∙ ap (λ (q : List Command). l ++ q) (commands-found s place last ∙ ap (λ (q : List Command). END ∷ q) (commands-refused s (length s) (past-the-end s (length s) (omega arith))))
+    commands-stand r
+    ∙ ap (λ (q : List Command). l ++ q)
+    (commands-found s place last ∙ ap (λ (q : List Command). END ∷ q) (commands-refused s (length s) (past-the-end s (length s) (omega arith))))
 
 -- after a release only releases come
-only-by : (k : Known) (l : List Command) (c : Command) → Kind k c → rank (k .section) ≡ 3 → (rank (after k c .section) ≡ 3 → OnlyReleases (l ++ (END ∷ []))) → OnlyReleases (c ∷ l ++ (END ∷ []))
+only-by : (k : Known) (l : List Command) (c : Command) → Kind k c → rank (k .section) ≡ 3
+    → (rank (after k c .section) ≡ 3 → OnlyReleases (l ++ (END ∷ []))) → OnlyReleases (c ∷ l ++ (END ∷ []))
 unfolding after
 only-by k l c (isWord e) h go = absurd (omega arith)
 only-by k l c (isBlock e) h go = absurd (omega arith)
@@ -140,12 +146,16 @@ module _
         tasks = passed-all (left .bodies);
         releases = passed-all (left .releases);
         bodies = bodies;
-        released = first-release s at (x .releases) (x .released) [] (left .releases) (sym (ap (λ (d : Declared). d .sheet .releases) (rest-declared nothing e))) (subst OnlyReleases (sym (rest-commands nothing e)) refl) released (eqb (x .releases) 0) refl;
+        released =
+            first-release s at (x .releases) (x .released) [] (left .releases)
+            (sym (ap (λ (d : Declared). d .sheet .releases) (rest-declared nothing e))) (subst OnlyReleases (sym (rest-commands nothing e)) refl)
+            released (eqb (x .releases) 0) refl;
       }
 
   module _ (l : List Command) (next : ℕ) (stand : Stand s next l place) where
     abbrev More : Command → Type 0
-    More c = commandAt s at ≡ found c next → Faultless (after k c) l m → Left (sheetOf s) x (whole (c ∷ l)) → Room x c → Going s (counted x c at next) next
+    More c =
+        commandAt s at ≡ found c next → Faultless (after k c) l m → Left (sheetOf s) x (whole (c ∷ l)) → Room x c → Going s (counted x c at next) next
 
     one-word : (v : ℕ) → More (WORD v)
     unfolding counted declared after
@@ -225,7 +235,10 @@ module _
           match = record { words = match .words; blocks = match .blocks; tasks = match .tasks; releases = omega (arith, match .releases) };
           full = full;
           bodies = bodies;
-          released = λ h. first-release s at (x .releases) (x .released) _ (left .releases) (sym (ap (λ (d : Declared). d .sheet .releases) (rest-declared (first e stand) last))) (subst OnlyReleases (sym (rest-commands (first e stand) last)) (only-releases faultless refl)) released (eqb (x .releases) 0) refl;
+          released = λ h.
+              first-release s at (x .releases) (x .released) _ (left .releases)
+              (sym (ap (λ (d : Declared). d .sheet .releases) (rest-declared (first e stand) last)))
+              (subst OnlyReleases (sym (rest-commands (first e stand) last)) (only-releases faultless refl)) released (eqb (x .releases) 0) refl;
         }
 
     one-of-body : (c : BodyCommand) → More (body c)

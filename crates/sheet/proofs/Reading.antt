@@ -51,7 +51,8 @@ module _ (n : ℕ) (s : List ℕ) (at : ℕ) (k : Known) where
   unfolding judge
   judged-refused e = judged ∙ ap (judge (verdictFrom n s) s at k) e
 
-  pub judged-found : {c : Command} {next : ℕ} → commandAt s at ≡ found c next → verdictFrom (suc n) s at k ≡ judgeFault (verdictFrom n s) s at k c next (faultOf k c)
+  pub judged-found : {c : Command} {next : ℕ} → commandAt s at ≡ found c next
+      → verdictFrom (suc n) s at k ≡ judgeFault (verdictFrom n s) s at k c next (faultOf k c)
   unfolding judge
   judged-found e = judged ∙ ap (judge (verdictFrom n s) s at k) e
 

@@ -10,7 +10,8 @@ use lib.Dec.{eqb, ltb, leb}
 use lib.ListN.{length, getD}
 use Rattle.model.specs.Command.{Block, Release, BodyCommand, LOAD, ADD, outside, inside, Command, WORD, BLOCK, TASK, RELEASE, END, body}
 use Rattle.model.specs.Command.{Row, table, rowBy, rowOf, total, operand, bigEndian, found, foundWhole, foundRow, foundByte, commandAt}
-use Rattle.model.specs.Fault.{Section, wordSection, blockSection, bodySection, releaseSection, words?, blocks?, body?, releases?, Known, inPlaceBody, inPlace}
+use Rattle.model.specs.Fault.{Section, wordSection, blockSection, bodySection, releaseSection}
+use Rattle.model.specs.Fault.{words?, blocks?, body?, releases?, Known, inPlaceBody, inPlace}
 use Rattle.model.specs.Sheet.{end?}
 use Rattle.commands.specs.Stages.{valuesFrom, commandFrom, widthFrom, commandOf, widthOf}
 use Rattle.commands.proofs.Decoding.{word-command, block-command}
@@ -32,8 +33,16 @@ Right (r ∷ l) = ((o : ℕ → ℕ) → Byte (r .byte) (r .command o)) × Right
 right : Right table
 unfolding table
 right =
-    let any : 0 ≤ 0 = omega arith in
-    (λ o. refl, (λ o. refl, (λ o. any, (λ o. any, (λ o. any, (λ o. any, (λ o. any, (λ o. any, (λ o. any, (λ o. any, (λ o. any, (λ o. any, (λ o. any, (λ o. any, any))))))))))))))
+    let any : 0 ≤ 0 = omega arith in (
+      λ o. refl,
+      (
+        λ o. refl,
+        (
+          λ o. any,
+          (λ o. any, (λ o. any, (λ o. any, (λ o. any, (λ o. any, (λ o. any, (λ o. any, (λ o. any, (λ o. any, (λ o. any, (λ o. any, any))))))))))),
+        ),
+      ),
+    )
 
 module _ (b : ℕ) (o : ℕ → ℕ) {r : Row} where
   picked :
@@ -55,19 +64,22 @@ pub record At (s : List ℕ) (p : ℕ) (c : Command) (next : ℕ) : Type 0 where
   pub after : suc p + widthOf (getD s p 0) ≡ next
 
 module _ (s : List ℕ) (p : ℕ) {c : Command} {next : ℕ} where
-  whole-row : (r : Row) → rowOf (getD s p 0) table ≡ some r → (b : Bool) → foundWhole b s p r ≡ found c next → Byte (getD s p 0) c × (commandFrom s (suc p) (some r) ≡ c) × (suc p + widthFrom (some r) ≡ next)
+  whole-row : (r : Row) → rowOf (getD s p 0) table ≡ some r → (b : Bool) → foundWhole b s p r ≡ found c next
+      → Byte (getD s p 0) c × (commandFrom s (suc p) (some r) ≡ c) × (suc p + widthFrom (some r) ≡ next)
   unfolding foundWhole commandFrom widthFrom
   whole-row r e true f =
       let is : r .command (λ n. operand s (suc p) (r .widths) n) ≡ c = cc in
       (subst (Byte (getD s p 0)) is (row-byte (getD s p 0) (λ n. operand s (suc p) (r .widths) n) table right e), is, cc)
   whole-row r e false f = let z : _≡_ {A = ℕ} 0 1 = cc in absurd (omega arith)
 
-  whole-option : (o : Option Row) → rowOf (getD s p 0) table ≡ o → foundRow s p o ≡ found c next → Byte (getD s p 0) c × (commandFrom s (suc p) o ≡ c) × (suc p + widthFrom o ≡ next)
+  whole-option : (o : Option Row) → rowOf (getD s p 0) table ≡ o → foundRow s p o ≡ found c next
+      → Byte (getD s p 0) c × (commandFrom s (suc p) o ≡ c) × (suc p + widthFrom o ≡ next)
   unfolding foundRow
   whole-option none e f = let z : _≡_ {A = ℕ} 0 1 = cc in absurd (omega arith)
   whole-option (some r) e f = whole-row r e (leb (suc p + total (r .widths)) (length s)) f
 
-  whole-byte : (b : Bool) → foundByte b s p ≡ found c next → Byte (getD s p 0) c × (commandFrom s (suc p) (rowOf (getD s p 0) table) ≡ c) × (suc p + widthFrom (rowOf (getD s p 0) table) ≡ next)
+  whole-byte : (b : Bool) → foundByte b s p ≡ found c next
+      → Byte (getD s p 0) c × (commandFrom s (suc p) (rowOf (getD s p 0) table) ≡ c) × (suc p + widthFrom (rowOf (getD s p 0) table) ≡ next)
   unfolding foundByte
   whole-byte true f = whole-option (rowOf (getD s p 0) table) refl f
   whole-byte false f = let z : _≡_ {A = ℕ} 0 1 = cc in absurd (omega arith)
@@ -84,11 +96,13 @@ module _ (s : List ℕ) (p : ℕ) where
       let f : WORD v ≡ WORD (bigEndian s (suc p) 4) = sym (rw (a .byte) at (a .command)) ∙ word-command s (suc p) in
       (cc, sym (rw (a .byte) at (a .after)))
 
-  pub block-at : {b : Block} {next : ℕ} → commandAt s p ≡ found (BLOCK b) next → (b ≡ record { version = bigEndian s (suc p) 4; values = valuesFrom s (suc p) }) × (next ≡ suc p + 36)
+  pub block-at : {b : Block} {next : ℕ} → commandAt s p ≡ found (BLOCK b) next
+      → (b ≡ record { version = bigEndian s (suc p) 4; values = valuesFrom s (suc p) }) × (next ≡ suc p + 36)
   unfolding widthOf
   block-at {b} {next} e =
       let a = found-at s p e in
-      let f : BLOCK b ≡ BLOCK (record { version = bigEndian s (suc p) 4; values = valuesFrom s (suc p) }) = sym (rw (a .byte) at (a .command)) ∙ block-command s (suc p) in
+      let f : BLOCK b ≡ BLOCK (record { version = bigEndian s (suc p) 4; values = valuesFrom s (suc p) }) =
+      sym (rw (a .byte) at (a .command)) ∙ block-command s (suc p) in
       (cc, sym (rw (a .byte) at (a .after)))
 
 -- THE ORDER OF SECTIONS

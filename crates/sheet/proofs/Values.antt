@@ -57,17 +57,21 @@ module _ (go : ℕ → Known → Verdict) (s : List ℕ) (at : ℕ) (k : Known) 
 
 pub judge-values :
     (vs : List ℕ) (go : ℕ → Known → Verdict) (s : List ℕ) (at : ℕ) (k : Known) (c : Command) (next : ℕ)
-    → judgeFault go s at k (viewCommand vs c) next (faultOf k (viewCommand vs c)) ≡ judgeFault go s at k (viewCommand [] c) next (faultOf k (viewCommand [] c))
+    → judgeFault go s at k (viewCommand vs c) next (faultOf k (viewCommand vs c))
+    ≡ judgeFault go s at k (viewCommand [] c) next (faultOf k (viewCommand [] c))
 judge-values vs go s at k c next =
     same-judged go s at k (viewCommand vs c) (viewCommand [] c) next (after-values vs k c) (end-values vs c) (faultOf k (viewCommand vs c))
     ∙ ap (judgeFault go s at k (viewCommand [] c) next) (fault-values vs k c)
 
 -- THE READING
-module _ (s : List ℕ) (at : ℕ) (k : Known) (r : Reached s at k) (vs : List ℕ) (c : Command) {next : ℕ} (e : commandAt s at ≡ found (viewCommand vs c) next) where
-  pub stopped : {v : Verdict} → ((go : ℕ → Known → Verdict) → judgeFault go s at k (viewCommand [] c) next (faultOf k (viewCommand [] c)) ≡ v) → v ≡ verdict s
+module _ (s : List ℕ) (at : ℕ) (k : Known) (r : Reached s at k) (vs : List ℕ) (c : Command) {next : ℕ}
+    (e : commandAt s at ≡ found (viewCommand vs c) next) where
+  pub stopped : {v : Verdict} → ((go : ℕ → Known → Verdict) → judgeFault go s at k (viewCommand [] c) next (faultOf k (viewCommand [] c)) ≡ v)
+      → v ≡ verdict s
   stopped stops = is-judged s at k r e (λ go. judge-values vs go s at k c next ∙ stops go)
 
-  pub went-on : {q : Known} → (faultOf k (viewCommand [] c) ≡ none) × (end? (viewCommand [] c) ≡ false) → q ≡ after k (viewCommand [] c) → Reached s next q
+  pub went-on : {q : Known} → (faultOf k (viewCommand [] c) ≡ none) × (end? (viewCommand [] c) ≡ false) → q ≡ after k (viewCommand [] c)
+      → Reached s next q
   went-on {q} says is =
       subst (λ (q : Known). Reached s next q) (after-values vs k c ∙ sym is)
       (next-reached s at k r e (fault-values vs k c ∙ says .0) (end-values vs c ∙ says .1))

@@ -25,14 +25,16 @@ module _ (kinds values : List ℕ) where
   at-blocks b h = at-tabulate untouched 16 b (λ n. touchedOf (at 0 kinds n) (at 0 values n)) h
 
   -- a block and the value remembered of it are written
-  pub blocks-written : (b k v : ℕ) → b < length kinds → b < length values → blocksOf (replace kinds b k) (replace values b v) ≡ replace (blocksOf kinds values) b (touchedOf k v)
+  pub blocks-written : (b k v : ℕ) → b < length kinds → b < length values
+      → blocksOf (replace kinds b k) (replace values b v) ≡ replace (blocksOf kinds values) b (touchedOf k v)
   unfolding blocksOf
   blocks-written b k v hk hv =
       tabulate-replace 16 (λ n. touchedOf (at 0 kinds n) (at 0 values n)) _ b (touchedOf k v)
       (λ h. rw (replace-same 0 kinds b k hk, replace-same 0 values b v hv))
       (λ n h d. rw (replace-other 0 kinds b n k d, replace-other 0 values b n v d))
 
-  pub blocks-kind : (b k : ℕ) → b < length kinds → blocksOf (replace kinds b k) values ≡ replace (blocksOf kinds values) b (touchedOf k (at 0 values b))
+  pub blocks-kind : (b k : ℕ) → b < length kinds
+      → blocksOf (replace kinds b k) values ≡ replace (blocksOf kinds values) b (touchedOf k (at 0 values b))
   unfolding blocksOf
   blocks-kind b k hk =
       tabulate-replace 16 (λ n. touchedOf (at 0 kinds n) (at 0 values n)) _ b (touchedOf k (at 0 values b))
@@ -67,7 +69,8 @@ module _ (kinds values : List ℕ) where
   nothing-from zero place f g = refl
   nothing-from (suc n) place f g =
       ap (λ (t : Touched). nothing? (t ∷ tabulate n (λ i. f (suc i)))) (first n place f g)
-      ∙ nothing-first (at 0 kinds place) (at 0 values place) (tabulate n (λ i. f (suc i))) (untouchedFrom n kinds (suc place)) (nothing-from n (suc place) (λ i. f (suc i)) (others n place f g))
+      ∙ nothing-first (at 0 kinds place) (at 0 values place) (tabulate n (λ i. f (suc i))) (untouchedFrom n kinds (suc place))
+      (nothing-from n (suc place) (λ i. f (suc i)) (others n place f g))
 
   spent-or : (a b : Bool) → a || b ≡ if a true b
   spent-or true b = refl
@@ -84,7 +87,8 @@ module _ (kinds values : List ℕ) where
   spent-from zero place f g = refl
   spent-from (suc n) place f g =
       ap (λ (t : Touched). spent? (t ∷ tabulate n (λ i. f (suc i)))) (first n place f g)
-      ∙ spent-first (at 0 kinds place) (at 0 values place) (tabulate n (λ i. f (suc i))) (spentFrom n kinds values (suc place)) (spent-from n (suc place) (λ i. f (suc i)) (others n place f g))
+      ∙ spent-first (at 0 kinds place) (at 0 values place) (tabulate n (λ i. f (suc i))) (spentFrom n kinds values (suc place))
+      (spent-from n (suc place) (λ i. f (suc i)) (others n place f g))
 
   row-blocks : (p : ℕ) → Blocks 16 (16 * p) (λ b. touchedOf (at 0 (row 16 p kinds) b) (at 0 (row 16 p values) b))
   row-blocks p i h = rw (at-row 0 16 p i kinds h, at-row 0 16 p i values h)

@@ -20,7 +20,8 @@ module _ (sheet : List ℕ) where
   abbrev pub Enough : ℕ → ℕ → Type 0
   Enough n m = (place : ℕ) → length sheet ≤ place + n → length sheet ≤ place + m → commandsFrom n sheet place ≡ commandsFrom m sheet place
 
-  enough-found : (n m place : ℕ) → Enough n m → length sheet ≤ suc place + n → length sheet ≤ suc place + m → (f : Found) → commandAt sheet place ≡ f → listed (commandsFrom n sheet) f ≡ listed (commandsFrom m sheet) f
+  enough-found : (n m place : ℕ) → Enough n m → length sheet ≤ suc place + n → length sheet ≤ suc place + m → (f : Found) → commandAt sheet place ≡ f
+      → listed (commandsFrom n sheet) f ≡ listed (commandsFrom m sheet) f
   unfolding listed
   enough-found n m place e hn hm (refused r q) c = refl
   enough-found n m place e hn hm (found c next) q =

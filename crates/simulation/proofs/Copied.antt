@@ -75,4 +75,5 @@ module _ (kinds : List ℕ) (p : ℕ) (below : p < 8) (sk : length kinds ≡ 128
 
   pub cleared-blocks : (remembered : List ℕ) → blocksOf (row 16 p (cleared 16 kinds p)) remembered ≡ replicate 16 J.untouched
   unfolding blocksOf tabulate
-  cleared-blocks remembered = tabulate-same 16 _ (λ b. J.untouched) (λ b h. ap (λ (k : ℕ). touchedOf k (at 0 remembered b)) (cleared-at 16 b (omega arith) h))
+  cleared-blocks remembered =
+      tabulate-same 16 _ (λ b. J.untouched) (λ b h. ap (λ (k : ℕ). touchedOf k (at 0 remembered b)) (cleared-at 16 b (omega arith) h))

@@ -25,7 +25,8 @@ module _ (sheet : List ℕ) (counts : List ℕ) (p place pairs : ℕ) (size : le
   abbrev goneOn : Bool → Went Job
   goneOn t = if t (went (jobAt Phase.Plain place pairs) counts) (went (jobAt Phase.Idle place pairs) (counted counts p 0))
 
-  module _ (body l : List BodyCommand) (f : J.Phase) (r : List ℕ) (q : List X.Entry) (c : List ℕ) (x : Parts) (few : at 0 (row 4 p counts) 0 < 4294967295) where
+  module _ (body l : List BodyCommand) (f : J.Phase) (r : List ℕ) (q : List X.Entry) (c : List ℕ) (x : Parts)
+      (few : at 0 (row 4 p counts) 0 < 4294967295) where
     -- the task once its command is done, with those commands left
     abbrev left : List BodyCommand → J.Task
     left bs = J.doneBy bs (task body l f r q c (row 4 p counts)) (x .registers) (pairsOf pairs (x .names) (x .olds) (x .news)) (x .copies)
@@ -81,6 +82,7 @@ module _ (sheet : List ℕ) (counts : List ℕ) (p place pairs : ℕ) (size : le
   shape-if x u true = u
   shape-if x u false = tt
 
-  pub done-shape : (x : Parts) → Unloaded pairs x → JobShape sheet (afterDone sheet counts p place pairs .next) x (afterDone sheet counts p place pairs .next .phase)
+  pub done-shape : (x : Parts) → Unloaded pairs x
+      → JobShape sheet (afterDone sheet counts p place pairs .next) x (afterDone sheet counts p place pairs .next .phase)
   unfolding afterDone
   done-shape x u = shape-if x u (inBody (commandAt sheet place))

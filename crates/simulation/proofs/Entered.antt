@@ -68,10 +68,18 @@ module _ (e : Entries) (p k cell old new : ℕ) (room : k < 8) where
       unfolding entered
       entered-pairs =
           rw (row-same 8 p k (e .names) cell room, row-same 8 p k (e .olds) old room, row-same 8 p k (e .news) new room)
-          (pairs-more k (row 8 p (e .names)) (row 8 p (e .olds)) (row 8 p (e .news)) cell old new (within _ (s .names)) (within _ (s .olds)) (within _ (s .news)))
+          (pairs-more k (row 8 p (e .names)) (row 8 p (e .olds)) (row 8 p (e .news)) cell old new (within _ (s .names)) (within _ (s .olds))
+          (within _ (s .news)))
 
       pub entered-entries : rowEntries p (suc k) (entered e p k cell old new) ≡ rowEntries p k e ++ (entry cell old new ∷ [])
       unfolding entered
       entered-entries =
-          rw (row-same 8 p k (e .names) cell room, row-same 8 p k (e .olds) old room, row-same 8 p k (e .news) new room, row-same 8 p k (e .inits) (packed 0 0 true 0) room, row-same 8 p k (e .overlapped) 0 room)
-          (entries-more k (row 8 p (e .names)) (row 8 p (e .olds)) (row 8 p (e .news)) cell old new (within _ (s .names)) (within _ (s .olds)) (within _ (s .news)) (row 8 p (e .inits)) (row 8 p (e .overlapped)) (within _ (s .inits)) (within _ (s .overlapped)))
+          rw (
+            row-same 8 p k (e .names) cell room,
+            row-same 8 p k (e .olds) old room,
+            row-same 8 p k (e .news) new room,
+            row-same 8 p k (e .inits) (packed 0 0 true 0) room,
+            row-same 8 p k (e .overlapped) 0 room,
+          )
+          (entries-more k (row 8 p (e .names)) (row 8 p (e .olds)) (row 8 p (e .news)) cell old new (within _ (s .names)) (within _ (s .olds))
+          (within _ (s .news)) (row 8 p (e .inits)) (row 8 p (e .overlapped)) (within _ (s .inits)) (within _ (s .overlapped)))

@@ -28,7 +28,8 @@ module _ (k : ℕ) (names olds news inits overlapped : List ℕ) where
   -- entry i as loaded, and as Look leaves it
   pub entries-loaded : (i w b : ℕ) → i < length inits → i < length overlapped
       → entriesOf k names olds news (replace inits i w) (replace overlapped i b)
-      ≡ replace (entriesOf k names olds news inits overlapped) i (record { cell = at 0 names i; old = at 0 olds i; new = at 0 news i; init = unpack w; overlapped = not (eqb b 0) })
+      ≡ replace (entriesOf k names olds news inits overlapped) i
+      (record { cell = at 0 names i; old = at 0 olds i; new = at 0 news i; init = unpack w; overlapped = not (eqb b 0) })
   unfolding entriesOf
   entries-loaded i w b hi ho =
       tabulate-replace k (entryOf names olds news inits overlapped) (entryOf names olds news (replace inits i w) (replace overlapped i b)) i _
@@ -37,7 +38,8 @@ module _ (k : ℕ) (names olds news inits overlapped : List ℕ) where
 
   pub entries-looked : (i b : ℕ) → i < length overlapped
       → entriesOf k names olds news inits (replace overlapped i b)
-      ≡ replace (entriesOf k names olds news inits overlapped) i (record { cell = at 0 names i; old = at 0 olds i; new = at 0 news i; init = unpack (at 0 inits i); overlapped = not (eqb b 0) })
+      ≡ replace (entriesOf k names olds news inits overlapped) i
+      (record { cell = at 0 names i; old = at 0 olds i; new = at 0 news i; init = unpack (at 0 inits i); overlapped = not (eqb b 0) })
   unfolding entriesOf
   entries-looked i b ho =
       tabulate-replace k (entryOf names olds news inits overlapped) (entryOf names olds news inits (replace overlapped i b)) i _
@@ -46,7 +48,8 @@ module _ (k : ℕ) (names olds news inits overlapped : List ℕ) where
 
 -- ONE MORE ENTRY, after the k there are
 module _ (k : ℕ) (names olds news : List ℕ) (cell old new : ℕ) (hn : k < length names) (ho : k < length olds) (hw : k < length news) where
-  pub pairs-more : pairsOf (suc k) (replace names k cell) (replace olds k old) (replace news k new) ≡ pairsOf k names olds news ++ (entry cell old new ∷ [])
+  pub pairs-more :
+      pairsOf (suc k) (replace names k cell) (replace olds k old) (replace news k new) ≡ pairsOf k names olds news ++ (entry cell old new ∷ [])
   unfolding pairsOf
   pairs-more =
       tabulate-more k _ (λ e. entry (at 0 names e) (at 0 olds e) (at 0 news e)) (entry cell old new)
@@ -54,14 +57,29 @@ module _ (k : ℕ) (names olds news : List ℕ) (cell old new : ℕ) (hn : k < l
       (rw (replace-same 0 names k cell hn, replace-same 0 olds k old ho, replace-same 0 news k new hw))
 
   module _ (inits overlapped : List ℕ) (hi : k < length inits) (hv : k < length overlapped) where
-    pub entries-more : entriesOf (suc k) (replace names k cell) (replace olds k old) (replace news k new) (replace inits k (packed 0 0 true 0)) (replace overlapped k 0)
+    pub entries-more : entriesOf (suc k) (replace names k cell) (replace olds k old) (replace news k new) (replace inits k (packed 0 0 true 0))
+        (replace overlapped k 0)
         ≡ entriesOf k names olds news inits overlapped ++ (entry cell old new ∷ [])
     unfolding entriesOf
     entries-more =
         let fresh : unpack (packed 0 0 true 0) ≡ W.freshWord 0 = unpack-packed 0 0 true 0 (omega arith) (omega arith) in
         tabulate-more k _ (entryOf names olds news inits overlapped) (entry cell old new)
-        (λ e h. let d : e ≢ k = omega arith in rw (replace-other 0 names k e cell d, replace-other 0 olds k e old d, replace-other 0 news k e new d, replace-other 0 inits k e (packed 0 0 true 0) d, replace-other 0 overlapped k e 0 d))
-        (rw (replace-same 0 names k cell hn, replace-same 0 olds k old ho, replace-same 0 news k new hw, replace-same 0 inits k (packed 0 0 true 0) hi, replace-same 0 overlapped k 0 hv, fresh))
+        (λ e h. let d : e ≢ k = omega arith in
+        rw (
+          replace-other 0 names k e cell d,
+          replace-other 0 olds k e old d,
+          replace-other 0 news k e new d,
+          replace-other 0 inits k e (packed 0 0 true 0) d,
+          replace-other 0 overlapped k e 0 d,
+        ))
+        (rw (
+          replace-same 0 names k cell hn,
+          replace-same 0 olds k old ho,
+          replace-same 0 news k new hw,
+          replace-same 0 inits k (packed 0 0 true 0) hi,
+          replace-same 0 overlapped k 0 hv,
+          fresh,
+        ))
 
 pub no-pairs : (names olds news : List ℕ) → pairsOf 0 names olds news ≡ []
 unfolding pairsOf tabulate

@@ -15,7 +15,8 @@ use Rattle.memory.specs.Rows.{row}
 use Rattle.memory.proofs.Rows.{row-other}
 use Rattle.exchanges.specs.Places.{if, nextOf, Went, went}
 use Rattle.exchanges.specs.Reading.{owned}
-use Rattle.exchanges.specs.Exchange.{Left, found, afterStart, afterTest, afterLoad, afterLook, afterFetch, afterSave, afterFail, afterMark, installedAt, afterInstall, cleaning, afterCommit, asNew, cleaned, afterClean, afterCleanMark, afterExchange}
+use Rattle.exchanges.specs.Exchange.{Left, found, afterStart, afterTest, afterLoad, afterLook, afterFetch, afterSave, afterFail, afterMark}
+use Rattle.exchanges.specs.Exchange.{installedAt, afterInstall, cleaning, afterCommit, asNew, cleaned, afterClean, afterCleanMark, afterExchange}
 use Rattle.exchanges.specs.declared.exchange.Step.{Step}
 use Rattle.exchanges.specs.declared.exchange.Step.the-variants.{Start, Test, Load, Look, Fetch, Save, Fail, Mark, Install, Commit, Clean, CleanMark}
 use Rattle.exchanges.specs.declared.exchange.Exchanged.{Exchanged}
@@ -62,19 +63,104 @@ module _ (c s v names olds news l o : List ℕ) (p k x : ℕ) (most : k ≤ 8) w
   look-others i w h false q d = row-other 8 p q i o 1 (omega arith) d
 
   pub exchange-frame : (z : Step) → StepFit k (numberOf z) (stepOf x z) → Frame (afterExchange c s v names olds news l o p k x z)
-  unfolding afterExchange afterStart afterTest afterLoad afterLook afterFetch afterSave afterFail afterMark afterInstall afterCommit afterClean afterCleanMark
-  exchange-frame Start h = record { inits = λ q d. refl; overlapped = λ q d. refl; cellsSize = refl; statusSize = length-replace s p 0; savesSize = refl; initsSize = refl; overlappedSize = refl }
-  exchange-frame (Test i) h = record { inits = λ q d. refl; overlapped = λ q d. refl; cellsSize = refl; statusSize = refl; savesSize = refl; initsSize = refl; overlappedSize = refl }
+  unfolding afterExchange afterStart afterTest afterLoad afterLook afterFetch afterSave afterFail afterMark afterInstall afterCommit afterClean
+      afterCleanMark
+  exchange-frame Start h = record {
+    inits = λ q d. refl;
+    overlapped = λ q d. refl;
+    cellsSize = refl;
+    statusSize = length-replace s p 0;
+    savesSize = refl;
+    initsSize = refl;
+    overlappedSize = refl;
+  }
+  exchange-frame (Test i) h =
+      record { inits = λ q d. refl; overlapped = λ q d. refl; cellsSize = refl; statusSize = refl; savesSize = refl; initsSize = refl; overlappedSize = refl }
   exchange-frame (Load i) h =
-      record { inits = λ q d. row-other 8 p q i l _ (omega arith) d; overlapped = λ q d. row-other 8 p q i o 0 (omega arith) d; cellsSize = refl; statusSize = refl; savesSize = refl; initsSize = length-replace l _ _; overlappedSize = length-replace o _ 0 }
+      record {
+        inits = λ q d. row-other 8 p q i l _ (omega arith) d;
+        overlapped = λ q d. row-other 8 p q i o 0 (omega arith) d;
+        cellsSize = refl;
+        statusSize = refl;
+        savesSize = refl;
+        initsSize = length-replace l _ _;
+        overlappedSize = length-replace o _ 0;
+      }
   exchange-frame (Look i) h =
       let t : Bool = owned s (at 0 l (8 * p + i)) in
-      record { inits = λ q d. refl; overlapped = look-others i (at 0 l (8 * p + i)) h t; cellsSize = refl; statusSize = refl; savesSize = refl; initsSize = refl; overlappedSize = look-size i (at 0 l (8 * p + i)) t }
-  exchange-frame (Fetch i) h = record { inits = λ q d. refl; overlapped = λ q d. refl; cellsSize = refl; statusSize = refl; savesSize = refl; initsSize = refl; overlappedSize = refl }
-  exchange-frame (Save i) h = record { inits = λ q d. refl; overlapped = λ q d. refl; cellsSize = refl; statusSize = refl; savesSize = length-replace v _ x; initsSize = refl; overlappedSize = refl }
-  exchange-frame (Fail i) h = record { inits = λ q d. refl; overlapped = λ q d. refl; cellsSize = refl; statusSize = length-replace s p 1; savesSize = refl; initsSize = refl; overlappedSize = refl }
-  exchange-frame (Mark i) h = record { inits = λ q d. refl; overlapped = λ q d. refl; cellsSize = refl; statusSize = length-replace s _ 1; savesSize = refl; initsSize = refl; overlappedSize = refl }
-  exchange-frame (Install i) h = record { inits = λ q d. refl; overlapped = λ q d. refl; cellsSize = install-size (nextOf i) _ _ (eqb (at 0 c (at 0 names (8 * p + i))) (at 0 l (8 * p + i))); statusSize = refl; savesSize = refl; initsSize = refl; overlappedSize = refl }
-  exchange-frame (Commit i) h = record { inits = λ q d. refl; overlapped = λ q d. refl; cellsSize = refl; statusSize = commit-size i (eqb (at 0 s p) 0); savesSize = refl; initsSize = refl; overlappedSize = refl }
-  exchange-frame (Clean i j yes?) h = record { inits = λ q d. refl; overlapped = λ q d. refl; cellsSize = clean-size (asNew (at 0 olds (8 * p + j)) (at 0 news (8 * p + j)) yes?) (eqb (at 0 c (at 0 names (8 * p + j))) (installedAt news p j)) (eqb (at 0 o (8 * p + j)) 0) _ _ _ _ _; statusSize = refl; savesSize = refl; initsSize = refl; overlappedSize = refl }
-  exchange-frame (CleanMark i j yes?) h = record { inits = λ q d. refl; overlapped = λ q d. refl; cellsSize = refl; statusSize = length-replace s _ 1; savesSize = refl; initsSize = refl; overlappedSize = refl }
+      record {
+        inits = λ q d. refl;
+        overlapped = look-others i (at 0 l (8 * p + i)) h t;
+        cellsSize = refl;
+        statusSize = refl;
+        savesSize = refl;
+        initsSize = refl;
+        overlappedSize = look-size i (at 0 l (8 * p + i)) t;
+      }
+  exchange-frame (Fetch i) h =
+      record { inits = λ q d. refl; overlapped = λ q d. refl; cellsSize = refl; statusSize = refl; savesSize = refl; initsSize = refl; overlappedSize = refl }
+  exchange-frame (Save i) h = record {
+    inits = λ q d. refl;
+    overlapped = λ q d. refl;
+    cellsSize = refl;
+    statusSize = refl;
+    savesSize = length-replace v _ x;
+    initsSize = refl;
+    overlappedSize = refl;
+  }
+  exchange-frame (Fail i) h = record {
+    inits = λ q d. refl;
+    overlapped = λ q d. refl;
+    cellsSize = refl;
+    statusSize = length-replace s p 1;
+    savesSize = refl;
+    initsSize = refl;
+    overlappedSize = refl;
+  }
+  exchange-frame (Mark i) h = record {
+    inits = λ q d. refl;
+    overlapped = λ q d. refl;
+    cellsSize = refl;
+    statusSize = length-replace s _ 1;
+    savesSize = refl;
+    initsSize = refl;
+    overlappedSize = refl;
+  }
+  exchange-frame (Install i) h = record {
+    inits = λ q d. refl;
+    overlapped = λ q d. refl;
+    cellsSize = install-size (nextOf i) _ _ (eqb (at 0 c (at 0 names (8 * p + i))) (at 0 l (8 * p + i)));
+    statusSize = refl;
+    savesSize = refl;
+    initsSize = refl;
+    overlappedSize = refl;
+  }
+  exchange-frame (Commit i) h = record {
+    inits = λ q d. refl;
+    overlapped = λ q d. refl;
+    cellsSize = refl;
+    statusSize = commit-size i (eqb (at 0 s p) 0);
+    savesSize = refl;
+    initsSize = refl;
+    overlappedSize = refl;
+  }
+  exchange-frame (Clean i j yes?) h = record {
+    inits = λ q d. refl;
+    overlapped = λ q d. refl;
+    cellsSize =
+        clean-size (asNew (at 0 olds (8 * p + j)) (at 0 news (8 * p + j)) yes?) (eqb (at 0 c (at 0 names (8 * p + j))) (installedAt news p j))
+        (eqb (at 0 o (8 * p + j)) 0) _ _ _ _ _;
+    statusSize = refl;
+    savesSize = refl;
+    initsSize = refl;
+    overlappedSize = refl;
+  }
+  exchange-frame (CleanMark i j yes?) h = record {
+    inits = λ q d. refl;
+    overlapped = λ q d. refl;
+    cellsSize = refl;
+    statusSize = length-replace s _ 1;
+    savesSize = refl;
+    initsSize = refl;
+    overlappedSize = refl;
+  }

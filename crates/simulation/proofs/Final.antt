@@ -46,7 +46,8 @@ four l e = ext-getD 0 (getD l 0 0 ∷ getD l 1 0 ∷ getD l 2 0 ∷ getD l 3 0 �
 
 module _ (bytes : List ℕ) (small : (i : ℕ) → getD bytes i 0 < 256) (good : verdict bytes ≡ accepted) (limit : ℕ) (most : limit ≤ 65535)
     (bodies : List ℕ) (place : ℕ) (cells stores copies : List ℕ) (start : Starts bytes bodies place (sheetOf bytes) cells stores copies) where
-  pub final : (b : Arrays) (e : Ended) → Finished bytes bodies place limit (startArrays cells stores copies) b e → Holds (sheetOf bytes) (run limit (startMachine (sheetOf bytes))) b e
+  pub final : (b : Arrays) (e : Ended) → Finished bytes bodies place limit (startArrays cells stores copies) b e
+      → Holds (sheetOf bytes) (run limit (startMachine (sheetOf bytes))) b e
   final b e f =
       let s = sheetOf bytes in
       let c = accepted-fit bytes good in
@@ -60,8 +61,12 @@ module _ (bytes : List ℕ) (small : (i : ℕ) → getD bytes i 0 < 256) (good :
       let sized = sizes b (r .sound .sized) in
       record {
         memory = ap (λ (m : Machine). m .memory) last;
-        registers = λ p h. ap (λ (m : Machine). taskAt (m .tasks) p .job .registers) last ∙ ap (λ (t : Task). t .job .registers) (task-at bytes bodies (length (s .bodies)) (c .bodies) b (f .jobs) p h);
-        counts = λ p h. ap (λ (m : Machine). countList (taskAt (m .tasks) p .counts)) last ∙ ap (λ (t : Task). countList (t .counts)) (task-at bytes bodies (length (s .bodies)) (c .bodies) b (f .jobs) p h)
+        registers = λ p h.
+            ap (λ (m : Machine). taskAt (m .tasks) p .job .registers) last
+            ∙ ap (λ (t : Task). t .job .registers) (task-at bytes bodies (length (s .bodies)) (c .bodies) b (f .jobs) p h);
+        counts = λ p h.
+            ap (λ (m : Machine). countList (taskAt (m .tasks) p .counts)) last
+            ∙ ap (λ (t : Task). countList (t .counts)) (task-at bytes bodies (length (s .bodies)) (c .bodies) b (f .jobs) p h)
             ∙ four (row 4 p (b .counts)) (length-row 4 p (b .counts) (omega (arith, sized .counts, c .bodies)));
         now = ap (λ (m : Machine). m .now) last;
         dropped = ap (λ (m : Machine). m .dropped) last;

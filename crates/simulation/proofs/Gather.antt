@@ -25,14 +25,18 @@ use Rattle.simulation.proofs.Entries.{no-entries}
 use Rattle.simulation.proofs.Entered.{EntrySizes, rowEntries, EntryFrame, entered-frame, entered-sizes, entered-entries}
 
 -- THE LAST BLOCK OF A LIST
-gather-last : (copies : List ℕ) (b : ℕ) (l : List Touched) (t : Touched) → gather copies b (l ++ (t ∷ [])) ≡ gather copies b l ++ gather copies (b + length l) (t ∷ [])
+gather-last : (copies : List ℕ) (b : ℕ) (l : List Touched) (t : Touched)
+    → gather copies b (l ++ (t ∷ [])) ≡ gather copies b l ++ gather copies (b + length l) (t ∷ [])
 unfolding gather
 gather-last copies b [] t = ap (λ (n : ℕ). gather copies n (t ∷ [])) (omega arith)
-gather-last copies b (untouched ∷ l) t = gather-last copies (suc b) l t ∙ ap (λ (n : ℕ). gather copies (suc b) l ++ gather copies n (t ∷ [])) (omega arith)
+gather-last copies b (untouched ∷ l) t =
+    gather-last copies (suc b) l t ∙ ap (λ (n : ℕ). gather copies (suc b) l ++ gather copies n (t ∷ [])) (omega arith)
 gather-last copies b (remembered v ∷ l) t =
-    ap (λ (z : List Entry). entry (bank b) v v ∷ z) (gather-last copies (suc b) l t ∙ ap (λ (n : ℕ). gather copies (suc b) l ++ gather copies n (t ∷ [])) (omega arith))
+    ap (λ (z : List Entry). entry (bank b) v v ∷ z)
+    (gather-last copies (suc b) l t ∙ ap (λ (n : ℕ). gather copies (suc b) l ++ gather copies n (t ∷ [])) (omega arith))
 gather-last copies b (copied v k ∷ l) t =
-    ap (λ (z : List Entry). entry (bank b) v (bankValue (suc (versionOf v)) (at 0 copies k)) ∷ z) (gather-last copies (suc b) l t ∙ ap (λ (n : ℕ). gather copies (suc b) l ++ gather copies n (t ∷ [])) (omega arith))
+    ap (λ (z : List Entry). entry (bank b) v (bankValue (suc (versionOf v)) (at 0 copies k)) ∷ z)
+    (gather-last copies (suc b) l t ∙ ap (λ (n : ℕ). gather copies (suc b) l ++ gather copies n (t ∷ [])) (omega arith))
 
 taken-last : (copies : List ℕ) (l : List Touched) (t : Touched) → takenBack copies (l ++ (t ∷ [])) ≡ takenBack (takenBack copies l) (t ∷ [])
 unfolding takenBack
@@ -71,7 +75,8 @@ module _ (copies kinds values : List ℕ) (p : ℕ) where
     unfolding takenOne
     taken-others-one q n l d h = go (at 0 kinds (16 * p + n)) refl
       where
-        go : (k : ℕ) → at 0 kinds (16 * p + n) ≡ k → row 4 q (if (ltb k 2) l (replace l (4 * p + (k - 2)) (at 0 values (16 * p + n) % 256))) ≡ row 4 q l
+        go : (k : ℕ) → at 0 kinds (16 * p + n) ≡ k
+            → row 4 q (if (ltb k 2) l (replace l (4 * p + (k - 2)) (at 0 values (16 * p + n) % 256))) ≡ row 4 q l
         go zero e = refl
         go (suc zero) e = refl
         go (suc (suc k)) e =
@@ -87,7 +92,9 @@ module _ (copies kinds values : List ℕ) (p : ℕ) where
     unfolding takenOne takenBack
     taken-one n l h = go (at 0 kinds (16 * p + n)) refl
       where
-        go : (k : ℕ) → at 0 kinds (16 * p + n) ≡ k → row 4 p (if (ltb k 2) l (replace l (4 * p + (k - 2)) (at 0 values (16 * p + n) % 256))) ≡ takenBack (row 4 p l) (touchedOf k (at 0 values (16 * p + n)) ∷ [])
+        go : (k : ℕ) → at 0 kinds (16 * p + n) ≡ k
+            → row 4 p (if (ltb k 2) l (replace l (4 * p + (k - 2)) (at 0 values (16 * p + n) % 256)))
+            ≡ takenBack (row 4 p l) (touchedOf k (at 0 values (16 * p + n)) ∷ [])
         go zero e = refl
         go (suc zero) e = refl
         go (suc (suc k)) e =
@@ -113,7 +120,8 @@ next-version v c h g = omega arith
 
 -- so far, from entries e
 pub record SoFar (copies kinds values : List ℕ) (p : ℕ) (e : Entries) (n : ℕ) (g : Gathering) : Type 0 where
-  pub same : rowEntries p (g .count) (g .entries) ≡ gather (row 4 p copies) 0 (tabulate n (λ b. touchedOf (at 0 kinds (16 * p + b)) (at 0 values (16 * p + b))))
+  pub same : rowEntries p (g .count) (g .entries)
+      ≡ gather (row 4 p copies) 0 (tabulate n (λ b. touchedOf (at 0 kinds (16 * p + b)) (at 0 values (16 * p + b))))
   pub number : g .count ≡ count touched? (tabulate n (λ b. touchedOf (at 0 kinds (16 * p + b)) (at 0 values (16 * p + b))))
   pub frame : EntryFrame p e (g .entries)
   pub sizes : EntrySizes (g .entries)
@@ -126,7 +134,8 @@ module _ (copies kinds values : List ℕ) (p : ℕ) (e : Entries) (below : p < 8
   block b = touchedOf (at 0 kinds (16 * p + b)) (at 0 values (16 * p + b))
 
   -- one entry more, for a touched block
-  gathered-entry : (n : ℕ) (g : Gathering) → SoFar copies kinds values p e n g → (t : Touched) → block n ≡ t → touched? t ≡ true → g .count < 8 → (cell old new : ℕ)
+  gathered-entry : (n : ℕ) (g : Gathering) → SoFar copies kinds values p e n g → (t : Touched) → block n ≡ t → touched? t ≡ true → g .count < 8
+      → (cell old new : ℕ)
       → gather (row 4 p copies) n (t ∷ []) ≡ entry cell old new ∷ [] → SoFar copies kinds values p e (suc n) (gatheredEntry g p cell old new)
   gathered-entry n g f t b y room cell old new one =
       let more : nextOf (g .count) ≡ suc (g .count) = omega arith in
@@ -174,26 +183,37 @@ module _ (copies kinds values : List ℕ) (p : ℕ) (e : Entries) (below : p < 8
         sizes = f .sizes;
       }
 
-  gathered-one : (n : ℕ) (g : Gathering) → n < 16 → SoFar copies kinds values p e n g → (touched? (block n) ≡ true → g .count < 8) → SoFar copies kinds values p e (suc n) (gatheredOne copies kinds values p n g)
+  gathered-one : (n : ℕ) (g : Gathering) → n < 16 → SoFar copies kinds values p e n g → (touched? (block n) ≡ true → g .count < 8)
+      → SoFar copies kinds values p e (suc n) (gatheredOne copies kinds values p n g)
   unfolding gatheredOne gather
   gathered-one n g h f room = go (at 0 kinds (16 * p + n)) refl
     where
-      go : (k : ℕ) → at 0 kinds (16 * p + n) ≡ k → SoFar copies kinds values p e (suc n) (if (eqb k 0) g (gatheredEntry g p (32 + n) (at 0 values (16 * p + n)) (newBank copies p k (at 0 values (16 * p + n)))))
+      go : (k : ℕ) → at 0 kinds (16 * p + n) ≡ k
+          → SoFar copies kinds values p e (suc n)
+          (if (eqb k 0) g (gatheredEntry g p (32 + n) (at 0 values (16 * p + n)) (newBank copies p k (at 0 values (16 * p + n)))))
       go zero b = gathered-none n g f (ap (λ (k : ℕ). touchedOf k (at 0 values (16 * p + n))) b)
       go (suc zero) b =
-          gathered-entry n g f (remembered (at 0 values (16 * p + n))) (ap (λ (k : ℕ). touchedOf k (at 0 values (16 * p + n))) b) refl (room (ap (λ (k : ℕ). touched? (touchedOf k (at 0 values (16 * p + n)))) b)) _ _ _ refl
+          gathered-entry n g f (remembered (at 0 values (16 * p + n))) (ap (λ (k : ℕ). touchedOf k (at 0 values (16 * p + n))) b) refl
+          (room (ap (λ (k : ℕ). touched? (touchedOf k (at 0 values (16 * p + n)))) b)) _ _ _ refl
       go (suc (suc k)) b =
           let less : suc (suc k) - 2 ≡ k = omega arith in
           let c = slot n k h b in
-          rw (ne-eqb (suc (suc k)) 0 (λ z. omega arith), le-ltb (suc (suc k)) 2 (omega arith), less, next-version (at 0 values (16 * p + n) / 256) (at 0 copies (4 * p + k)) (version n k h b) (copy k c))
-          (gathered-entry n g f (copied (at 0 values (16 * p + n)) k) (ap (λ (k : ℕ). touchedOf k (at 0 values (16 * p + n))) b) refl (room (ap (λ (k : ℕ). touched? (touchedOf k (at 0 values (16 * p + n)))) b)) _ _ _
+          rw (
+            ne-eqb (suc (suc k)) 0 (λ z. omega arith),
+            le-ltb (suc (suc k)) 2 (omega arith),
+            less,
+            next-version (at 0 values (16 * p + n) / 256) (at 0 copies (4 * p + k)) (version n k h b) (copy k c),
+          )
+          (gathered-entry n g f (copied (at 0 values (16 * p + n)) k) (ap (λ (k : ℕ). touchedOf k (at 0 values (16 * p + n))) b) refl
+          (room (ap (λ (k : ℕ). touched? (touchedOf k (at 0 values (16 * p + n)))) b)) _ _ _
           (rw (at-row 0 4 p k copies c)))
 
   more-counted : (n d : ℕ) → count touched? (tabulate n block) ≤ count touched? (tabulate (d + n) block)
   more-counted n zero = let e : 0 + n ≡ n = omega arith in rw e (omega arith)
   more-counted n (suc d) =
       let e : suc d + n ≡ suc (d + n) = omega arith in
-      rw (e, tabulate-snoc (d + n) block, count-last touched? (tabulate (d + n) block) (block (d + n))) (rise (touched? (block (d + n))) _ _ (more-counted n d))
+      rw (e, tabulate-snoc (d + n) block, count-last touched? (tabulate (d + n) block) (block (d + n)))
+      (rise (touched? (block (d + n))) _ _ (more-counted n d))
     where
       rise : (b : Bool) (k m : ℕ) → k ≤ m → k ≤ countBy b m
       rise true k m h = omega arith
@@ -205,7 +225,8 @@ module _ (copies kinds values : List ℕ) (p : ℕ) (e : Entries) (below : p < 8
     room-left n h y =
         let all : (16 - suc n) + suc n ≡ 16 = omega arith in
         let up : count touched? (tabulate (suc n) block) ≤ count touched? (tabulate 16 block) = rw all at (more-counted (suc n) (16 - suc n)) in
-        let one : count touched? (tabulate (suc n) block) ≡ suc (count touched? (tabulate n block)) = ap (count touched?) (tabulate-snoc n block) ∙ count-last touched? (tabulate n block) (block n) ∙ ap (λ (b : Bool). countBy b (count touched? (tabulate n block))) y in
+        let one : count touched? (tabulate (suc n) block) ≡ suc (count touched? (tabulate n block)) = ap (count touched?) (tabulate-snoc n block)
+        ∙ count-last touched? (tabulate n block) (block n) ∙ ap (λ (b : Bool). countBy b (count touched? (tabulate n block))) y in
         omega arith
 
     gathered-to : (n : ℕ) → n ≤ 16 → SoFar copies kinds values p e n (gatheredTo copies kinds values p n (record { count = 0; entries = e }))

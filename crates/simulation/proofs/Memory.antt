@@ -54,7 +54,8 @@ rows-at n k p i l e h =
     ∙ none-at i
     ∙ sym (at-past 0 l (n * p + i) (omega (arith, mul-le-mul-left n m))))
 
-pub rows-written : (n k p i v : ℕ) (l : List ℕ) → i < n → rows n k (replace l (n * p + i) v) ≡ replace (rows n k l) p (replace (at [] (rows n k l) p) i v)
+pub rows-written : (n k p i v : ℕ) (l : List ℕ) → i < n
+    → rows n k (replace l (n * p + i) v) ≡ replace (rows n k l) p (replace (at [] (rows n k l) p) i v)
 rows-written n k p i v l h =
     rows-replace n k p i l v h
     ∙ below? p k

@@ -53,7 +53,8 @@ pub record Sizes (a : Arrays) : Type 0 where
 pub sizes : (a : Arrays) → Sized a → Sizes a
 unfolding at
 sizes a e =
-    let size : (n : ℕ) → at 0 (sizesOf a) n ≡ at 0 (48 ∷ 8 ∷ 64 ∷ 384 ∷ 64 ∷ 64 ∷ 32 ∷ 64 ∷ 64 ∷ 64 ∷ 64 ∷ 64 ∷ 128 ∷ 128 ∷ 32 ∷ []) n = λ n. ap (λ (l : List ℕ). at 0 l n) e in
+    let size : (n : ℕ) → at 0 (sizesOf a) n ≡ at 0 (48 ∷ 8 ∷ 64 ∷ 384 ∷ 64 ∷ 64 ∷ 32 ∷ 64 ∷ 64 ∷ 64 ∷ 64 ∷ 64 ∷ 128 ∷ 128 ∷ 32 ∷ []) n =
+    λ n. ap (λ (l : List ℕ). at 0 l n) e in
     record {
       cells = size 0;
       status = size 1;

@@ -67,7 +67,8 @@ module _ (sheet : List ℕ) (body : List C.BodyCommand) (a : Arrays) (p : ℕ) (
   t = outside sheet body a p j J.plain
 
   abbrev Goal : C.BodyCommand → Type 0
-  Goal c = Simulated sheet body a p (plainBy sheet a p (inPhase j Plain) (C.found (C.body c) next)) (M.plainTick p (sharedOf a) t (c ∷ bodyAt sheet next))
+  Goal c =
+      Simulated sheet body a p (plainBy sheet a p (inPhase j Plain) (C.found (C.body c) next)) (M.plainTick p (sharedOf a) t (c ∷ bodyAt sheet next))
 
   abbrev going : Job
   going = movedTo (inPhase j Plain) next
@@ -80,28 +81,43 @@ module _ (sheet : List ℕ) (body : List C.BodyCommand) (a : Arrays) (p : ℕ) (
     add-command : (r q : ℕ) → r < 8 → q < 8 → Goal (C.ADD r q)
     unfolding M.plainTick plainBy
     add-command r q h g =
-        subst (λ (l : List ℕ). Simulated sheet body a p (plainBy sheet a p (inPhase j Plain) (C.found (C.body (C.ADD r q)) next)) (J.turn (sharedOf a) (J.done t l (t .job .pairs) (t .copies)) J.nothingDone)) (added-row (a .registers) p r q h g)
-        (registers-done sheet body a p going J.plain s below few work (added (a .registers) p r q) (added-size (a .registers) p r q) (added-others (a .registers) p r q h) u)
+        subst
+        (λ (l : List ℕ). Simulated sheet body a p (plainBy sheet a p (inPhase j Plain) (C.found (C.body (C.ADD r q)) next))
+        (J.turn (sharedOf a) (J.done t l (t .job .pairs) (t .copies)) J.nothingDone))
+        (added-row (a .registers) p r q h g)
+        (registers-done sheet body a p going J.plain s below few work (added (a .registers) p r q) (added-size (a .registers) p r q)
+        (added-others (a .registers) p r q h) u)
 
     read-command : (r w : ℕ) → r < 8 → w < 48 → Goal (C.outside (C.READ r w))
     unfolding M.plainTick plainBy
     read-command r w h g =
-        subst (λ (o : W.Read). Simulated sheet body a p (plainBy sheet a p (inPhase j Plain) (C.found (C.body (C.outside (C.READ r w))) next)) (M.beginning (A.readOf w) (M.readBy (sharedOf a) t r w o)))
+        subst (λ (o : W.Read). Simulated sheet body a p (plainBy sheet a p (inPhase j Plain) (C.found (C.body (C.outside (C.READ r w))) next))
+        (M.beginning (A.readOf w) (M.readBy (sharedOf a) t r w o)))
         (sym (read-tick (a .cells) (a .status) (a .saves) (a .stores) w (omega (arith, s .cells)) (s .saves) Load))
-        (beginning-same sheet body a p going J.plain s below few work (read-by sheet body a p going J.plain s below few work r w h u (afterReading (a .cells) (a .status) (a .saves) w Load)))
+        (beginning-same sheet body a p going J.plain s below few work
+        (read-by sheet body a p going J.plain s below few work r w h u (afterReading (a .cells) (a .status) (a .saves) w Load)))
 
     swap-command : (r : ℕ) → r < 8 → j .pairs ≤ 8 → Goal (C.outside (C.SWAP r))
     unfolding M.plainTick plainBy X.exchangeTick afterExchange afterStart
     swap-command r h k =
         let x = afterExchange (a .cells) (a .status) (a .saves) (a .names) (a .olds) (a .news) (a .inits) (a .overlapped) p (j .pairs) 0 Start in
-        subst (λ (es : List X.Entry). Simulated sheet body a p (plainBy sheet a p (inPhase j Plain) (C.found (C.body (C.outside (C.SWAP r))) next)) (M.beginning (A.swapOf (map M.pairOf (t .job .pairs))) (M.swapBy t r (X.exchangeOf (t .job .pairs)) (X.exchangeTick p (sharedOf a) (X.exchangeOf es) X.start)))) u
-        (beginning-same sheet body a p going J.plain s below few work (swap-by sheet body a p going J.plain s below few work (X.exchangeOf (t .job .pairs)) r h x (exchange-frame (a .cells) (a .status) (a .saves) (a .names) (a .olds) (a .news) (a .inits) (a .overlapped) p (j .pairs) 0 k Start refl) (x .next)))
+        subst
+        (λ (es : List X.Entry). Simulated sheet body a p (plainBy sheet a p (inPhase j Plain) (C.found (C.body (C.outside (C.SWAP r))) next))
+        (M.beginning (A.swapOf (map M.pairOf (t .job .pairs)))
+        (M.swapBy t r (X.exchangeOf (t .job .pairs)) (X.exchangeTick p (sharedOf a) (X.exchangeOf es) X.start))))
+        u
+        (beginning-same sheet body a p going J.plain s below few work
+        (swap-by sheet body a p going J.plain s below few work (X.exchangeOf (t .job .pairs)) r h x
+        (exchange-frame (a .cells) (a .status) (a .saves) (a .names) (a .olds) (a .news) (a .inits) (a .overlapped) p (j .pairs) 0 k Start refl)
+        (x .next)))
 
     begin-command : Goal (C.outside C.BEGIN)
     unfolding M.plainTick plainBy
     begin-command =
         record {
-          same = rw (copied-row (a .kept) (a .registers) p below (s .kept) (s .registers), cleared-blocks (a .kinds) p below (s .kinds) (row 16 p (a .remembered)));
+          same =
+              rw
+              (copied-row (a .kept) (a .registers) p below (s .kept) (s .registers), cleared-blocks (a .kinds) p below (s .kinds) (row 16 p (a .remembered)));
           others = λ q d. rw (copied-others 8 (a .kept) (a .registers) p q (omega arith) d, cleared-others 16 (a .kinds) p q (omega arith) d);
           sizes = rw (copied-size 8 (a .kept) (a .registers) p, cleared-size 16 (a .kinds) p);
           shape = tt;
@@ -114,27 +130,55 @@ module _ (sheet : List ℕ) (body : List C.BodyCommand) (a : Arrays) (p : ℕ) (
         let old : ℕ = at 0 (a .registers) (8 * p + o) in
         let new : ℕ = at 0 (a .registers) (8 * p + n) in
         let e : Entries = entered (entriesOf a) p (j .pairs) w old new in
-        let z : EntrySizes (entriesOf a) = record { names = s .names; olds = s .olds; news = s .news; inits = s .inits; overlapped = s .overlapped } in
+        let z : EntrySizes (entriesOf a) =
+        record { names = s .names; olds = s .olds; news = s .news; inits = s .inits; overlapped = s .overlapped } in
         let more : nextOf (j .pairs) ≡ suc (j .pairs) = omega arith in
-        let pairs : t .job .pairs ++ (X.entry w old new ∷ []) ≡ rowPairs p (nextOf (j .pairs)) e = rw more (sym (entered-pairs (entriesOf a) p (j .pairs) w old new room z below)) in
-        let loaded : Unloaded (nextOf (j .pairs)) (withEntries (partsOf a p) e p) = rw more (entered-entries (entriesOf a) p (j .pairs) w old new room z below ∙ ap (λ (l : List X.Entry). l ++ (X.entry w old new ∷ [])) u ∙ sym (entered-pairs (entriesOf a) p (j .pairs) w old new room z below)) in
+        let pairs : t .job .pairs ++ (X.entry w old new ∷ []) ≡ rowPairs p (nextOf (j .pairs)) e =
+        rw more (sym (entered-pairs (entriesOf a) p (j .pairs) w old new room z below)) in
+        let loaded : Unloaded (nextOf (j .pairs)) (withEntries (partsOf a p) e p) = rw more
+        (entered-entries (entriesOf a) p (j .pairs) w old new room z below ∙ ap (λ (l : List X.Entry). l ++ (X.entry w old new ∷ [])) u
+        ∙ sym (entered-pairs (entriesOf a) p (j .pairs) w old new room z below)) in
         let frame = entered-frame (entriesOf a) p (j .pairs) w old new room in
         let after = entered-sizes (entriesOf a) p (j .pairs) w old new room z in
         record {
           same = rw (at-row 0 8 p o (a .registers) ho, at-row 0 8 p n (a .registers) hn, sym work)
               (ap (λ (ps : List X.Entry). leaves (sharedOf a) (J.doneBy (bodyAt sheet next) t (t .job .registers) ps (t .copies))) pairs
-              ∙ ap (leaves (sharedOf a)) (done-same sheet (a .counts) p next (nextOf (j .pairs)) (s .counts) below body _ _ _ _ _ (withEntries (partsOf a p) e p) few));
-          others = λ q d. rw (frame .names q d, frame .olds q d, frame .news q d, frame .inits q d, frame .overlapped q d, done-others sheet (a .counts) p next (nextOf (j .pairs)) (s .counts) below q d);
-          sizes = rw (after .names, after .olds, after .news, after .inits, after .overlapped, done-size sheet (a .counts) p next (nextOf (j .pairs)) (s .counts) below, s .names, s .olds, s .news, s .inits, s .overlapped);
+              ∙ ap (leaves (sharedOf a))
+              (done-same sheet (a .counts) p next (nextOf (j .pairs)) (s .counts) below body _ _ _ _ _ (withEntries (partsOf a p) e p) few));
+          others = λ q d. rw (
+            frame .names q d,
+            frame .olds q d,
+            frame .news q d,
+            frame .inits q d,
+            frame .overlapped q d,
+            done-others sheet (a .counts) p next (nextOf (j .pairs)) (s .counts) below q d,
+          );
+          sizes = rw (
+            after .names,
+            after .olds,
+            after .news,
+            after .inits,
+            after .overlapped,
+            done-size sheet (a .counts) p next (nextOf (j .pairs)) (s .counts) below,
+            s .names,
+            s .olds,
+            s .news,
+            s .inits,
+            s .overlapped,
+          );
           shape = done-shape sheet (a .counts) p next (nextOf (j .pairs)) (s .counts) below _ loaded;
         }
 
 -- THE COMMAND AT WORK
-pub plain-tick : (sheet : List ℕ) (body : List C.BodyCommand) (a : Arrays) (p : ℕ) (j : Job) → Sizes a → p < 8 → at 0 (row 4 p (a .counts)) 0 < 4294967295 → Unloaded (j .pairs) (partsOf a p)
-    → (words blocks : ℕ) (b : Body) → words ≤ 32 → j .pairs ≤ 8 → (length (b .pairs) < 8 → j .pairs < 8) → (f : C.Found) → C.commandAt sheet (j .at) ≡ f → FoundFits words blocks b f
-    → Simulated sheet body a p (plainBy sheet a p (inPhase j Plain) f) (M.plainTick p (sharedOf a) (outside sheet body a p j J.plain) (bodyBy sheet f))
+pub plain-tick : (sheet : List ℕ) (body : List C.BodyCommand) (a : Arrays) (p : ℕ) (j : Job) → Sizes a → p < 8
+    → at 0 (row 4 p (a .counts)) 0 < 4294967295 → Unloaded (j .pairs) (partsOf a p)
+    → (words blocks : ℕ) (b : Body) → words ≤ 32 → j .pairs ≤ 8 → (length (b .pairs) < 8 → j .pairs < 8) → (f : C.Found)
+    → C.commandAt sheet (j .at) ≡ f → FoundFits words blocks b f
+    → Simulated sheet body a p (plainBy sheet a p (inPhase j Plain) f)
+    (M.plainTick p (sharedOf a) (outside sheet body a p j J.plain) (bodyBy sheet f))
 unfolding M.plainTick plainBy
-plain-tick sheet body a p j s below few u words blocks b hw hp hr (C.refused r q) e f = record { same = refl; others = λ q d. refl; sizes = refl; shape = u }
+plain-tick sheet body a p j s below few u words blocks b hw hp hr (C.refused r q) e f =
+    record { same = refl; others = λ q d. refl; sizes = refl; shape = u }
 plain-tick sheet body a p j s below few u words blocks b hw hp hr (C.found c next) e f = go c e f
   where
     unchanged : {d : J.Deed} → Simulated sheet body a p (turn (inPhase j Plain) a) (J.turn (sharedOf a) (outside sheet body a p j J.plain) d)
@@ -152,7 +196,8 @@ plain-tick sheet body a p j s below few u words blocks b hw hp hr (C.found c nex
     outside-command C.BEGIN e f = begin-command sheet body a p j s below few u next (work _ e)
 
     go : (c : C.Command) → C.commandAt sheet (j .at) ≡ C.found c next → FoundFits words blocks b (C.found c next)
-        → Simulated sheet body a p (plainBy sheet a p (inPhase j Plain) (C.found c next)) (M.plainTick p (sharedOf a) (outside sheet body a p j J.plain) (bodyBy sheet (C.found c next)))
+        → Simulated sheet body a p (plainBy sheet a p (inPhase j Plain) (C.found c next))
+        (M.plainTick p (sharedOf a) (outside sheet body a p j J.plain) (bodyBy sheet (C.found c next)))
     go (C.WORD v) e f = unchanged
     go (C.BLOCK v) e f = unchanged
     go C.TASK e f = unchanged

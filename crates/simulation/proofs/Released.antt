@@ -58,7 +58,8 @@ module _ (registers : List ℕ) (p : ℕ) (below : p < 8) (size : length registe
 begun-mask : (m k b : ℕ) → k + 0 ≡ m + b → k < 256 → (m + b) % 4294967296 ≡ k
 begun-mask m k b e h = omega arith
 
-module _ (sheet bodies : List ℕ) (n : ℕ) (most : n ≤ 8) (w : World) (f : Sound sheet bodies n w) (few : w .dropped < 4294967295) (p next : ℕ) (below : p < n) where
+module _ (sheet bodies : List ℕ) (n : ℕ) (most : n ≤ 8) (w : World) (f : Sound sheet bodies n w) (few : w .dropped < 4294967295) (p next : ℕ)
+    (below : p < n) where
   -- by: the job is unfinished
   abbrev releasedIf : Bool → World
   releasedIf b =
@@ -87,9 +88,15 @@ module _ (sheet bodies : List ℕ) (n : ℕ) (most : n ≤ 8) (w : World) (f : S
       }
 
   job-starts : length (w .arrays .registers) ≡ 64
-      → taskOf sheet (bodyAt sheet (at 0 bodies p)) (jobAt Phase.Plain (at 0 bodies p) 0) (partsOf (withRegisters (w .arrays) (zeroed 8 (w .arrays .registers) p)) p) ≡ J.started (M.taskAt (tasksOf sheet bodies n (w .arrays) (w .jobs)) p)
+      → taskOf sheet (bodyAt sheet (at 0 bodies p)) (jobAt Phase.Plain (at 0 bodies p) 0)
+      (partsOf (withRegisters (w .arrays) (zeroed 8 (w .arrays .registers) p)) p)
+      ≡ J.started (M.taskAt (tasksOf sheet bodies n (w .arrays) (w .jobs)) p)
   job-starts z =
-      rw (task-at sheet bodies n most (w .arrays) (w .jobs) p below, zeroed-row (w .arrays .registers) p (omega arith) z, no-pairs (row 8 p (w .arrays .names)) (row 8 p (w .arrays .olds)) (row 8 p (w .arrays .news)))
+      rw (
+        task-at sheet bodies n most (w .arrays) (w .jobs) p below,
+        zeroed-row (w .arrays .registers) p (omega arith) z,
+        no-pairs (row 8 p (w .arrays .names)) (row 8 p (w .arrays .olds)) (row 8 p (w .arrays .news)),
+      )
 
   started-release : busy (w .jobs) p ≡ false → ReleasedFits false (releasedIf false)
   unfolding M.releaseBy
@@ -97,14 +104,17 @@ module _ (sheet bodies : List ℕ) (n : ℕ) (most : n ≤ 8) (w : World) (f : S
       let z = sizes (w .arrays) (f .sized) in
       let j : Job = jobAt Phase.Plain (at 0 bodies p) 0 in
       let here : p < length (w .jobs) = omega (arith, f .jobs) in
-      let others : (q : ℕ) → q ≢ p → partsOf (withRegisters (w .arrays) (zeroed 8 (w .arrays .registers) p)) q ≡ partsOf (w .arrays) q = λ q d. rw (zeroed-others 8 (w .arrays .registers) p q (omega arith) d) in
-      let mask : maskOf 8 (set (w .jobs) p j) + bitOf (busy (w .jobs) p) (2 ^ p) ≡ maskOf 8 (w .jobs) + 2 ^ p = mask-set (w .jobs) p j here 8 (omega arith) in
+      let others : (q : ℕ) → q ≢ p → partsOf (withRegisters (w .arrays) (zeroed 8 (w .arrays .registers) p)) q ≡ partsOf (w .arrays) q =
+      λ q d. rw (zeroed-others 8 (w .arrays .registers) p q (omega arith) d) in
+      let mask : maskOf 8 (set (w .jobs) p j) + bitOf (busy (w .jobs) p) (2 ^ p) ≡ maskOf 8 (w .jobs) + 2 ^ p =
+      mask-set (w .jobs) p j here 8 (omega arith) in
       let sum : maskOf 8 (set (w .jobs) p j) + 0 ≡ maskOf 8 (w .jobs) + 2 ^ p = rw e at mask in
       let small = mask-below 8 (set (w .jobs) p j) in
       let again : getD (set (w .jobs) p j) p noJob ≡ j = getD-set-same (w .jobs) p j noJob here in
       record {
         same = ap (λ (ts : List J.Task). M.machine (sharedOf (w .arrays)) ts (releasesFrom sheet next) (w .ticks) (w .dropped))
-            (tasks-changed sheet bodies n most (w .arrays) (withRegisters (w .arrays) (zeroed 8 (w .arrays .registers) p)) (w .jobs) p j below (f .jobs) others
+            (tasks-changed sheet bodies n most (w .arrays) (withRegisters (w .arrays) (zeroed 8 (w .arrays .registers) p)) (w .jobs) p j below
+            (f .jobs) others
             ∙ ap (replace (tasksOf sheet bodies n (w .arrays) (w .jobs)) p) (job-starts (z .registers)));
         sound = record {
           sized = rw (zeroed-size 8 (w .arrays .registers) p) (f .sized);
@@ -122,6 +132,7 @@ module _ (sheet bodies : List ℕ) (n : ℕ) (most : n ≤ 8) (w : World) (f : S
   released-if true e = dropped-release e
   released-if false e = started-release e
 
-  pub released-fits : (task : ℕ) → task % 8 ≡ p → ReleasedFits (M.unfinished (M.taskAt (machineOf sheet bodies n w .tasks) p .job .phase)) (released bodies w task next)
+  pub released-fits : (task : ℕ) → task % 8 ≡ p
+      → ReleasedFits (M.unfinished (M.taskAt (machineOf sheet bodies n w .tasks) p .job .phase)) (released bodies w task next)
   unfolding released
   released-fits task e = rw (e, task-busy sheet bodies n most (w .arrays) (w .jobs) p below) (released-if (busy (w .jobs) p) refl)

@@ -56,7 +56,8 @@ module _ (sheet : List ℕ) (place : ℕ) where
   ComingAt tick Later = LaterAt tick
   ComingAt tick (Due task next) = DueAt tick task next
 
-  none-found : (c : Command) (next : ℕ) → commandAt sheet place ≡ found c next → leading (c ∷ commandsFrom (length sheet) sheet next) ≡ [] → releasesFrom sheet place ≡ []
+  none-found : (c : Command) (next : ℕ) → commandAt sheet place ≡ found c next → leading (c ∷ commandsFrom (length sheet) sheet next) ≡ []
+      → releasesFrom sheet place ≡ []
   unfolding listed
   none-found c next e q = releases-at ∙ ap (λ (f : Found). leading (listed (commandsFrom (length sheet) sheet) f)) e ∙ q
 
@@ -67,7 +68,8 @@ module _ (sheet : List ℕ) (place : ℕ) where
   pub coming-at : (tick : ℕ) → ComingAt tick (comingBy (pendingAt (commandAt sheet place)) tick)
   coming-at tick = go (commandAt sheet place) refl
     where
-      due : (r : Release) (next : ℕ) → commandAt sheet place ≡ found (RELEASE r) next → (b : Bool) → eqb (r .tick) tick ≡ b → ComingAt tick (dueBy b (r .task) next)
+      due : (r : Release) (next : ℕ) → commandAt sheet place ≡ found (RELEASE r) next → (b : Bool) → eqb (r .tick) tick ≡ b
+          → ComingAt tick (dueBy b (r .task) next)
       due r next e true q = record { release = r; releases = release-found r next e; now = eqb-true _ _ q; to = refl }
       due r next e false q = record { release = r; others = releasesFrom sheet next; releases = release-found r next e; later = q }
 

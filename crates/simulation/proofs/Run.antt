@@ -32,7 +32,11 @@ use Rattle.simulation.proofs.Ticked.{ticked-fits}
 -- A RELEASE keeps a machine well formed and in range
 others-fit : (n now : ℕ) (r : Release) (l : List Release) → ReleasesFit n now (r ∷ l) → ReleasesFit n now l
 unfolding at
-others-fit n now r l f = record { task = λ i h. f .task (suc i) (omega arith); rising = λ i j l h. f .rising (suc i) (suc j) (omega arith) (omega arith); later = λ i h. f .later (suc i) (omega arith) }
+others-fit n now r l f = record {
+  task = λ i h. f .task (suc i) (omega arith);
+  rising = λ i j l h. f .rising (suc i) (suc j) (omega arith) (omega arith);
+  later = λ i h. f .later (suc i) (omega arith);
+}
 
 module _ (s : Sheet) (c : SheetFit s) (m : M.Machine) (fit : Fit s m) (r : Release) (l : List Release) (e : m .releases ≡ r ∷ l) where
   all-releases : ReleasesFit (length (s .bodies)) (m .now) (r ∷ l)
@@ -48,15 +52,31 @@ module _ (s : Sheet) (c : SheetFit s) (m : M.Machine) (fit : Fit s m) (r : Relea
   release-fit : (b : Bool) → Fit s (M.toCome (M.releaseBy b (r .task) m) l)
   unfolding M.releaseBy
   release-fit true =
-      record { memory = fit .memory; tasks = fit .tasks; task = fit .task; undeclared = fit .undeclared; releases = others-fit _ _ r l all-releases; dropped = omega (arith, fewer) }
+      record {
+        memory = fit .memory;
+        tasks = fit .tasks;
+        task = fit .task;
+        undeclared = fit .undeclared;
+        releases = others-fit _ _ r l all-releases;
+        dropped = omega (arith, fewer);
+      }
   release-fit false =
-      let ts = changed-fit c (tasks-of fit) (fit .task) (r .task) first-task (started-fit (c .body (r .task) first-task) (fit .task (r .task) first-task)) in
-      record { memory = fit .memory; tasks = ts .size; task = ts .task; undeclared = ts .undeclared; releases = others-fit _ _ r l all-releases; dropped = omega (arith, fewer) }
+      let ts =
+      changed-fit c (tasks-of fit) (fit .task) (r .task) first-task (started-fit (c .body (r .task) first-task) (fit .task (r .task) first-task)) in
+      record {
+        memory = fit .memory;
+        tasks = ts .size;
+        task = ts .task;
+        undeclared = ts .undeclared;
+        releases = others-fit _ _ r l all-releases;
+        dropped = omega (arith, fewer);
+      }
 
   release-range : Ranges m → (b : Bool) → Ranges (M.toCome (M.releaseBy b (r .task) m) l)
   unfolding M.releaseBy at
   release-range k true = record { memory = k .memory; task = k .task }
-  release-range k false = record { memory = k .memory; task = replace-all M.noTask TaskRange (m .tasks) (r .task) _ (started-range (k .task (r .task))) (k .task) }
+  release-range k false =
+      record { memory = k .memory; task = replace-all M.noTask TaskRange (m .tasks) (r .task) _ (started-range (k .task (r .task))) (k .task) }
     where
       started-range : {t : J.Task} → TaskRange t → TaskRange (J.started t)
       started-range f =
@@ -64,7 +84,8 @@ module _ (s : Sheet) (c : SheetFit s) (m : M.Machine) (fit : Fit s m) (r : Relea
             body = f .body;
             commands = f .body;
             register = zeros-range 8;
-            pair = λ i. record { old = omega arith; new = omega arith; init = record { value = omega arith; count = omega arith; task = omega arith } };
+            pair =
+                λ i. record { old = omega arith; new = omega arith; init = record { value = omega arith; count = omega arith; task = omega arith } };
             copy = f .copy;
             phase = tt;
           }
@@ -80,14 +101,19 @@ unfolding M.arrive
 arrive-any [] m rs = refl
 arrive-any (r ∷ l) m rs = go (eqb (r .tick) (m .now)) (arrive-any l)
   where
-    go : (b : Bool) → ((m : M.Machine) (rs : List Release) → M.arrive l (M.toCome m rs) ≡ M.arrive l m) → M.arriveBy b (M.arrive l) r l (M.toCome m rs) ≡ M.arriveBy b (M.arrive l) r l m
-    go true on = ap (M.arrive l) (release-any (r .task) m rs (M.unfinished (M.taskAt (m .tasks) (r .task) .job .phase))) ∙ on (M.releaseBy (M.unfinished (M.taskAt (m .tasks) (r .task) .job .phase)) (r .task) m) rs
+    go : (b : Bool) → ((m : M.Machine) (rs : List Release) → M.arrive l (M.toCome m rs) ≡ M.arrive l m)
+        → M.arriveBy b (M.arrive l) r l (M.toCome m rs) ≡ M.arriveBy b (M.arrive l) r l m
+    go true on =
+        ap (M.arrive l) (release-any (r .task) m rs (M.unfinished (M.taskAt (m .tasks) (r .task) .job .phase)))
+        ∙ on (M.releaseBy (M.unfinished (M.taskAt (m .tasks) (r .task) .job .phase)) (r .task) m) rs
     go false on = refl
 
 -- a release that is due has arrived
-due-arrives : (r : Release) (l : List Release) (m : M.Machine) → r .tick ≡ m .now → M.arrive (r ∷ l) m ≡ M.arrive l (M.toCome (M.releaseBy (M.unfinished (M.taskAt (m .tasks) (r .task) .job .phase)) (r .task) m) l)
+due-arrives : (r : Release) (l : List Release) (m : M.Machine) → r .tick ≡ m .now
+    → M.arrive (r ∷ l) m ≡ M.arrive l (M.toCome (M.releaseBy (M.unfinished (M.taskAt (m .tasks) (r .task) .job .phase)) (r .task) m) l)
 unfolding M.arrive M.arriveBy
-due-arrives r l m e = rw (eq-eqb (r .tick) (m .now) e) (sym (arrive-any l (M.releaseBy (M.unfinished (M.taskAt (m .tasks) (r .task) .job .phase)) (r .task) m) l))
+due-arrives r l m e =
+    rw (eq-eqb (r .tick) (m .now) e) (sym (arrive-any l (M.releaseBy (M.unfinished (M.taskAt (m .tasks) (r .task) .job .phase)) (r .task) m) l))
 
 none-arrives : (m : M.Machine) → m .releases ≡ [] → M.arrive (m .releases) m ≡ m
 unfolding M.arrive
@@ -122,7 +148,9 @@ module _ (sheet bodies : List ℕ) (s : Sheet) (c : SheetFit s) where
       where
         go : Top 8 (w .jobs) (w .mask) → M.nobody? (M.runningOf (viewed w)) ≡ false
         go (none z f) = absurd (d z)
-        go (some l h) = ap M.nobody? (top-runs sheet bodies (length (s .bodies)) (c .bodies) (viewed w) (w .arrays) (w .jobs) refl (g .idle) (topOf 8 (w .mask)) h)
+        go (some l h) =
+            ap M.nobody?
+            (top-runs sheet bodies (length (s .bodies)) (c .bodies) (viewed w) (w .arrays) (w .jobs) refl (g .idle) (topOf 8 (w .mask)) h)
 
     nobody : w .mask ≡ 0 → M.nobody? (M.runningOf (viewed w)) ≡ true
     nobody e = go (subst (Top 8 (w .jobs)) (sym (g .mask)) (top (w .jobs) 8))
@@ -187,15 +215,19 @@ module _ (sheet bodies : List ℕ) (s : Sheet) (c : SheetFit s) where
         let f = released-fits sheet bodies (length (s .bodies)) (c .bodies) w g few (r .task) next h task eight in
         let b = M.unfinished (M.taskAt (viewed w .tasks) (r .task) .job .phase) in
         let v = released bodies w task next in
-        let ticked-same : M.tick (viewed v) ≡ M.tick (viewed w) = ap M.tick (f .same) ∙ ap M.moveAny (sym (due-arrives r l (viewed w) (d .now)) ∙ ap (λ (z : List Release). M.arrive z (viewed w)) (sym (d .releases))) in
+        let ticked-same : M.tick (viewed v) ≡ M.tick (viewed w) = ap M.tick (f .same)
+        ∙ ap M.moveAny (sym (due-arrives r l (viewed w) (d .now)) ∙ ap (λ (z : List Release). M.arrive z (viewed w)) (sym (d .releases))) in
         record {
           sound = f .sound;
           fit = subst (Fit s) (sym (f .same)) (release-fit s c (viewed w) fit r l (d .releases) b);
           range = subst Ranges (sym (f .same)) (release-range s c (viewed w) fit r l (d .releases) range b);
-          same = run-on k (viewed v) (busy-on v (f .sound) (mask-some v (f .sound) (r .task) h (f .unfinished))) ∙ ap (M.run k) ticked-same ∙ sym (run-on k (viewed w) (release-on w g r l (d .releases)));
+          same =
+              run-on k (viewed v) (busy-on v (f .sound) (mask-some v (f .sound) (r .task) h (f .unfinished))) ∙ ap (M.run k) ticked-same
+              ∙ sym (run-on k (viewed w) (release-on w g r l (d .releases)));
         }
 
-    tick-step : w .ticks < 4294967295 → ((task next : ℕ) → comingIn sheet w ≡ Due task next → ⊥) → stopsBy (comingIn sheet w) (w .mask) ≡ false → Onward k (suc k) w (ticked sheet w)
+    tick-step : w .ticks < 4294967295 → ((task next : ℕ) → comingIn sheet w ≡ Due task next → ⊥) → stopsBy (comingIn sheet w) (w .mask) ≡ false
+        → Onward k (suc k) w (ticked sheet w)
     unfolding M.tick M.enter
     tick-step few due stops =
         let f = ticked-fits sheet bodies s c w g fit range few in
@@ -222,10 +254,12 @@ module _ (sheet bodies : List ℕ) (s : Sheet) (c : SheetFit s) where
     pub same : machineOf sheet bodies (length (s .bodies)) u ≡ M.run (limit - w .ticks) (machineOf sheet bodies (length (s .bodies)) w)
     pub sound : Sound sheet bodies (length (s .bodies)) u
 
-  pub run-fits : (limit : ℕ) → limit < 4294967296 → (w u : World) → Ends sheet bodies limit w u → Sound sheet bodies (length (s .bodies)) w → Fit s (machineOf sheet bodies (length (s .bodies)) w)
+  pub run-fits : (limit : ℕ) → limit < 4294967296 → (w u : World) → Ends sheet bodies limit w u → Sound sheet bodies (length (s .bodies)) w
+      → Fit s (machineOf sheet bodies (length (s .bodies)) w)
       → Ranges (machineOf sheet bodies (length (s .bodies)) w) → RunFits limit w u
   unfolding released
-  run-fits limit small w u (limited l) g fit range = let z : limit - w .ticks ≡ 0 = omega arith in record { same = rw z (sym (run-none (viewed w))); sound = g }
+  run-fits limit small w u (limited l) g fit range =
+      let z : limit - w .ticks ≡ 0 = omega arith in record { same = rw z (sym (run-none (viewed w))); sound = g }
   run-fits limit small w u (stopped e) g fit range =
       record { same = sym (run-over (limit - w .ticks) (viewed w) (over-by w g (comingIn sheet w) (coming-at sheet (w .place) (w .ticks)) e)); sound = g }
   run-fits limit small w u (releases task next l e rest) g fit range =

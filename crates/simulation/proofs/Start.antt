@@ -56,7 +56,8 @@ no-job : (p : ℕ) → getD (replicate 8 noJob) p noJob ≡ noJob
 unfolding at
 no-job p = below? p 8 (λ l. at-replicate noJob noJob 8 p l) (λ l. at-past noJob (replicate 8 noJob) p l)
 
-module _ (sheet bodies : List ℕ) (place : ℕ) (s : Sheet) (c : SheetFit s) (cells stores copies : List ℕ) (f : Starts sheet bodies place s cells stores copies) where
+module _ (sheet bodies : List ℕ) (place : ℕ) (s : Sheet) (c : SheetFit s) (cells stores copies : List ℕ)
+    (f : Starts sheet bodies place s cells stores copies) where
   abbrev a : Arrays
   a = startArrays cells stores copies
 
@@ -67,15 +68,29 @@ module _ (sheet bodies : List ℕ) (place : ℕ) (s : Sheet) (c : SheetFit s) (c
   unfolding M.startMemory rows
   start-memory = rw (f .cellsStart, f .storesStart)
 
-  declared-start : (p : ℕ) → p < length (s .bodies) → M.taskAt (tasksOf sheet bodies (length (s .bodies)) a js) p ≡ M.taskAt (M.startMachine s .tasks) p
-  declared-start p h = task-at sheet bodies (length (s .bodies)) (c .bodies) a js p h ∙ ap (λ (j : Job). taskOf sheet (bodyAt sheet (at 0 bodies p)) j (partsOf a p)) (no-job p) ∙ idle-start ∙ sym (start-task s p h)
+  declared-start : (p : ℕ) → p < length (s .bodies)
+      → M.taskAt (tasksOf sheet bodies (length (s .bodies)) a js) p ≡ M.taskAt (M.startMachine s .tasks) p
+  declared-start p h =
+      task-at sheet bodies (length (s .bodies)) (c .bodies) a js p h
+      ∙ ap (λ (j : Job). taskOf sheet (bodyAt sheet (at 0 bodies p)) j (partsOf a p)) (no-job p) ∙ idle-start ∙ sym (start-task s p h)
     where
       idle-start : taskOf sheet (bodyAt sheet (at 0 bodies p)) noJob (partsOf a p) ≡ startTask (at [] (s .bodies) p) p
       idle-start =
           let below : p < 8 = omega (arith, c .bodies) in
-          rw (f .body p h, zero-row 8 p 64 (omega arith), zero-row 4 p 32 (omega arith), f .copiesStart p below, no-pairs (zeros 8) (zeros 8) (zeros 8), nothing-counted 0 (omega arith), nothing-counted 1 (omega arith), nothing-counted 2 (omega arith), nothing-counted 3 (omega arith))
+          rw (
+            f .body p h,
+            zero-row 8 p 64 (omega arith),
+            zero-row 4 p 32 (omega arith),
+            f .copiesStart p below,
+            no-pairs (zeros 8) (zeros 8) (zeros 8),
+            nothing-counted 0 (omega arith),
+            nothing-counted 1 (omega arith),
+            nothing-counted 2 (omega arith),
+            nothing-counted 3 (omega arith),
+          )
 
-  undeclared-start : (p : ℕ) → p < 8 → length (s .bodies) ≤ p → M.taskAt (tasksOf sheet bodies (length (s .bodies)) a js) p ≡ M.taskAt (M.startMachine s .tasks) p
+  undeclared-start : (p : ℕ) → p < 8 → length (s .bodies) ≤ p
+      → M.taskAt (tasksOf sheet bodies (length (s .bodies)) a js) p ≡ M.taskAt (M.startMachine s .tasks) p
   undeclared-start p l h =
       any-task sheet bodies (length (s .bodies)) (c .bodies) a js p l
       ∙ ap (λ (b : Bool). declaredBy b (taskIn sheet bodies (length (s .bodies)) a js p)) (le-ltb p (length (s .bodies)) h)

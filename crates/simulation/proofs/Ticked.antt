@@ -29,7 +29,8 @@ use Rattle.jobs.specs.declared.Inner.{Inner}
 use Rattle.jobs.specs.declared.Inner.the-variants as Inner
 use Rattle.jobs.specs.declared.Job.{Job}
 use Rattle.simulation.proofs.View.{Parts, transactionOf, innerOf, phaseOf, waitingOf, taskOf, withCounts as partsWith}
-use Rattle.simulation.proofs.Parts.{sizes, partsOf, sharedOf, Leaves, codeLeaves, JobShape, Simulated, counted-same, counted-other, counted-size, counted-others}
+use Rattle.simulation.proofs.Parts.{sizes, partsOf, sharedOf, Leaves, codeLeaves, JobShape, Simulated}
+use Rattle.simulation.proofs.Parts.{counted-same, counted-other, counted-size, counted-others}
 use Rattle.simulation.proofs.Releases.{releasesFrom}
 use Rattle.simulation.proofs.Statements.{statement-tick}
 use Rattle.simulation.proofs.Unfinished.{busy, bitOf, mask-set, TopTask, Top, none, some, top}
@@ -69,7 +70,8 @@ waiting-counts j x c (Phase.Transaction s) = refl
 ticked-task : (sheet : List ℕ) (body : List BodyCommand) (j : Job) (x : Parts) (c : List ℕ)
     → at 0 c 0 ≡ at 0 (x .counts) 0 → at 0 c 1 ≡ at 0 (x .counts) 1 → at 0 c 2 ≡ at 0 (x .counts) 2 → at 0 c 3 ≡ suc (at 0 (x .counts) 3)
     → taskOf sheet body j (partsWith x c) ≡ J.counting J.ticks (taskOf sheet body j x)
-ticked-task sheet body j x c finished spent rejected more = rw (phase-counts sheet j x c (j .phase), waiting-counts j x c (j .phase), finished, spent, rejected, more)
+ticked-task sheet body j x c finished spent rejected more =
+    rw (phase-counts sheet j x c (j .phase), waiting-counts j x c (j .phase), finished, spent, rejected, more)
 
 -- the mask without a task that has finished
 left-mask : (b : Bool) (m k p : ℕ) → k + 2 ^ p ≡ m + bitOf b (2 ^ p) → leftBy true b m p ≡ k
@@ -136,7 +138,8 @@ module _ (sheet bodies : List ℕ) (s : Sheet) (c : SheetFit s) (w : World) (g :
 
     simulated : Simulated sheet body (w .arrays) p u v
     simulated =
-        statement-tick sheet body (w .arrays) p j (sizes (w .arrays) (g .sized)) (h .below) small (length (s .words)) (length (s .blocks)) (c .words) (c .blocks) (j .phase) (task-fit .phase) (task-range .phase) (task-range .copy) (g .shape p declared)
+        statement-tick sheet body (w .arrays) p j (sizes (w .arrays) (g .sized)) (h .below) small (length (s .words)) (length (s .blocks)) (c .words)
+        (c .blocks) (j .phase) (task-fit .phase) (task-range .phase) (task-range .copy) (g .shape p declared)
 
     abbrev after : Arrays
     after = withCounts (u .arrays) (counted (u .arrays .counts) p 3)
@@ -156,7 +159,8 @@ module _ (sheet bodies : List ℕ) (s : Sheet) (c : SheetFit s) (w : World) (g :
         (counted-same (u .arrays .counts) p 3 size (h .below) (omega arith) few)
 
     others : (q : ℕ) → q ≢ p → partsOf after q ≡ partsOf (w .arrays) q
-    others q d = ap (partsWith (partsOf (u .arrays) q)) (counted-others (u .arrays .counts) p 3 size (h .below) (omega arith) q d) ∙ simulated .others q d
+    others q d =
+        ap (partsWith (partsOf (u .arrays) q)) (counted-others (u .arrays .counts) p 3 size (h .below) (omega arith) q d) ∙ simulated .others q d
 
     abbrev afterLeaves : Leaves → M.Machine
     afterLeaves z = M.afterTurn m p (J.turn (z .memory) (z .task) J.nothingDone)
@@ -165,7 +169,8 @@ module _ (sheet bodies : List ℕ) (s : Sheet) (c : SheetFit s) (w : World) (g :
     unfolding M.moveAny M.move
     moved =
         let running : M.runningOf m ≡ M.running p = top-runs sheet bodies n (c .bodies) m (w .arrays) (w .jobs) refl (g .idle) p h in
-        ap (M.move m) running ∙ ap (λ (z : J.Task). M.afterTurn m p (M.statement p (m .memory) z (z .job .phase))) t-at ∙ ap afterLeaves (simulated .same)
+        ap (M.move m) running ∙ ap (λ (z : J.Task). M.afterTurn m p (M.statement p (m .memory) z (z .job .phase))) t-at
+        ∙ ap afterLeaves (simulated .same)
 
     abbrev next : World
     next = world after (set (w .jobs) p (u .job)) (leftBy true (unfinishedJob (u .job .phase)) (w .mask) p) (w .place) (w .ticks + 1) (w .dropped)
@@ -179,17 +184,26 @@ module _ (sheet bodies : List ℕ) (s : Sheet) (c : SheetFit s) (w : World) (g :
         let mask = mask-set (w .jobs) p (u .job) here 8 (h .below) in
         let again : getD (set (w .jobs) p (u .job)) p noJob ≡ u .job = getD-set-same (w .jobs) p (u .job) noJob here in
         record {
-          same = ap (λ (k : ℕ). M.machine (sharedOf (u .arrays)) (tasksOf sheet bodies n after (set (w .jobs) p (u .job))) (releasesFrom sheet (w .place)) k (w .dropped)) more
+          same =
+              ap
+              (λ (k : ℕ). M.machine (sharedOf (u .arrays)) (tasksOf sheet bodies n after (set (w .jobs) p (u .job))) (releasesFrom sheet (w .place)) k
+              (w .dropped))
+              more
               ∙ ap (λ (ts : List J.Task). M.machine (sharedOf (u .arrays)) ts (releasesFrom sheet (w .place)) (suc (w .ticks)) (w .dropped))
-              (tasks-changed sheet bodies n (c .bodies) (w .arrays) after (w .jobs) p (u .job) declared (g .jobs) others ∙ ap (replace (m .tasks) p) counted-ticks)
+              (tasks-changed sheet bodies n (c .bodies) (w .arrays) after (w .jobs) p (u .job) declared (g .jobs) others
+              ∙ ap (replace (m .tasks) p) counted-ticks)
               ∙ sym moved;
           sound = record {
             sized = rw (counted-size (u .arrays .counts) p 3 size (h .below) (omega arith)) (simulated .sizes ∙ g .sized);
             jobs = length-set (w .jobs) p (u .job) ∙ g .jobs;
             shape = λ q l. same? q p
-                (λ e. rw (e, again) (shape-counts sheet (u .job) (partsOf (u .arrays) p) (row 4 p (counted (u .arrays .counts) p 3)) (u .job .phase) (simulated .shape)))
-                (λ d. subst (λ (x : Parts). JobShape sheet (getD (set (w .jobs) p (u .job)) q noJob) x (getD (set (w .jobs) p (u .job)) q noJob .phase)) (sym (others q d)) (rw (getD-set-other (w .jobs) p q (u .job) noJob d) (g .shape q l)));
-            idle = λ q l. ap (λ (x : Job). unfinishedJob (x .phase)) (getD-set-other (w .jobs) p q (u .job) noJob (λ e. omega (arith, declared))) ∙ g .idle q l;
+                (λ e. rw (e, again)
+                (shape-counts sheet (u .job) (partsOf (u .arrays) p) (row 4 p (counted (u .arrays .counts) p 3)) (u .job .phase) (simulated .shape)))
+                (λ d. subst
+                (λ (x : Parts). JobShape sheet (getD (set (w .jobs) p (u .job)) q noJob) x (getD (set (w .jobs) p (u .job)) q noJob .phase))
+                (sym (others q d)) (rw (getD-set-other (w .jobs) p q (u .job) noJob d) (g .shape q l)));
+            idle = λ q l.
+                ap (λ (x : Job). unfinishedJob (x .phase)) (getD-set-other (w .jobs) p q (u .job) noJob (λ e. omega (arith, declared))) ∙ g .idle q l;
             mask = rw (g .mask) (left-mask (unfinishedJob (u .job .phase)) _ _ p (rw (h .unfinished) at mask));
           };
         }

@@ -54,7 +54,8 @@ module _ (js : List Job) where
       go (none e f) = none e (λ q l. same? q k (λ s. rw s b) (λ d. f q (omega arith)))
       go (some l f) =
           let z : maskOf k js / 2 ^ k ≡ 0 = div-eq-of-lt h in
-          some l (rw z (record { below = omega (arith, f .below); unfinished = f .unfinished; above = λ q g i. same? q k (λ s. rw s b) (λ d. f .above q g (omega arith)) }))
+          some l (rw z
+          (record { below = omega (arith, f .below); unfinished = f .unfinished; above = λ q g i. same? q k (λ s. rw s b) (λ d. f .above q g (omega arith)) }))
 
   top-here : (k : ℕ) → busy js k ≡ true → maskOf k js < 2 ^ k → Top (suc k) js (maskOf k js + 2 ^ k)
   unfolding topOf

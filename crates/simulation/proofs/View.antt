@@ -69,7 +69,8 @@ withLoaded x l v = parts (x .registers) (x .copies) (x .counts) (x .kept) (x .na
 
 abbrev pub withEntries : Parts → Entries → ℕ → Parts
 withEntries x e p =
-    parts (x .registers) (x .copies) (x .counts) (x .kept) (row 8 p (e .names)) (row 8 p (e .olds)) (row 8 p (e .news)) (row 8 p (e .inits)) (row 8 p (e .overlapped)) (x .kinds) (x .remembered)
+    parts (x .registers) (x .copies) (x .counts) (x .kept) (row 8 p (e .names)) (row 8 p (e .olds)) (row 8 p (e .news)) (row 8 p (e .inits))
+    (row 8 p (e .overlapped)) (x .kinds) (x .remembered)
 
 -- entry e of an exchange, and as a PAIR that waits
 abbrev pub entryOf : List ℕ → List ℕ → List ℕ → List ℕ → List ℕ → ℕ → X.Entry

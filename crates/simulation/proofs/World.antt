@@ -81,12 +81,15 @@ module _ (sheet bodies : List ℕ) (n : ℕ) where
     unfinished-view j x (Phase.Transaction s) = refl
 
     pub task-busy : (a : Arrays) (js : List Job) (p : ℕ) → p < n → working (tasksOf a js) p ≡ busy js p
-    task-busy a js p h = ap (λ (t : J.Task). M.unfinished (t .job .phase)) (task-at a js p h) ∙ unfinished-view (getD js p noJob) (partsOf a p) (getD js p noJob .phase)
+    task-busy a js p h =
+        ap (λ (t : J.Task). M.unfinished (t .job .phase)) (task-at a js p h)
+        ∙ unfinished-view (getD js p noJob) (partsOf a p) (getD js p noJob .phase)
 
     working-view : (a : Arrays) (js : List Job) → ((p : ℕ) → n ≤ p → busy js p ≡ false) → (q : ℕ) → q < 8 → working (tasksOf a js) q ≡ busy js q
     working-view a js idle q h =
         below? q n (λ l. task-busy a js q l)
-        (λ l. ap (λ (t : J.Task). M.unfinished (t .job .phase)) (any-task a js q h ∙ ap (λ (b : Bool). declaredBy b (taskIn a js q)) (le-ltb q n l)) ∙ sym (idle q l))
+        (λ l. ap (λ (t : J.Task). M.unfinished (t .job .phase)) (any-task a js q h ∙ ap (λ (b : Bool). declaredBy b (taskIn a js q)) (le-ltb q n l))
+        ∙ sym (idle q l))
 
     working-past : (a : Arrays) (js : List Job) (q : ℕ) → 8 ≤ q → working (tasksOf a js) q ≡ false
     working-past a js q h = ap (λ (t : J.Task). M.unfinished (t .job .phase)) (at-past M.noTask (tasksOf a js) q (omega (arith, tasks-size a js)))

@@ -30,7 +30,8 @@ pub record Filled {A : Type 0} (size : ℕ) (view : ℕ → A) (f : ℕ → A) (
   pub length : lib.ListN.length l ≡ size
   pub each : (i : ℕ) → i < n → view (at 0 l i) ≡ f i
 
-pub filled-next : {A : Type 0} {size : ℕ} {view : ℕ → A} {f : ℕ → A} {l : List ℕ} {n : ℕ} → Filled size view f l n → n < size → (v : ℕ) → view v ≡ f n → Filled size view f (set l n v) (n + 1)
+pub filled-next : {A : Type 0} {size : ℕ} {view : ℕ → A} {f : ℕ → A} {l : List ℕ} {n : ℕ} → Filled size view f l n → n < size → (v : ℕ) → view v ≡ f n
+    → Filled size view f (set l n v) (n + 1)
 unfolding replace
 filled-next {size = size} {view} {f} {l} {n} h less v e =
     record {
@@ -132,7 +133,8 @@ module _ {s : List ℕ} {n : Counts} (c : Counted s n) where
   value-place p (suc (suc (suc (suc (suc (suc (suc zero))))))) h = ap (λ (q : ℕ). bigEndian s q 4) (omega arith)
   value-place p (suc (suc (suc (suc (suc (suc (suc (suc k)))))))) h = absurd (omega arith)
 
-  value-declared : (b k : ℕ) → b < n .blocks → k < 8 → bigEndian s (5 * n .words + 37 * b + 5 + 4 * k) 4 ≡ at 0 (blockAt (sheetOf s .blocks) b .values) k
+  value-declared : (b k : ℕ) → b < n .blocks → k < 8
+      → bigEndian s (5 * n .words + 37 * b + 5 + 4 * k) 4 ≡ at 0 (blockAt (sheetOf s .blocks) b .values) k
   value-declared b k h hk =
       let place : 5 * n .words + 37 * b + 5 + 4 * k ≡ suc (5 * length (sheetOf s .words) + 37 * b) + 4 + 4 * k = omega (arith, c .words) in
       ap (λ (q : ℕ). bigEndian s q 4) place
@@ -143,7 +145,8 @@ module _ {s : List ℕ} {n : Counts} (c : Counted s n) where
   unfolding storedStart
   stored-copy i h = ap (λ t. storedBy t (sheetOf s) i) (sym (lt-ltb (i / 8) (4 * length (sheetOf s .bodies)) (rw (c .tasks) at h)))
 
-  stored-behind : (i : ℕ) → 4 * n .tasks ≤ i / 8 → at 0 (blockAt (sheetOf s .blocks) (i / 8 - 4 * n .tasks) .values) (i % 8) ≡ storedStart (sheetOf s) i
+  stored-behind : (i : ℕ) → 4 * n .tasks ≤ i / 8
+      → at 0 (blockAt (sheetOf s .blocks) (i / 8 - 4 * n .tasks) .values) (i % 8) ≡ storedStart (sheetOf s) i
   unfolding storedStart
   stored-behind i h =
       rw (c .tasks) (ap (λ t. storedBy t (sheetOf s) i) (sym (le-ltb (i / 8) (4 * length (sheetOf s .bodies)) (rw (c .tasks) at h))))
@@ -154,14 +157,17 @@ module _ {s : List ℕ} {n : Counts} (c : Counted s n) where
 
   pub stored-none : (i : ℕ) → 4 * n .tasks ≤ i / 8 → n .blocks ≤ i / 8 - 4 * n .tasks → 0 ≡ storedStart (sheetOf s) i
   stored-none i h b =
-      sym (ap (λ (z : Block). at 0 (z .values) (i % 8)) (at-past noBlock (sheetOf s .blocks) (i / 8 - 4 * n .tasks) (rw (c .blocks) at b)) ∙ none-at (i % 8)) ∙ stored-behind i h
+      sym (ap (λ (z : Block). at 0 (z .values) (i % 8)) (at-past noBlock (sheetOf s .blocks) (i / 8 - 4 * n .tasks) (rw (c .blocks) at b)) ∙ none-at (i % 8))
+      ∙ stored-behind i h
     where
       none-at : (k : ℕ) → _≡_ {A = ℕ} (at 0 [] k) 0
       none-at k = at-past 0 [] k (omega arith)
 
 -- COPIES
 abbrev firstCopies : List ℕ
-firstCopies = 0 ∷ 1 ∷ 2 ∷ 3 ∷ 4 ∷ 5 ∷ 6 ∷ 7 ∷ 8 ∷ 9 ∷ 10 ∷ 11 ∷ 12 ∷ 13 ∷ 14 ∷ 15 ∷ 16 ∷ 17 ∷ 18 ∷ 19 ∷ 20 ∷ 21 ∷ 22 ∷ 23 ∷ 24 ∷ 25 ∷ 26 ∷ 27 ∷ 28 ∷ 29 ∷ 30 ∷ 31 ∷ []
+firstCopies =
+    0 ∷ 1 ∷ 2 ∷ 3 ∷ 4 ∷ 5 ∷ 6 ∷ 7 ∷ 8 ∷ 9 ∷ 10 ∷ 11 ∷ 12 ∷ 13 ∷ 14 ∷ 15 ∷ 16 ∷ 17 ∷ 18 ∷ 19 ∷ 20 ∷ 21 ∷ 22 ∷ 23 ∷ 24 ∷ 25 ∷ 26 ∷ 27 ∷ 28 ∷ 29 ∷ 30
+    ∷ 31 ∷ []
 
 pub copies-started : Copies firstCopies
 unfolding row

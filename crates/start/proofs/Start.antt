@@ -45,7 +45,8 @@ unfolding banksFrom
 banks-size store [] = refl
 banks-size store (b ∷ l) = ap suc (banks-size (suc store) l)
 
-bank-from : (store : ℕ) (l : List Block) (b : ℕ) → b < length l → at (freshWord 0) (banksFrom store l) b ≡ freshWord (bankValue (at noBlock l b .version) (store + b))
+bank-from : (store : ℕ) (l : List Block) (b : ℕ) → b < length l
+    → at (freshWord 0) (banksFrom store l) b ≡ freshWord (bankValue (at noBlock l b .version) (store + b))
 unfolding at banksFrom
 bank-from store [] b h = absurd (omega arith)
 bank-from store (x ∷ l) zero h = let z : store + 0 ≡ store = omega arith in rw z
@@ -69,7 +70,8 @@ module _ {s : Sheet} (c : SheetFit s) where
   bank-at b =
       below? b (length (s .blocks))
       (λ h. bank-from (4 * length (s .bodies)) (s .blocks) b h ∙ ap (λ t. freshWord (bankBy t s b)) (sym (lt-ltb b (length (s .blocks)) h)))
-      (λ h. at-past (freshWord 0) banks b (rw (banks-size (4 * length (s .bodies)) (s .blocks)) h) ∙ ap (λ t. freshWord (bankBy t s b)) (sym (le-ltb b (length (s .blocks)) h)))
+      (λ h. at-past (freshWord 0) banks b (rw (banks-size (4 * length (s .bodies)) (s .blocks)) h)
+      ∙ ap (λ t. freshWord (bankBy t s b)) (sym (le-ltb b (length (s .blocks)) h)))
 
   cell-at : (i : ℕ) → at (freshWord 0) (startMemory s .cells) i ≡ freshWord (cellStart s i)
   unfolding cellStart
@@ -86,7 +88,8 @@ module _ {s : Sheet} (c : SheetFit s) where
       ∙ bank-at (i - 32)
       ∙ ap (λ t. freshWord (cellBy t s i)) (sym (le-ltb i 32 h)))
 
-  pub cells-started : (l : List Word) → length l ≡ 48 → ((i : ℕ) → i < 48 → at (freshWord 0) l i ≡ freshWord (cellStart s i)) → l ≡ startMemory s .cells
+  pub cells-started : (l : List Word) → length l ≡ 48 → ((i : ℕ) → i < 48 → at (freshWord 0) l i ≡ freshWord (cellStart s i))
+      → l ≡ startMemory s .cells
   cells-started l e h =
       same-list (freshWord 0) l (startMemory s .cells) (e ∙ sym (start-memory-fit c .cells)) (λ i b. h i (rw e at b) ∙ sym (cell-at i))
 
@@ -109,7 +112,8 @@ module _ {s : Sheet} (c : SheetFit s) where
   zero-at k h = at-replicate 0 0 8 k h
 
   stores-size : length (taken ++ blockStores) ≡ 4 * length (s .bodies) + length (s .blocks)
-  stores-size = omega (arith, length-append taken blockStores, length-replicate (4 * length (s .bodies)) (zeros 8), length-map (s .blocks) startValues)
+  stores-size =
+      omega (arith, length-append taken blockStores, length-replicate (4 * length (s .bodies)) (zeros 8), length-map (s .blocks) startValues)
 
   -- place k of store r
   stored-at : (r k : ℕ) → r < 48 → k < 8 → at 0 (at [] (startMemory s .stores) r) k ≡ storedStart s (8 * r + k)
@@ -123,12 +127,18 @@ module _ {s : Sheet} (c : SheetFit s) where
       let whole = stores-size in
       ap (λ (l : List (List ℕ)). at 0 (at [] l r) k) start-stores
       ∙ below? r (4 * length (s .bodies))
-      (λ h. ap (λ (l : List ℕ). at 0 l k) (at-append [] (taken ++ blockStores) rest r (omega arith) ∙ at-append [] taken blockStores r (omega arith) ∙ at-replicate [] (zeros 8) (4 * length (s .bodies)) r h)
+      (λ h. ap (λ (l : List ℕ). at 0 l k)
+      (at-append [] (taken ++ blockStores) rest r (omega arith) ∙ at-append [] taken blockStores r (omega arith)
+      ∙ at-replicate [] (zeros 8) (4 * length (s .bodies)) r h)
       ∙ zeros-here
       ∙ ap (λ t. storedBy t s (8 * r + k)) (sym (lt-ltb ((8 * r + k) / 8) (4 * length (s .bodies)) (rw row h))))
       (λ h. below? r (4 * length (s .bodies) + length (s .blocks))
-      (λ b. ap (λ (l : List ℕ). at 0 l k) (at-append [] (taken ++ blockStores) rest r (omega arith) ∙ behind [] taken blockStores (4 * length (s .bodies)) r size h ∙ at-map startValues noBlock (s .blocks) (r - 4 * length (s .bodies))))
-      (λ b. ap (λ (l : List ℕ). at 0 l k) (behind [] (taken ++ blockStores) rest (4 * length (s .bodies) + length (s .blocks)) r whole b ∙ at-replicate [] (zeros 8) (48 - length (taken ++ blockStores)) (r - (4 * length (s .bodies) + length (s .blocks))) (omega arith))
+      (λ b. ap (λ (l : List ℕ). at 0 l k)
+      (at-append [] (taken ++ blockStores) rest r (omega arith) ∙ behind [] taken blockStores (4 * length (s .bodies)) r size h
+      ∙ at-map startValues noBlock (s .blocks) (r - 4 * length (s .bodies))))
+      (λ b. ap (λ (l : List ℕ). at 0 l k)
+      (behind [] (taken ++ blockStores) rest (4 * length (s .bodies) + length (s .blocks)) r whole b
+      ∙ at-replicate [] (zeros 8) (48 - length (taken ++ blockStores)) (r - (4 * length (s .bodies) + length (s .blocks))) (omega arith))
       ∙ zeros-here
       ∙ sym (ap (λ (z : Block). at 0 (z .values) k) (at-past noBlock (s .blocks) (r - 4 * length (s .bodies)) (omega arith)) ∙ none-at k))
       ∙ ap (λ (i : ℕ). at 0 (blockOf s (i - 4 * length (s .bodies)) .values) k) (sym row)

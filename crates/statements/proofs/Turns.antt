@@ -18,7 +18,8 @@ use Rattle.commands.specs.declared.Fault.{Fault}
 use Rattle.commands.specs.declared.Opcode.{Opcode}
 use Rattle.commands.specs.declared.Opcode.the-variants.{Known, Refused}
 use Rattle.commands.specs.declared.Access.{Access}
-use Rattle.commands.proofs.Decoding.{cases, load-command, sum-command, read-command, pair-command, swap-command, begin-command, get-command, put-command, commit-command}
+use Rattle.commands.proofs.Decoding.{cases, load-command, sum-command, read-command, pair-command}
+use Rattle.commands.proofs.Decoding.{swap-command, begin-command, get-command, put-command, commit-command}
 use Rattle.exchanges.specs.Places.{nextOf, Went, went}
 use Rattle.exchanges.specs.Reading.{afterReading}
 use Rattle.exchanges.specs.Exchange.{Left, exchanged, afterStart, afterExchange}
@@ -26,7 +27,9 @@ use Rattle.jobs.specs.Jobs.{jobAt, movedTo, inPhase, added, copied, Entries, af
 use Rattle.transactions.specs.Blocks.{bankOf, namedBlock, cleared}
 use Rattle.transactions.specs.Accesses.{goesOn, Touching, firstRead, Accessed, accessTick, Checked, againRead}
 use Rattle.transactions.specs.Commits.{Gathered, commitBy, Committed, committedBy}
-use Rattle.statements.specs.Statements.{Arrays, entriesOf, Turn, turn, onRegisters, onCounts, onAnswer, onEntries, onBegin, onExchange, onTouching, onAccess, onChecked, onGathered, onCommitted, paired, exchangeTick, plainBy, plainTick, betweenBy, betweenTick, exchangeStep, insideTick, otherTick, transactionTick, statement}
+use Rattle.statements.specs.Statements.{Arrays, entriesOf, Turn, turn, onRegisters, onCounts, onAnswer, onEntries, onBegin, onExchange}
+use Rattle.statements.specs.Statements.{onTouching, onAccess, onChecked, onGathered, onCommitted, paired, exchangeTick, plainBy, plainTick}
+use Rattle.statements.specs.Statements.{betweenBy, betweenTick, exchangeStep, insideTick, otherTick, transactionTick, statement}
 use Rattle.statements.specs.declared.step.Exchanging.{Exchanging}
 use Rattle.statements.specs.declared.step.Exchanging.the-variants.{At, No}
 use Rattle.exchanges.specs.declared.read.Reading.{Reading}
@@ -137,7 +140,8 @@ module _ (sheet : List ℕ) (a : Arrays) (p : ℕ) (j : Job) (place b : ℕ) whe
   access-of-byte : 0x21 ≤ b → b < 0x23
       → betweenBy sheet a p j (found (commandOf sheet place b) (place + widthOf b))
       ≡ onAccess a
-      (accessTick (a .cells) (a .status) (a .saves) (a .stores) (a .registers) (a .copies) (a .kinds) (a .remembered) p (movedTo j (place + 3)) (accessFrom sheet place b))
+      (accessTick (a .cells) (a .status) (a .saves) (a .stores) (a .registers) (a .copies) (a .kinds) (a .remembered) p (movedTo j (place + 3))
+      (accessFrom sheet place b))
   unfolding betweenBy widthOf accessFrom
   access-of-byte l h =
       cases (eqb b 0x21)

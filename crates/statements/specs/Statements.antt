@@ -41,9 +41,26 @@ pub record Arrays : Type 0 where
   pub remembered : List ℕ
   pub counts : List ℕ
 
-abbrev pub arrays : List ℕ → List ℕ → List ℕ → List ℕ → List ℕ → List ℕ → List ℕ → List ℕ → List ℕ → List ℕ → List ℕ → List ℕ → List ℕ → List ℕ → List ℕ → Arrays
+abbrev pub arrays : List ℕ → List ℕ → List ℕ → List ℕ → List ℕ → List ℕ → List ℕ → List ℕ → List ℕ
+    → List ℕ → List ℕ → List ℕ → List ℕ → List ℕ → List ℕ → Arrays
 arrays c s v b r k q e o n l w t m u =
-    record { cells = c; status = s; saves = v; stores = b; registers = r; kept = k; copies = q; names = e; olds = o; news = n; inits = l; overlapped = w; kinds = t; remembered = m; counts = u }
+    record {
+      cells = c;
+      status = s;
+      saves = v;
+      stores = b;
+      registers = r;
+      kept = k;
+      copies = q;
+      names = e;
+      olds = o;
+      news = n;
+      inits = l;
+      overlapped = w;
+      kinds = t;
+      remembered = m;
+      counts = u;
+    }
 
 pub record Turn : Type 0 where
   pub job : Job
@@ -54,40 +71,64 @@ turn j a = record { job = j; arrays = a }
 
 -- the arrays with those that a part of a statement wrote
 abbrev pub onRegisters : Arrays → List ℕ → Job → Turn
-onRegisters a r j = turn j (arrays (a .cells) (a .status) (a .saves) (a .stores) r (a .kept) (a .copies) (a .names) (a .olds) (a .news) (a .inits) (a .overlapped) (a .kinds) (a .remembered) (a .counts))
+onRegisters a r j =
+    turn j (arrays (a .cells) (a .status) (a .saves) (a .stores) r (a .kept) (a .copies) (a .names) (a .olds) (a .news) (a .inits)
+    (a .overlapped) (a .kinds) (a .remembered) (a .counts))
 
 abbrev pub onCounts : Arrays → List ℕ → Went Job → Turn
-onCounts a r w = turn (w .next) (arrays (a .cells) (a .status) (a .saves) (a .stores) r (a .kept) (a .copies) (a .names) (a .olds) (a .news) (a .inits) (a .overlapped) (a .kinds) (a .remembered) (w .array))
+onCounts a r w =
+    turn (w .next) (arrays (a .cells) (a .status) (a .saves) (a .stores) r (a .kept) (a .copies) (a .names) (a .olds) (a .news) (a .inits)
+    (a .overlapped) (a .kinds) (a .remembered) (w .array))
 
 abbrev pub onAnswer : Arrays → Answered → Turn
-onAnswer a w = turn (w .job) (arrays (a .cells) (a .status) (a .saves) (a .stores) (w .registers) (a .kept) (a .copies) (a .names) (a .olds) (a .news) (a .inits) (a .overlapped) (a .kinds) (a .remembered) (w .counts))
+onAnswer a w =
+    turn (w .job) (arrays (a .cells) (a .status) (a .saves) (a .stores) (w .registers) (a .kept) (a .copies) (a .names) (a .olds) (a .news)
+    (a .inits) (a .overlapped) (a .kinds) (a .remembered) (w .counts))
 
 abbrev pub onEntries : Arrays → Entries → Went Job → Turn
-onEntries a e w = turn (w .next) (arrays (a .cells) (a .status) (a .saves) (a .stores) (a .registers) (a .kept) (a .copies) (e .names) (e .olds) (e .news) (e .inits) (e .overlapped) (a .kinds) (a .remembered) (w .array))
+onEntries a e w =
+    turn (w .next) (arrays (a .cells) (a .status) (a .saves) (a .stores) (a .registers) (a .kept) (a .copies) (e .names) (e .olds) (e .news)
+    (e .inits) (e .overlapped) (a .kinds) (a .remembered) (w .array))
 
 abbrev pub onBegin : Arrays → List ℕ → List ℕ → Job → Turn
-onBegin a kept kinds j = turn j (arrays (a .cells) (a .status) (a .saves) (a .stores) (a .registers) kept (a .copies) (a .names) (a .olds) (a .news) (a .inits) (a .overlapped) kinds (a .remembered) (a .counts))
+onBegin a kept kinds j =
+    turn j (arrays (a .cells) (a .status) (a .saves) (a .stores) (a .registers) kept (a .copies) (a .names) (a .olds) (a .news) (a .inits)
+    (a .overlapped) kinds (a .remembered) (a .counts))
 
 abbrev pub onExchange : Arrays → Left → Answered → Turn
-onExchange a x w = turn (w .job) (arrays (x .cells) (x .status) (x .saves) (a .stores) (w .registers) (a .kept) (a .copies) (a .names) (a .olds) (a .news) (x .inits) (x .overlapped) (a .kinds) (a .remembered) (w .counts))
+onExchange a x w =
+    turn (w .job) (arrays (x .cells) (x .status) (x .saves) (a .stores) (w .registers) (a .kept) (a .copies) (a .names) (a .olds) (a .news)
+    (x .inits) (x .overlapped) (a .kinds) (a .remembered) (w .counts))
 
 abbrev pub onTouching : Arrays → Touching → Turn
-onTouching a w = turn (w .job) (arrays (a .cells) (a .status) (a .saves) (a .stores) (a .registers) (a .kept) (a .copies) (a .names) (a .olds) (a .news) (a .inits) (a .overlapped) (w .kinds) (w .remembered) (a .counts))
+onTouching a w =
+    turn (w .job) (arrays (a .cells) (a .status) (a .saves) (a .stores) (a .registers) (a .kept) (a .copies) (a .names) (a .olds) (a .news)
+    (a .inits) (a .overlapped) (w .kinds) (w .remembered) (a .counts))
 
 abbrev pub onStores : Arrays → Went Job → Turn
-onStores a w = turn (w .next) (arrays (a .cells) (a .status) (a .saves) (w .array) (a .registers) (a .kept) (a .copies) (a .names) (a .olds) (a .news) (a .inits) (a .overlapped) (a .kinds) (a .remembered) (a .counts))
+onStores a w =
+    turn (w .next) (arrays (a .cells) (a .status) (a .saves) (w .array) (a .registers) (a .kept) (a .copies) (a .names) (a .olds) (a .news)
+    (a .inits) (a .overlapped) (a .kinds) (a .remembered) (a .counts))
 
 abbrev pub onAccess : Arrays → Accessed → Turn
-onAccess a w = turn (w .job) (arrays (a .cells) (a .status) (a .saves) (w .stores) (a .registers) (a .kept) (a .copies) (a .names) (a .olds) (a .news) (a .inits) (a .overlapped) (w .kinds) (w .remembered) (a .counts))
+onAccess a w =
+    turn (w .job) (arrays (a .cells) (a .status) (a .saves) (w .stores) (a .registers) (a .kept) (a .copies) (a .names) (a .olds) (a .news)
+    (a .inits) (a .overlapped) (w .kinds) (w .remembered) (a .counts))
 
 abbrev pub onChecked : Arrays → Checked → Turn
-onChecked a w = turn (w .job) (arrays (a .cells) (a .status) (a .saves) (a .stores) (w .registers) (a .kept) (a .copies) (a .names) (a .olds) (a .news) (a .inits) (a .overlapped) (w .kinds) (a .remembered) (a .counts))
+onChecked a w =
+    turn (w .job) (arrays (a .cells) (a .status) (a .saves) (a .stores) (w .registers) (a .kept) (a .copies) (a .names) (a .olds) (a .news)
+    (a .inits) (a .overlapped) (w .kinds) (a .remembered) (a .counts))
 
 abbrev pub onGathered : Arrays → Gathered → Turn
-onGathered a w = turn (w .job) (arrays (a .cells) (a .status) (a .saves) (a .stores) (a .registers) (a .kept) (a .copies) (w .entries .names) (w .entries .olds) (w .entries .news) (w .entries .inits) (w .entries .overlapped) (a .kinds) (a .remembered) (w .counts))
+onGathered a w =
+    turn (w .job) (arrays (a .cells) (a .status) (a .saves) (a .stores) (a .registers) (a .kept) (a .copies) (w .entries .names)
+    (w .entries .olds) (w .entries .news) (w .entries .inits) (w .entries .overlapped) (a .kinds) (a .remembered) (w .counts))
 
 abbrev pub onCommitted : Arrays → Left → Committed → Turn
-onCommitted a x w = turn (w .job) (arrays (x .cells) (x .status) (x .saves) (a .stores) (w .registers) (a .kept) (w .copies) (a .names) (a .olds) (a .news) (x .inits) (x .overlapped) (w .kinds) (a .remembered) (w .counts))
+onCommitted a x w =
+    turn (w .job) (arrays (x .cells) (x .status) (x .saves) (a .stores) (w .registers) (a .kept) (w .copies) (a .names) (a .olds) (a .news)
+    (x .inits) (x .overlapped) (w .kinds) (a .remembered) (w .counts))
 
 abbrev pub entriesOf : Arrays → Entries
 entriesOf a = entries (a .names) (a .olds) (a .news) (a .inits) (a .overlapped)
@@ -113,12 +154,14 @@ plainBy sheet a p j (M.found (M.RELEASE r) next) = turn j a
 plainBy sheet a p j (M.found M.END next) = turn j a
 plainBy sheet a p j (M.found (M.body (M.LOAD r v)) next) =
     onCounts a (replace (a .registers) (8 * p + r) v) (afterDone sheet (a .counts) p next (j .pairs))
-plainBy sheet a p j (M.found (M.body (M.ADD r q)) next) = onCounts a (added (a .registers) p r q) (afterDone sheet (a .counts) p next (j .pairs))
+plainBy sheet a p j (M.found (M.body (M.ADD r q)) next) =
+    onCounts a (added (a .registers) p r q) (afterDone sheet (a .counts) p next (j .pairs))
 plainBy sheet a p j (M.found (M.body (M.outside (M.READ r w))) next) =
     onAnswer a (readBy sheet (a .registers) (a .counts) p (movedTo j next) r w (afterReading (a .cells) (a .status) (a .saves) w Load))
 plainBy sheet a p j (M.found (M.body (M.outside (M.PAIR w o n))) next) =
     onEntries a (paired (a .registers) (entriesOf a) p (j .pairs) w o n) (afterDone sheet (a .counts) p next (nextOf (j .pairs)))
-plainBy sheet a p j (M.found (M.body (M.outside (M.SWAP r))) next) = swapTick sheet a p (movedTo j next) r (exchangeTick a p (j .pairs) 0 Start)
+plainBy sheet a p j (M.found (M.body (M.outside (M.SWAP r))) next) =
+    swapTick sheet a p (movedTo j next) r (exchangeTick a p (j .pairs) 0 Start)
 plainBy sheet a p j (M.found (M.body (M.outside M.BEGIN)) next) =
     onBegin a (copied 8 (a .kept) (a .registers) p) (cleared 16 (a .kinds) p) (jobAt (P.Transaction Between) next 0)
 plainBy sheet a p j (M.found (M.body (M.inside c)) next) = turn j a
@@ -143,10 +186,12 @@ betweenBy sheet a p j (M.found (M.body (M.ADD r q)) next) = onRegisters a (added
 betweenBy sheet a p j (M.found (M.body (M.outside c)) next) = turn j a
 betweenBy sheet a p j (M.found (M.body (M.inside (M.access x))) next) =
     onAccess a
-    (accessTick (a .cells) (a .status) (a .saves) (a .stores) (a .registers) (a .copies) (a .kinds) (a .remembered) p (movedTo j next) (accessOf x))
+    (accessTick (a .cells) (a .status) (a .saves) (a .stores) (a .registers) (a .copies) (a .kinds) (a .remembered) p (movedTo j next)
+    (accessOf x))
 betweenBy sheet a p j (M.found (M.body (M.inside M.COMMIT)) next) =
     onGathered a
-    (commitBy sheet (a .copies) (a .names) (a .olds) (a .news) (a .inits) (a .overlapped) (a .kinds) (a .remembered) (a .counts) p (movedTo j next))
+    (commitBy sheet (a .copies) (a .names) (a .olds) (a .news) (a .inits) (a .overlapped) (a .kinds) (a .remembered) (a .counts) p
+    (movedTo j next))
 
 unfoldable pub betweenTick : List ℕ → Arrays → ℕ → Job → Turn
 betweenTick sheet a p j = betweenBy sheet a p j (M.commandAt sheet (j .at))
@@ -178,14 +223,16 @@ insideTick sheet a p j (First x s) =
 insideTick sheet a p j (Copying x n) = onStores a (afterCopy (a .stores) (a .copies) (a .remembered) p j x n)
 insideTick sheet a p j (Again x v s) =
     onChecked a
-    (againRead (a .registers) (a .kept) (a .kinds) (a .remembered) p j x v (afterReading (a .cells) (a .status) (a .saves) (bankOf (namedBlock x)) s))
+    (againRead (a .registers) (a .kept) (a .kinds) (a .remembered) p j x v
+    (afterReading (a .cells) (a .status) (a .saves) (bankOf (namedBlock x)) s))
 insideTick sheet a p j (Committing s) = turn j a
 
 -- a statement that is no exchange's
 unfoldable pub otherTick : List ℕ → Arrays → ℕ → Job → Phase → Turn
 otherTick sheet a p j P.Idle = turn j a
 otherTick sheet a p j P.Plain = plainTick sheet a p j
-otherTick sheet a p j (P.Read r w s) = onAnswer a (readBy sheet (a .registers) (a .counts) p j r w (afterReading (a .cells) (a .status) (a .saves) w s))
+otherTick sheet a p j (P.Read r w s) =
+    onAnswer a (readBy sheet (a .registers) (a .counts) p j r w (afterReading (a .cells) (a .status) (a .saves) w s))
 otherTick sheet a p j (P.Exchange r s) = turn j a
 otherTick sheet a p j (P.Transaction i) = insideTick sheet a p j i
 

@@ -85,7 +85,8 @@ touchedTick true stores registers copies kinds remembered p j (Put b o r) =
 touchedTick false stores registers copies kinds remembered p j (Put b o r) =
     inStores kinds remembered (afterPut stores registers copies kinds remembered p j b o r)
 
-unfoldable pub accessTick : List ℕ → List ℕ → List ℕ → List ℕ → List ℕ → List ℕ → List ℕ → List ℕ → ℕ → Job → Access → Accessed
+unfoldable pub accessTick : List ℕ → List ℕ → List ℕ → List ℕ → List ℕ → List ℕ → List ℕ → List ℕ → ℕ
+    → Job → Access → Accessed
 accessTick cells status saves stores registers copies kinds remembered p j a =
     if (eqb (at 0 kinds (16 * p + namedBlock a)) 0)
     (inTouching stores (firstRead kinds remembered p j a (afterReading cells status saves (bankOf (namedBlock a)) Load)))
@@ -107,9 +108,11 @@ restarted registers kept kinds p j = checked (jobAt (Transaction Between) (j .be
 unfoldable pub checkedBy : List ℕ → List ℕ → ℕ → Job → Access → ℕ → Checked
 checkedBy registers kinds p j (Get r b o) v = checked (goesOn j) (replace registers (8 * p + r) v) kinds
 checkedBy registers kinds p j (Put b o r) v =
-    checked (job (Transaction Between) (j .value) (j .at) (j .next) (j .begin) (j .pairs) (nextOf (j .used))) registers (replace kinds (16 * p + b) ((j .used + 2) % 256))
+    checked (job (Transaction Between) (j .value) (j .at) (j .next) (j .begin) (j .pairs) (nextOf (j .used))) registers
+    (replace kinds (16 * p + b) ((j .used + 2) % 256))
 
 unfoldable pub againRead : List ℕ → List ℕ → List ℕ → List ℕ → ℕ → Job → Access → ℕ → Read → Checked
 againRead registers kept kinds remembered p j a v (Reads s) = checked (inner j (Again a v s)) registers kinds
 againRead registers kept kinds remembered p j a v (Gives w) =
-    if (eqb (w / 256) (at 0 remembered (16 * p + namedBlock a) / 256)) (checkedBy registers kinds p j a v) (restarted registers kept kinds p j)
+    if (eqb (w / 256) (at 0 remembered (16 * p + namedBlock a) / 256)) (checkedBy registers kinds p j a v)
+    (restarted registers kept kinds p j)

@@ -33,7 +33,8 @@ isSpent kind bank = if (ltb kind 2) false (eqb (bank / 256) 16777215)
 
 unfoldable pub spentFrom : ℕ → List ℕ → List ℕ → ℕ → Bool
 spentFrom zero kinds remembered place = false
-spentFrom (suc n) kinds remembered place = if (isSpent (at 0 kinds place) (at 0 remembered place)) true (spentFrom n kinds remembered (suc place))
+spentFrom (suc n) kinds remembered place =
+    if (isSpent (at 0 kinds place) (at 0 remembered place)) true (spentFrom n kinds remembered (suc place))
 
 -- what the bank word of a touched block becomes
 abbrev pub newBank : List ℕ → ℕ → ℕ → ℕ → ℕ
@@ -63,7 +64,8 @@ gatheredTo copies kinds remembered p (suc n) g = gatheredOne copies kinds rememb
 -- the copy slot of block b, if PUT, takes the block's old store
 unfoldable pub takenOne : List ℕ → List ℕ → List ℕ → ℕ → ℕ → List ℕ
 takenOne copies kinds remembered p b =
-    if (ltb (at 0 kinds (16 * p + b)) 2) copies (replace copies (4 * p + (at 0 kinds (16 * p + b) - 2)) (at 0 remembered (16 * p + b) % 256))
+    if (ltb (at 0 kinds (16 * p + b)) 2) copies
+    (replace copies (4 * p + (at 0 kinds (16 * p + b) - 2)) (at 0 remembered (16 * p + b) % 256))
 
 -- the same for the blocks below n
 unfoldable pub takenTo : ℕ → List ℕ → List ℕ → List ℕ → ℕ → List ℕ

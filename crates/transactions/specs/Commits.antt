@@ -26,9 +26,14 @@ countedIn e w = record { job = w .next; entries = e; counts = w .array }
 
 abbrev pub exchangeOf : Job → List ℕ → Gathering → Gathered
 exchangeOf j counts g =
-    record { job = job (Transaction (Committing Start)) (j .value) (j .at) (j .next) (j .begin) (g .count) (j .used); entries = g .entries; counts = counts }
+    record {
+      job = job (Transaction (Committing Start)) (j .value) (j .at) (j .next) (j .begin) (g .count) (j .used);
+      entries = g .entries;
+      counts = counts;
+    }
 
-unfoldable pub commitBy : List ℕ → List ℕ → List ℕ → List ℕ → List ℕ → List ℕ → List ℕ → List ℕ → List ℕ → List ℕ → ℕ → Job → Gathered
+unfoldable pub commitBy : List ℕ → List ℕ → List ℕ → List ℕ → List ℕ → List ℕ → List ℕ → List ℕ → List ℕ
+    → List ℕ → ℕ → Job → Gathered
 commitBy sheet copies names olds news inits overlapped kinds remembered counts p j =
     if (untouchedFrom 16 kinds (16 * p))
     (countedIn (entries names olds news inits overlapped) (afterDone sheet counts p (j .next) 0))
@@ -52,8 +57,10 @@ yesBy registers copies kinds w = committed (w .next) registers copies kinds (w .
 abbrev pub noBy : List ℕ → List ℕ → Checked → Committed
 noBy copies counts w = committed (w .job) (w .registers) copies (w .kinds) counts
 
-unfoldable pub committedBy : List ℕ → List ℕ → List ℕ → List ℕ → List ℕ → List ℕ → List ℕ → ℕ → Job → Exchanged → Committed
-committedBy sheet registers kept copies kinds remembered counts p j (Goes s) = committed (inner j (Committing s)) registers copies kinds counts
+unfoldable pub committedBy : List ℕ → List ℕ → List ℕ → List ℕ → List ℕ → List ℕ → List ℕ → ℕ → Job
+    → Exchanged → Committed
+committedBy sheet registers kept copies kinds remembered counts p j (Goes s) =
+    committed (inner j (Committing s)) registers copies kinds counts
 committedBy sheet registers kept copies kinds remembered counts p j (Finds f) =
     committed (withValue j (Transaction (Committing (Save (f .i)))) (f .value)) registers copies kinds counts
 committedBy sheet registers kept copies kinds remembered counts p j (Ends true) =

@@ -27,7 +27,8 @@ enum-told c = search needs
 returns-2 : tie.Need-returns-2
 returns-2 c = let a = c .before .before .before .before .before .before .args in
     let e : indexOf (getD (a .s .now) (a .at) 0) ≡ Unknown = cc in
-    no-row _ _ (c .before .before .before .before .if1 .left) (rw e at (index-says (getD (a .s .now) (a .at) 0) (omega (arith, c .before .before .before .shared-slice-known2 .given (a .at)))))
+    no-row _ _ (c .before .before .before .before .if1 .left)
+    (rw e at (index-says (getD (a .s .now) (a .at) 0) (omega (arith, c .before .before .before .shared-slice-known2 .given (a .at)))))
 
 add-if2 : tie.Need-add-if2
 add-if2 c = search needs
@@ -43,13 +44,17 @@ width-requires c κs = let a = c .before .before .before .before .before .before
 returns-3 : tie.Need-returns-3
 returns-3 c = let a = c .before .before .before .before .before .before .before .before .before .args in
     let e : indexOf (getD (a .s .now) (a .at) 0) ≡ At (c .before .before .before .i .given .0 .0) = cc in
-    let says = rw e at (index-says (getD (a .s .now) (a .at) 0) (omega (arith, c .before .before .before .before .before .before .shared-slice-known2 .given (a .at)))) in
+    let says = rw e
+    at (index-says (getD (a .s .now) (a .at) 0)
+    (omega (arith, c .before .before .before .before .before .before .shared-slice-known2 .given (a .at)))) in
     cut _ _ (c .before .before .before .before .before .before .before .if1 .left) (says .1) (omega arith)
 
 returns-4 : tie.Need-returns-4
 returns-4 c = let a = c .before .before .before .before .before .before .before .before .before .args in
     let e : indexOf (getD (a .s .now) (a .at) 0) ≡ At (c .before .before .before .i .given .0 .0) = cc in
-    let says = rw e at (index-says (getD (a .s .now) (a .at) 0) (omega (arith, c .before .before .before .before .before .before .shared-slice-known2 .given (a .at)))) in
+    let says = rw e
+    at (index-says (getD (a .s .now) (a .at) 0)
+    (omega (arith, c .before .before .before .before .before .before .shared-slice-known2 .given (a .at)))) in
     whole _ _ (c .before .before .before .before .before .before .before .if1 .left) (says .1) (omega arith)
 
 pub command-byte-spec : {M : Type 1} → statement M

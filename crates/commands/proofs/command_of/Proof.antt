@@ -1,7 +1,9 @@
 -- `command_of` meets its contract.
 use Rattle.model.specs.Command.{rowOf, table}
 use Rattle.commands.specs.Stages.{accessFrom}
-use Rattle.commands.proofs.Decoding.{begin-command, block-command, commit-command, end-command, get-command, load-command, no-command, pair-command, put-command, read-command, release-command, sum-command, swap-command, task-command, word-command}
+use Rattle.commands.proofs.Decoding.{begin-command, block-command, commit-command, end-command, get-command}
+use Rattle.commands.proofs.Decoding.{load-command, no-command, pair-command, put-command, read-command}
+use Rattle.commands.proofs.Decoding.{release-command, sum-command, swap-command, task-command, word-command}
 use borrow.Author.Tests.{ne-eqb}
 use mathlib.Core.Path.{sym}
 use borrow.Author.Needs.{needs}
@@ -121,7 +123,22 @@ returns-14 c = rw (c .match .keys14, commit-command)
 returns-15 : tie.Need-returns-15
 unfolding rowOf table
 returns-15 c = let b = c .before .before .args .b in
-    sym (no-command _ _ b (simp (ne-eqb b 1 (c .match .rest .0 .0 .0 .0 .0 .0 .0 .0 .0 .0 .0 .0 .0 .1), ne-eqb b 2 (c .match .rest .0 .0 .0 .0 .0 .0 .0 .0 .0 .0 .0 .0 .1), ne-eqb b 3 (c .match .rest .0 .0 .0 .0 .0 .0 .0 .0 .0 .0 .0 .1), ne-eqb b 4 (c .match .rest .0 .0 .0 .0 .0 .0 .0 .0 .0 .0 .1), ne-eqb b 5 (c .match .rest .0 .0 .0 .0 .0 .0 .0 .0 .0 .1), ne-eqb b 16 (c .match .rest .0 .0 .0 .0 .0 .0 .0 .0 .1), ne-eqb b 17 (c .match .rest .0 .0 .0 .0 .0 .0 .0 .1), ne-eqb b 18 (c .match .rest .0 .0 .0 .0 .0 .0 .1), ne-eqb b 19 (c .match .rest .0 .0 .0 .0 .0 .1), ne-eqb b 20 (c .match .rest .0 .0 .0 .0 .1), ne-eqb b 32 (c .match .rest .0 .0 .0 .1), ne-eqb b 33 (c .match .rest .0 .0 .1), ne-eqb b 34 (c .match .rest .0 .1), ne-eqb b 35 (c .match .rest .1))))
+    sym (no-command _ _ b (simp (
+      ne-eqb b 1 (c .match .rest .0 .0 .0 .0 .0 .0 .0 .0 .0 .0 .0 .0 .0 .1),
+      ne-eqb b 2 (c .match .rest .0 .0 .0 .0 .0 .0 .0 .0 .0 .0 .0 .0 .1),
+      ne-eqb b 3 (c .match .rest .0 .0 .0 .0 .0 .0 .0 .0 .0 .0 .0 .1),
+      ne-eqb b 4 (c .match .rest .0 .0 .0 .0 .0 .0 .0 .0 .0 .0 .1),
+      ne-eqb b 5 (c .match .rest .0 .0 .0 .0 .0 .0 .0 .0 .0 .1),
+      ne-eqb b 16 (c .match .rest .0 .0 .0 .0 .0 .0 .0 .0 .1),
+      ne-eqb b 17 (c .match .rest .0 .0 .0 .0 .0 .0 .0 .1),
+      ne-eqb b 18 (c .match .rest .0 .0 .0 .0 .0 .0 .1),
+      ne-eqb b 19 (c .match .rest .0 .0 .0 .0 .0 .1),
+      ne-eqb b 20 (c .match .rest .0 .0 .0 .0 .1),
+      ne-eqb b 32 (c .match .rest .0 .0 .0 .1),
+      ne-eqb b 33 (c .match .rest .0 .0 .1),
+      ne-eqb b 34 (c .match .rest .0 .1),
+      ne-eqb b 35 (c .match .rest .1),
+    )))
 
 pub command-of-spec : {M : Type 1} → statement M
 command-of-spec =

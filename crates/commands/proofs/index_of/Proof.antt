@@ -34,7 +34,14 @@ returns-2 c = let b = c .before .before .before .before .args .b in
 returns-3 : tie.Need-returns-3
 unfolding indexOf
 returns-3 c = let b = c .before .before .before .before .before .before .args .b in
-    simp (le-ltb b 1 (omega arith), lt-leb b 5 (omega arith), le-ltb b 16 (omega arith), lt-leb b 20 (omega arith), le-ltb b 32 (omega arith), le-leb b 35 (omega arith))
+    simp (
+      le-ltb b 1 (omega arith),
+      lt-leb b 5 (omega arith),
+      le-ltb b 16 (omega arith),
+      lt-leb b 20 (omega arith),
+      le-ltb b 32 (omega arith),
+      le-leb b 35 (omega arith),
+    )
 
 returns-4 : tie.Need-returns-4
 unfolding indexOf
@@ -54,7 +61,14 @@ returns-6 c = let b = c .before .before .before .before .before .args .b in
 returns-7 : tie.Need-returns-7
 unfolding indexOf
 returns-7 c = let b = c .before .before .before .before .before .before .args .b in
-    simp (le-ltb b 1 (omega arith), lt-leb b 5 (omega arith), le-ltb b 16 (omega arith), lt-leb b 20 (omega arith), le-ltb b 32 (omega arith), lt-leb b 35 (omega arith))
+    simp (
+      le-ltb b 1 (omega arith),
+      lt-leb b 5 (omega arith),
+      le-ltb b 16 (omega arith),
+      lt-leb b 20 (omega arith),
+      le-ltb b 32 (omega arith),
+      lt-leb b 35 (omega arith),
+    )
 
 pub index-of-spec : {M : Type 1} → statement M
 index-of-spec =

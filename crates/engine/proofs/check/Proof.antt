@@ -20,7 +20,9 @@ returns : tie.Need-returns
 returns c = checks-accepted (rw (c .enum-told .given .1) at (c .before .before .check .ensures))
 
 returns-2 : tie.Need-returns-2
-returns-2 c = rw (c .refused .ensures) (checks-refused (c .before .before .v .given .0 .0) (rw (c .before .before .v .given .1) at (c .before .before .before .before .check .ensures)))
+returns-2 c =
+    rw (c .refused .ensures)
+    (checks-refused (c .before .before .v .given .0 .0) (rw (c .before .before .v .given .1) at (c .before .before .before .before .check .ensures)))
 
 pub check-spec : {M : Type 1} → statement M
 check-spec =

@@ -18,7 +18,10 @@ refused-requires : tie.Need-refused-requires
 refused-requires c κs = search needs
 
 returns : tie.Need-returns
-returns c = rw (c .refused .ensures) (run-refused _ _ _ (c .before .before .v .given .0 .0) (rw (c .before .before .v .given .1) at (c .before .before .before .before .first-fault .ensures)))
+returns c =
+    rw (c .refused .ensures)
+    (run-refused _ _ _ (c .before .before .v .given .0 .0)
+    (rw (c .before .before .v .given .1) at (c .before .before .before .before .first-fault .ensures)))
 
 enum-told : tie.Need-enum-told
 enum-told c = search needs
@@ -36,15 +39,27 @@ same-length : tie.Need-same-length
 same-length c = search needs
 
 returns-3 : tie.Need-returns-3
-returns-3 c = let small : (i : ℕ) → getD (c .before .before .before .before .before .before .before .before .before .before .before .args .sheet .now) i 0 < 256 = λ i. omega (arith, c .before .before .before .before .before .before .before .before .before .before .shared-slice-known .given i) in
-    run-too-short _ _ _ small (rw (c .before .before .before .before .before .before .enum-told .given .1) at (c .before .before .before .before .before .before .before .before .first-fault .ensures)) (c .before .before .before .before .before .if1 .left) (c .before .before .before .run-accepted .ensures) (c .if2 .taken)
+returns-3 c =
+    let small : (i : ℕ)
+    → getD (c .before .before .before .before .before .before .before .before .before .before .before .args .sheet .now) i 0 < 256 =
+    λ i. omega (arith, c .before .before .before .before .before .before .before .before .before .before .shared-slice-known .given i) in
+    run-too-short _ _ _ small
+    (rw (c .before .before .before .before .before .before .enum-told .given .1)
+    at (c .before .before .before .before .before .before .before .before .first-fault .ensures))
+    (c .before .before .before .before .before .if1 .left) (c .before .before .before .run-accepted .ensures) (c .if2 .taken)
 
 same-length-2 : tie.Need-same-length-2
 same-length-2 c = search needs
 
 returns-4 : tie.Need-returns-4
-returns-4 c = let small : (i : ℕ) → getD (c .before .before .before .before .before .before .before .before .before .before .before .args .sheet .now) i 0 < 256 = λ i. omega (arith, c .before .before .before .before .before .before .before .before .before .before .shared-slice-known .given i) in
-    run-written _ _ _ small (rw (c .before .before .before .before .before .before .enum-told .given .1) at (c .before .before .before .before .before .before .before .before .first-fault .ensures)) (c .before .before .before .before .before .if1 .left) (c .before .before .before .run-accepted .ensures) (c .if2 .left)
+returns-4 c =
+    let small : (i : ℕ)
+    → getD (c .before .before .before .before .before .before .before .before .before .before .before .args .sheet .now) i 0 < 256 =
+    λ i. omega (arith, c .before .before .before .before .before .before .before .before .before .before .shared-slice-known .given i) in
+    run-written _ _ _ small
+    (rw (c .before .before .before .before .before .before .enum-told .given .1)
+    at (c .before .before .before .before .before .before .before .before .first-fault .ensures))
+    (c .before .before .before .before .before .if1 .left) (c .before .before .before .run-accepted .ensures) (c .if2 .left)
 
 pub run-spec : {M : Type 1} → statement M
 run-spec =

@@ -24,7 +24,14 @@ set-u32x64-requires c κs = search needs
 
 returns : tie.Need-returns
 unfolding added
-returns c = rw (← c .before .before .before .before .before .before .before .before .before .before .slot .ensures, ← c .before .before .before .before .before .before .before .before .before .slot2 .ensures, ← c .before .before .before .before .before .before .u32-at .ensures, ← c .before .before .before .u32-at2 .ensures, ← c .before .before .wrapping-add-u32 .ensures, c .set-u32x64 .ensures)
+returns c = rw (
+  ← c .before .before .before .before .before .before .before .before .before .before .slot .ensures,
+  ← c .before .before .before .before .before .before .before .before .before .slot2 .ensures,
+  ← c .before .before .before .before .before .before .u32-at .ensures,
+  ← c .before .before .before .u32-at2 .ensures,
+  ← c .before .before .wrapping-add-u32 .ensures,
+  c .set-u32x64 .ensures,
+)
 
 pub add-spec : {M : Type 1} → statement M
 add-spec =

@@ -18,7 +18,12 @@ set-u32x32-requires c κs = search needs
 
 returns : tie.Need-returns
 unfolding counted
-returns c = rw (← c .before .before .before .before .before .before .quarter .ensures, ← c .before .before .before .u32-at .ensures, ← c .before .wrapping-add-u32 .ensures, c .set-u32x32 .ensures)
+returns c = rw (
+  ← c .before .before .before .before .before .before .quarter .ensures,
+  ← c .before .before .before .u32-at .ensures,
+  ← c .before .wrapping-add-u32 .ensures,
+  c .set-u32x32 .ensures,
+)
 
 pub count-spec : {M : Type 1} → statement M
 count-spec =

@@ -30,7 +30,16 @@ set-u8x64-requires-2 c κs = search needs
 
 returns : tie.Need-returns
 unfolding entered
-returns c = rw (← c .before .before .before .before .before .before .before .before .before .before .before .before .slot .ensures, c .set-u8x642 .ensures, c .before .before .set-u64x64 .ensures, c .before .before .before .before .before .before .set-u32x642 .ensures, c .before .before .before .before .before .before .before .before .set-u32x64 .ensures, c .before .before .before .before .before .before .before .before .before .before .set-u8x64 .ensures, c .before .before .before .before .pack .ensures, c .before .before .before .before .before .fresh .ensures)
+returns c = rw (
+  ← c .before .before .before .before .before .before .before .before .before .before .before .before .slot .ensures,
+  c .set-u8x642 .ensures,
+  c .before .before .set-u64x64 .ensures,
+  c .before .before .before .before .before .before .set-u32x642 .ensures,
+  c .before .before .before .before .before .before .before .before .set-u32x64 .ensures,
+  c .before .before .before .before .before .before .before .before .before .before .set-u8x64 .ensures,
+  c .before .before .before .before .pack .ensures,
+  c .before .before .before .before .before .fresh .ensures,
+)
 
 pub enter-spec : {M : Type 1} → statement M
 enter-spec =

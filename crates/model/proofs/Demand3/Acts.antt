@@ -8,9 +8,10 @@ use Rattle.model.specs.Lists.{replace}
 use Rattle.model.specs.Command.{Access, GET, PUT, READ, PAIR, SWAP, BEGIN, access, COMMIT, BodyCommand, LOAD, ADD, outside, inside}
 use Rattle.model.specs.Word.{Word, Memory, memory, cellOf, own, Reading, loading, looking, fetching, Read, reads, gives, readTick, lookingBy}
 use Rattle.model.specs.Exchange.{Entry, Exchange, exchangeOf, Exchanged, goes, ends, exchangeTick}
-use Rattle.model.specs.Job.{Touched, untouched, remembered, copied, Transaction, Inner, between, first, copying, again, committing, Phase, idle, plain, exchanging, transacting, Task, rest, doneBy}
-use Rattle.model.specs.Job.{reading as readingPhase}
-use Rattle.model.specs.Transaction.{bank, blockOf, versionOf, rememberedOf, touchedOf, nothing?, spent?, firstRead, copyBy, copyTick, accessTick, checkBy, againRead, commandTick, transactionTick, commitCommandBy, committingBy}
+use Rattle.model.specs.Job.{Touched, untouched, remembered, copied, Transaction, Inner, between, first, copying, again}
+use Rattle.model.specs.Job.{committing, Phase, idle, plain, exchanging, transacting, Task, rest, doneBy, reading as readingPhase}
+use Rattle.model.specs.Transaction.{bank, blockOf, versionOf, rememberedOf, touchedOf, nothing?, spent?, firstRead, copyBy, copyTick}
+use Rattle.model.specs.Transaction.{accessTick, checkBy, againRead, commandTick, transactionTick, commitCommandBy, committingBy}
 use Rattle.model.specs.Machine.{answer, noTask, taskAt, readBy, swapBy, plainTick, statement}
 use Rattle.model.proofs.Lists.{at-map}
 use Rattle.model.proofs.Exchanges.Act.{Act, free, reading, actAt, actOf, actAfter, memoryAfter}
@@ -52,7 +53,8 @@ pub record SameCells (m n : Memory) : Type 0 where
 
 -- the exchange that a statement of task t is a tick of
 pub data ExchangeIn (t : Task) : Exchange → Type 0 where
-  begins : (r : ℕ) (l : List BodyCommand) → t .job .phase ≡ plain → t .job .commands ≡ outside (SWAP r) ∷ l → ExchangeIn t (exchangeOf (t .job .pairs))
+  begins : (r : ℕ) (l : List BodyCommand) → t .job .phase ≡ plain → t .job .commands ≡ outside (SWAP r) ∷ l
+      → ExchangeIn t (exchangeOf (t .job .pairs))
   goes-on : (r : ℕ) {x : Exchange} → t .job .phase ≡ exchanging r x → ExchangeIn t x
   commits : (y : Transaction) {x : Exchange} → t .job .phase ≡ transacting y (committing x) → ExchangeIn t x
 
@@ -61,7 +63,8 @@ pub data Touches (p : ℕ) (m : Memory) (t : Task) : Act → Memory → Act → 
   nothing : {n : Memory} → SameCells m n → Touches p m t free n free
   loads : (c : ℕ) → Touches p m t free m (reading c (looking (cellOf m c)))
   looks : {v : Act} (c : ℕ) (r : Reading) → v ≡ actRead c (readTick m c r) → Touches p m t (reading c r) m v
-  exchanges : (x : Exchange) → ExchangeIn t x → Touches p m t (actOf x) (memoryAfter (exchangeTick p m x (x .step))) (actAfter (exchangeTick p m x (x .step)))
+  exchanges : (x : Exchange) → ExchangeIn t x
+      → Touches p m t (actOf x) (memoryAfter (exchangeTick p m x (x .step))) (actAfter (exchangeTick p m x (x .step)))
 
 same-memory : (m : Memory) → SameCells m m
 same-memory m = record { stores = m .stores; is = refl }
@@ -75,7 +78,8 @@ module _ (p : ℕ) (m : Memory) (t : Task) where
   stays : {v : Act} → v ≡ free → Touches p m t free m v
   stays e = rw e (nothing (same-memory m))
 
-  plain-touches : t .job .phase ≡ plain → (l : List BodyCommand) → t .job .commands ≡ l → Touches p m t free (plainTick p m t l .memory) (actIn (plainTick p m t l .task .job .phase))
+  plain-touches : t .job .phase ≡ plain → (l : List BodyCommand) → t .job .commands ≡ l
+      → Touches p m t free (plainTick p m t l .memory) (actIn (plainTick p m t l .task .job .phase))
   unfolding plainTick readTick readBy exchangeTick swapBy
   plain-touches e [] k = stays (rw e)
   plain-touches e (LOAD r v ∷ l) k = stays (done-free (rest (t .job .commands)) t _ _ _)
@@ -102,20 +106,26 @@ module _ (p : ℕ) (m : Memory) (t : Task) where
   read-touches c (looking w) v e = looks c (looking w) (e ∙ look-after c (own (m .status) w) w)
   read-touches c (fetching w) v e = looks c (fetching w) e
 
-  word-touches : (r w : ℕ) (s : Reading) (o : Read) → readTick m w s ≡ o → Touches p m t (readAct w s) (readBy m t r w o .memory) (actIn (readBy m t r w o .task .job .phase))
+  word-touches : (r w : ℕ) (s : Reading) (o : Read) → readTick m w s ≡ o
+      → Touches p m t (readAct w s) (readBy m t r w o .memory) (actIn (readBy m t r w o .task .job .phase))
   unfolding readBy
   word-touches r w s (reads s′) e = read-touches w s (readAct w s′) (rw e)
-  word-touches r w s (gives v) e = read-touches w s _ (rw e (done-free (rest (t .job .commands)) t (replace (t .job .registers) r v) (t .job .pairs) (t .copies)))
+  word-touches r w s (gives v) e =
+      read-touches w s _ (rw e (done-free (rest (t .job .commands)) t (replace (t .job .registers) r v) (t .job .pairs) (t .copies)))
 
   -- IN AN EXCHANGE
-  swap-touches : (r : ℕ) (x : Exchange) → t .job .phase ≡ exchanging r x → (o : Exchanged) → exchangeTick p m x (x .step) ≡ o → Touches p m t (actOf x) (swapBy t r x o .memory) (actIn (swapBy t r x o .task .job .phase))
+  swap-touches : (r : ℕ) (x : Exchange) → t .job .phase ≡ exchanging r x → (o : Exchanged) → exchangeTick p m x (x .step) ≡ o
+      → Touches p m t (actOf x) (swapBy t r x o .memory) (actIn (swapBy t r x o .task .job .phase))
   unfolding swapBy
   swap-touches r x k (goes m′ x′) e = subst (λ (o : Exchanged). Touches p m t (actOf x) (memoryAfter o) (actAfter o)) e (exchanges x (goes-on r k))
-  swap-touches r x k (ends m′ yes?) e = rw (done-free (rest (t .job .commands)) t (replace (t .job .registers) r (answer yes?)) [] (t .copies)) (subst (λ (o : Exchanged). Touches p m t (actOf x) (memoryAfter o) (actAfter o)) e (exchanges x (goes-on r k)))
+  swap-touches r x k (ends m′ yes?) e =
+      rw (done-free (rest (t .job .commands)) t (replace (t .job .registers) r (answer yes?)) [] (t .copies))
+      (subst (λ (o : Exchanged). Touches p m t (actOf x) (memoryAfter o) (actAfter o)) e (exchanges x (goes-on r k)))
 
   -- IN A TRANSACTION
   module _ (x : Transaction) where
-    first-touches : (a : Access) (r : Reading) (o : Read) → readTick m (bank (blockOf a)) r ≡ o → Touches p m t (readAct (bank (blockOf a)) r) (firstRead m t x a o .memory) (actIn (firstRead m t x a o .task .job .phase))
+    first-touches : (a : Access) (r : Reading) (o : Read) → readTick m (bank (blockOf a)) r ≡ o
+        → Touches p m t (readAct (bank (blockOf a)) r) (firstRead m t x a o .memory) (actIn (firstRead m t x a o .task .job .phase))
     unfolding firstRead
     first-touches a r (reads s) e = read-touches (bank (blockOf a)) r (readAct (bank (blockOf a)) s) (rw e)
     first-touches a r (gives v) e = read-touches (bank (blockOf a)) r free (rw e)
@@ -132,14 +142,16 @@ module _ (p : ℕ) (m : Memory) (t : Task) where
     check-free true (PUT b o r) v = refl
     check-free false a v = refl
 
-    again-touches : (a : Access) (v : ℕ) (r : Reading) (o : Read) → readTick m (bank (blockOf a)) r ≡ o → Touches p m t (readAct (bank (blockOf a)) r) (againRead m t x a v o .memory) (actIn (againRead m t x a v o .task .job .phase))
+    again-touches : (a : Access) (v : ℕ) (r : Reading) (o : Read) → readTick m (bank (blockOf a)) r ≡ o
+        → Touches p m t (readAct (bank (blockOf a)) r) (againRead m t x a v o .memory) (actIn (againRead m t x a v o .task .job .phase))
     unfolding againRead
     again-touches a v r (reads s) e = read-touches (bank (blockOf a)) r (readAct (bank (blockOf a)) s) (rw e)
     again-touches a v r (gives w) e =
         let same : Bool = eqb (versionOf w) (versionOf (rememberedOf (touchedOf x (blockOf a)))) in
         rw (check-memory same a v) (read-touches (bank (blockOf a)) r _ (rw e (check-free same a v)))
 
-    copy-touches : (b : Bool) (n : Memory) (a : Access) (k : ℕ) → SameCells m n → Touches p m t free (copyBy b n t x a k .memory) (actIn (copyBy b n t x a k .task .job .phase))
+    copy-touches : (b : Bool) (n : Memory) (a : Access) (k : ℕ) → SameCells m n
+        → Touches p m t free (copyBy b n t x a k .memory) (actIn (copyBy b n t x a k .task .job .phase))
     unfolding copyBy
     copy-touches true n a k s = nothing s
     copy-touches false n a k s = nothing s
@@ -162,7 +174,8 @@ module _ (p : ℕ) (m : Memory) (t : Task) where
     commit-touches false true = stays refl
     commit-touches false false = stays refl
 
-    command-touches : t .job .phase ≡ transacting x between → (l : List BodyCommand) → Touches p m t free (commandTick m t x l .memory) (actIn (commandTick m t x l .task .job .phase))
+    command-touches : t .job .phase ≡ transacting x between → (l : List BodyCommand)
+        → Touches p m t free (commandTick m t x l .memory) (actIn (commandTick m t x l .task .job .phase))
     unfolding commandTick
     command-touches e [] = stays (rw e)
     command-touches e (LOAD r v ∷ l) = stays refl
@@ -171,13 +184,19 @@ module _ (p : ℕ) (m : Memory) (t : Task) where
     command-touches e (inside COMMIT ∷ l) = commit-touches (nothing? (x .blocks)) (spent? (x .blocks))
     command-touches e (outside c ∷ l) = stays (rw e)
 
-    committing-touches : (e : Exchange) → t .job .phase ≡ transacting x (committing e) → (o : Exchanged) → exchangeTick p m e (e .step) ≡ o → Touches p m t (actOf e) (committingBy t x e o .memory) (actIn (committingBy t x e o .task .job .phase))
+    committing-touches : (e : Exchange) → t .job .phase ≡ transacting x (committing e) → (o : Exchanged) → exchangeTick p m e (e .step) ≡ o
+        → Touches p m t (actOf e) (committingBy t x e o .memory) (actIn (committingBy t x e o .task .job .phase))
     unfolding committingBy
-    committing-touches e k (goes m′ e′) q = subst (λ (o : Exchanged). Touches p m t (actOf e) (memoryAfter o) (actAfter o)) q (exchanges e (commits x k))
-    committing-touches e k (ends m′ true) q = rw (done-free (rest (t .job .commands)) t) (subst (λ (o : Exchanged). Touches p m t (actOf e) (memoryAfter o) (actAfter o)) q (exchanges e (commits x k)))
-    committing-touches e k (ends m′ false) q = subst (λ (o : Exchanged). Touches p m t (actOf e) (memoryAfter o) (actAfter o)) q (exchanges e (commits x k))
+    committing-touches e k (goes m′ e′) q =
+        subst (λ (o : Exchanged). Touches p m t (actOf e) (memoryAfter o) (actAfter o)) q (exchanges e (commits x k))
+    committing-touches e k (ends m′ true) q =
+        rw (done-free (rest (t .job .commands)) t)
+        (subst (λ (o : Exchanged). Touches p m t (actOf e) (memoryAfter o) (actAfter o)) q (exchanges e (commits x k)))
+    committing-touches e k (ends m′ false) q =
+        subst (λ (o : Exchanged). Touches p m t (actOf e) (memoryAfter o) (actAfter o)) q (exchanges e (commits x k))
 
-    inner-touches : (s : Inner) → t .job .phase ≡ transacting x s → Touches p m t (innerAct s) (transactionTick p m t x s .memory) (actIn (transactionTick p m t x s .task .job .phase))
+    inner-touches : (s : Inner) → t .job .phase ≡ transacting x s
+        → Touches p m t (innerAct s) (transactionTick p m t x s .memory) (actIn (transactionTick p m t x s .task .job .phase))
     unfolding transactionTick
     inner-touches between e = command-touches e (t .job .commands)
     inner-touches (first a r) e = first-touches a r (readTick m (bank (blockOf a)) r) refl

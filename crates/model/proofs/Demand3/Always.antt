@@ -31,7 +31,8 @@ use Rattle.model.proofs.Demand3.State.{Holds, invariant-again, holds-ar
 use Rattle.model.proofs.Demand3.Latest.{latestOperation}
 
 -- AN IDLE TICK
-module _ {s : Sheet} {values : ℕ → ℕ → ℕ} {u : ℕ} {m : Machine} {h : History} (none : (p : ℕ) → taskAt (m .tasks) p .job .phase ≡ idle) (k : Holds s values u m h) where
+module _ {s : Sheet} {values : ℕ → ℕ → ℕ} {u : ℕ} {m : Machine} {h : History} (none : (p : ℕ) → taskAt (m .tasks) p .job .phase ≡ idle)
+    (k : Holds s values u m h) where
   all-free : (p : ℕ) → actAt (actsOf (m .tasks)) p ≡ free
   all-free p = act-at (m .tasks) p ∙ rw (none p)
 
@@ -51,7 +52,9 @@ Valid w = w .valid ≡ true
 
 valid-filled : (n : ℕ) (l : List Word) → ((c : ℕ) → Valid (at (freshWord 0) l c)) → (c : ℕ) → Valid (at (freshWord 0) (filled n (freshWord 0) l) c)
 unfolding filled
-valid-filled n l f = append-every (freshWord 0) Valid l (replicate (n - length l) (freshWord 0)) f (replicate-every (freshWord 0) Valid (n - length l) (freshWord 0) refl refl)
+valid-filled n l f =
+    append-every (freshWord 0) Valid l (replicate (n - length l) (freshWord 0)) f
+    (replicate-every (freshWord 0) Valid (n - length l) (freshWord 0) refl refl)
 
 valid-banks : (store : ℕ) (bs : List Block) (c : ℕ) → Valid (at (freshWord 0) (banksFrom store bs) c)
 unfolding at banksFrom
@@ -103,7 +106,8 @@ module _ {s : Sheet} (c : SheetFit s) where
         ∙ ap (λ (n : Memory). currentOf n a) (sym (arrived-at (startMachine s) t .memory))
 
     step : (r : Running) → runningOf (arrivedAt (startMachine s) t) ≡ r → Fit s (move (arrivedAt (startMachine s) t) r)
-        → Holds s valueAfter (suc (arrivedAt (startMachine s) t .now)) (move (arrivedAt (startMachine s) t) r) (observed (arrivedAt (startMachine s) t) r (historyAfter (startMachine s) t))
+        → Holds s valueAfter (suc (arrivedAt (startMachine s) t .now)) (move (arrivedAt (startMachine s) t) r)
+        (observed (arrivedAt (startMachine s) t) r (historyAfter (startMachine s) t))
     step nobody e f = holds-idle (none-runs (arrivedAt (startMachine s) t) e) holds-at f
     step (running p) e f = holds-runs c (arrived-linked (started c) t) holds-at value-now p (running-foremost e) f
 
@@ -113,7 +117,8 @@ module _ {s : Sheet} (c : SheetFit s) where
         let f : Fit s (move n (runningOf n)) = subst (λ (z : Machine). Fit s z) (state-next (startMachine s) t) fit-next in
         subst (λ (z : Machine). Holds s valueAfter (suc t) z (historyAfter (startMachine s) (suc t))) (sym (state-next (startMachine s) t))
         (subst (λ (z : History). Holds s valueAfter (suc t) (move n (runningOf n)) z) (sym (history-next (startMachine s) t))
-        (subst (λ (u : ℕ). Holds s valueAfter (suc u) (move n (runningOf n)) (observed n (runningOf n) (historyAfter (startMachine s) t))) (arrived-now (started c) t)
+        (subst (λ (u : ℕ). Holds s valueAfter (suc u) (move n (runningOf n)) (observed n (runningOf n) (historyAfter (startMachine s) t)))
+        (arrived-now (started c) t)
         (step (runningOf n) refl f)))
 
   pub holds : (t : ℕ) → Holds s valueAfter t (stateAfter (startMachine s) t) (historyAfter (startMachine s) t)

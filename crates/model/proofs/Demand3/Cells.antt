@@ -1,4 +1,5 @@
--- The exchange layer at a statement of the task that runs: the invariant stays, current values stay but for a Commit that says yes, and so does what others have loaded.
+-- The exchange layer at a statement of the task that runs: the invariant stays, current values stay but for a Commit that says yes,
+-- and so does what others have loaded.
 use Prim.Native.Nat.{ℕ, _+_, _<_, _≤_}
 use mathlib.Core.Bool.{Bool, true, false, true≢false}
 use mathlib.Core.Path.{_≡_, refl, sym, _∙_, ap, subst}
@@ -36,7 +37,8 @@ use Rattle.model.proofs.Transactions.Statement.{JobFit}
 use Rattle.model.proofs.History.Exchange.{saysYes, says-commit, says-not}
 use Rattle.model.proofs.History.Moves.{given}
 use Rattle.model.proofs.History.Linked.{InOperation, givenTo}
-use Rattle.model.proofs.Demand3.Acts.{readAct, actIn, taskAct, actsOf, act-at, ExchangeIn, begins, goes-on, commits, Touches, nothing, loads, looks, exchanges}
+use Rattle.model.proofs.Demand3.Acts.{readAct, actIn, taskAct, actsOf, act-at, ExchangeIn, begins}
+use Rattle.model.proofs.Demand3.Acts.{goes-on, commits, Touches, nothing, loads, looks, exchanges}
 
 -- THE ORDER: `began r` is the tick in which the operation of task r began
 abbrev pub below : (ℕ → ℕ) → ℕ → ℕ → Type 0
@@ -81,22 +83,36 @@ pub record Ready (words blocks : ℕ) (began : ℕ → ℕ) (m : Memory) (ts : L
   pub invariant : Invariant (below began) m (actsOf ts)
 
 module _ {words blocks : ℕ} {began : ℕ → ℕ} {m : Memory} {ts : List Task} {p : ℕ} (R : Ready words blocks began m ts p) where
-  pub job-as : (g : Phase) → taskAt ts p .job .phase ≡ g → PhaseFit words blocks (taskAt ts p .copies) (taskAt ts p .job .commands) (taskAt ts p .job .pairs) g
+  pub job-as : (g : Phase) → taskAt ts p .job .phase ≡ g
+      → PhaseFit words blocks (taskAt ts p .copies) (taskAt ts p .job .commands) (taskAt ts p .job .pairs) g
   job-as g e = subst (λ (g : Phase). PhaseFit words blocks (taskAt ts p .copies) (taskAt ts p .job .commands) (taskAt ts p .job .pairs) g) e (R .job)
 
   work : {x : Exchange} → ExchangeIn (taskAt ts p) x → Work x
   work (begins r l e k) =
-      let o : OutsideFit words blocks (outside (SWAP r) ∷ l) (taskAt ts p .job .pairs) = subst (λ (z : List BodyCommand). OutsideFit words blocks z (taskAt ts p .job .pairs)) k (job-as plain e .outside) in
-      record { low = 0; high = words; pairs = taskAt ts p .job .pairs; fit = exchange-start (some-pairs (taskAt ts p .job .pairs) (o .known .body) (o .waiting) (first-fits o .fits .some)) (o .pairs); most = omega (arith, R .fewWords) }
-  work (goes-on r {x} e) = record { low = 0; high = words; pairs = taskAt ts p .job .pairs; fit = job-as (exchanging r x) e .exchange; most = omega (arith, R .fewWords) }
-  work (commits y {x} e) = record { low = 32; high = 32 + blocks; pairs = _; fit = job-as (transacting y (committing x)) e .inner .exchange; most = omega (arith, R .fewBlocks) }
+      let o : OutsideFit words blocks (outside (SWAP r) ∷ l) (taskAt ts p .job .pairs) =
+      subst (λ (z : List BodyCommand). OutsideFit words blocks z (taskAt ts p .job .pairs)) k (job-as plain e .outside) in
+      record {
+        low = 0;
+        high = words;
+        pairs = taskAt ts p .job .pairs;
+        fit = exchange-start (some-pairs (taskAt ts p .job .pairs) (o .known .body) (o .waiting) (first-fits o .fits .some)) (o .pairs);
+        most = omega (arith, R .fewWords);
+      }
+  work (goes-on r {x} e) =
+      record { low = 0; high = words; pairs = taskAt ts p .job .pairs; fit = job-as (exchanging r x) e .exchange; most = omega (arith, R .fewWords) }
+  work (commits y {x} e) =
+      record { low = 32; high = 32 + blocks; pairs = _; fit = job-as (transacting y (committing x)) e .inner .exchange; most = omega (arith, R .fewBlocks) }
 
   pub room : {x : Exchange} → ExchangeIn (taskAt ts p) x → Room m p (x .entries)
   room i =
       let w = work i in
       let g = R .memory in
       let l : p < 8 = omega (arith, R .there, R .size) in
-      record { saves = omega (arith, g .saves); places = omega (arith, g .save p l, w .fit .entries .most); cells = λ e h. omega (arith, g .cells, w .fit .entries .below e h, w .most) }
+      record {
+        saves = omega (arith, g .saves);
+        places = omega (arith, g .save p l, w .fit .entries .most);
+        cells = λ e h. omega (arith, g .cells, w .fit .entries .below e h, w .most);
+      }
 
   pub distinct : {x : Exchange} → ExchangeIn (taskAt ts p) x → Distinct (x .entries)
   distinct i = work i .fit .entries .different
@@ -129,7 +145,8 @@ commit-memory p m x false e = absurd (true≢false (sym e))
 yes-memory : (p : ℕ) (m : Memory) (x : Exchange) (s : Step) → saysYes p m s ≡ true → memoryAfter (exchangeTick p m x s) ≡ setStatus m p 2
 unfolding exchangeTick
 yes-memory p m x s e = let c = says-commit p m s e in
-    subst (λ (z : Step). saysYes p m z ≡ true → memoryAfter (exchangeTick p m x z) ≡ setStatus m p 2) (sym (c .0)) (λ k. commit-memory p m x (eqb (statusOf m p) 0) k) e
+    subst (λ (z : Step). saysYes p m z ≡ true → memoryAfter (exchangeTick p m x z) ≡ setStatus m p 2) (sym (c .0))
+    (λ k. commit-memory p m x (eqb (statusOf m p) 0) k) e
 
 start-memory : (p : ℕ) (m : Memory) (x : Exchange) (s : Step) → s ≡ start → memoryAfter (exchangeTick p m x s) ≡ setStatus m p 0
 unfolding exchangeTick
@@ -160,7 +177,8 @@ module _ (of : ℕ → Type 0) (status : List ℕ) (saves : List (List ℕ)) (ac
   nothing-loaded : {P : Type 0} {w : Word} → _≡_ {A = Option Word} none (some w) → P
   nothing-loaded e = impossible (cc)
 
-  loaded-content : (f : Phase) (w : Word) → loadedBy (readingIn f) ≡ some w → Knows of status saves acts q (actIn f) → (c : ℕ) × WellFormed of acts c w
+  loaded-content : (f : Phase) (w : Word) → loadedBy (readingIn f) ≡ some w → Knows of status saves acts q (actIn f)
+      → (c : ℕ) × WellFormed of acts c w
   loaded-content idle w e k = nothing-loaded e
   loaded-content plain w e k = nothing-loaded e
   loaded-content (readingPhase r c s) w e k = loaded-in c s w e k
@@ -173,7 +191,8 @@ module _ (of : ℕ → Type 0) (status : List ℕ) (saves : List (List ℕ)) (ac
 
 -- WHAT THE STATEMENT LEAVES
 module _ {words blocks : ℕ} {began : ℕ → ℕ} {m : Memory} {ts : List Task} {p : ℕ} (R : Ready words blocks began m ts p) where
-  pub invariant-after : {v v′ : Act} {n : Memory} → actIn (taskAt ts p .job .phase) ≡ v → Touches p m (taskAt ts p) v n v′ → Invariant (below began) n (replace (actsOf ts) p v′)
+  pub invariant-after : {v v′ : Act} {n : Memory} → actIn (taskAt ts p .job .phase) ≡ v → Touches p m (taskAt ts p) v n v′
+      → Invariant (below began) n (replace (actsOf ts) p v′)
   invariant-after e (nothing s) = rw (s .is) (stores-kept (s .stores) (free-kept (situation R e) tt))
   invariant-after e (loads c) = load-kept (situation R e) tt c
   invariant-after e (looks c k q) = rw q (reading-kept c k (situation R e))
@@ -188,7 +207,8 @@ module _ {words blocks : ℕ} {began : ℕ → ℕ} {m : Memory} {ts : List Task
       (λ k. exchange-moved (situation R (e ∙ k)) (room R i) (outcome p m x) .frame)
 
   -- no exchange is at work, or only begins
-  quiet-cells : {n : Memory} {v : Act} → actIn (taskAt ts p .job .phase) ≡ v → ((x : Exchange) → v ≡ exchangingAct x → ⊥) → ((c : ℕ) → currentOf n c ≡ currentOf m c) → Cells p m (taskAt ts p .job .phase) n
+  quiet-cells : {n : Memory} {v : Act} → actIn (taskAt ts p .job .phase) ≡ v → ((x : Exchange) → v ≡ exchangingAct x → ⊥)
+      → ((c : ℕ) → currentOf n c ≡ currentOf m c) → Cells p m (taskAt ts p .job .phase) n
   quiet-cells e ne h = sameCells (λ x y. ne x (sym e ∙ yes-act y)) h
 
   exchange-is : {x : Exchange} → ExchangeIn (taskAt ts p) x → x .step ≡ commit → exchangeIn (taskAt ts p .job .phase) ≡ some x
@@ -196,14 +216,21 @@ module _ {words blocks : ℕ} {began : ℕ → ℕ} {m : Memory} {ts : List Task
   exchange-is (goes-on q e) c = rw e
   exchange-is (commits y e) c = rw e
 
-  exchange-cells : (x : Exchange) → ExchangeIn (taskAt ts p) x → actIn (taskAt ts p .job .phase) ≡ exchangingAct x → Cells p m (taskAt ts p .job .phase) (memoryAfter (exchangeTick p m x (x .step)))
+  exchange-cells : (x : Exchange) → ExchangeIn (taskAt ts p) x → actIn (taskAt ts p .job .phase) ≡ exchangingAct x
+      → Cells p m (taskAt ts p .job .phase) (memoryAfter (exchangeTick p m x (x .step)))
   exchange-cells x i e = test? (saysYes p m (x .step))
       (λ t. let c = says-commit p m (x .step) t in
       swapped x (record { exchange = exchange-is i (c .0); step = c .0; status = c .1 }) (commit-all (situation R e) (c .0) (c .1))
-      (rw (yes-memory p m x (x .step) t) (record { old = commit-old (situation R e) (c .0) (c .1); new = commit-new (situation R e) (c .0) (c .1); others = commit-others (situation R e) (c .0) (c .1) })))
-      (λ n. sameCells (λ y Y. let z : x ≡ y = cc (e, yes-act Y) in says-not p m (x .step) n (rw z (Y .step)) (Y .status)) (current-kept (situation R e) (room R i) (outcome p m x) (says-not p m (x .step) n)))
+      (rw (yes-memory p m x (x .step) t) (record {
+        old = commit-old (situation R e) (c .0) (c .1);
+        new = commit-new (situation R e) (c .0) (c .1);
+        others = commit-others (situation R e) (c .0) (c .1);
+      })))
+      (λ n. sameCells (λ y Y. let z : x ≡ y = cc (e, yes-act Y) in says-not p m (x .step) n (rw z (Y .step)) (Y .status))
+      (current-kept (situation R e) (room R i) (outcome p m x) (says-not p m (x .step) n)))
 
-  cells-after : {v v′ : Act} {n : Memory} → actIn (taskAt ts p .job .phase) ≡ v → Touches p m (taskAt ts p) v n v′ → Cells p m (taskAt ts p .job .phase) n
+  cells-after : {v v′ : Act} {n : Memory} → actIn (taskAt ts p .job .phase) ≡ v → Touches p m (taskAt ts p) v n v′
+      → Cells p m (taskAt ts p .job .phase) n
   cells-after e (nothing s) = quiet-cells e (λ x k. impossible (cc)) (λ c. rw (s .is) refl)
   cells-after e (loads c) = quiet-cells e (λ x k. impossible (cc)) (λ c. refl)
   cells-after e (looks c k q) = quiet-cells e (λ x k. impossible (cc)) (λ c. refl)
@@ -212,10 +239,12 @@ module _ {words blocks : ℕ} {began : ℕ → ℕ} {m : Memory} {ts : List Task
       quiet-cells (e ∙ k) (λ y q. impossible (cc)) (λ c. rw (start-memory p m x (x .step) s) (start-current (situation R (e ∙ k)) tt c)))
       (λ k. exchange-cells x i (e ∙ k))
 
-  readings-after : {n : Memory} → Frame p m n → (q : ℕ) → q ≢ p → (w : Word) → loadedBy (readingIn (taskAt ts q .job .phase)) ≡ some w → SameContent m n w
+  readings-after : {n : Memory} → Frame p m n → (q : ℕ) → q ≢ p → (w : Word) → loadedBy (readingIn (taskAt ts q .job .phase)) ≡ some w
+      → SameContent m n w
   readings-after {n} F q ne w e =
       let l = R .last q ne (loaded-inside (taskAt ts q .job .phase) e) in
-      let k : Knows (λ z. below began z q) (m .status) (m .saves) (actsOf ts) q (actIn (taskAt ts q .job .phase)) = subst (λ (v : Act). Knows (λ z. below began z q) (m .status) (m .saves) (actsOf ts) q v) (act-at ts q) (R .invariant .knows q) in
+      let k : Knows (λ z. below began z q) (m .status) (m .saves) (actsOf ts) q (actIn (taskAt ts q .job .phase)) =
+      subst (λ (v : Act). Knows (λ z. below began z q) (m .status) (m .saves) (actsOf ts) q v) (act-at ts q) (R .invariant .knows q) in
       let c = loaded-content (λ z. below began z q) (m .status) (m .saves) (actsOf ts) q (taskAt ts q .job .phase) w e k in
       let other : (z : ℕ) → below began z q → z ≢ p = λ z b d. let x : began p < began q = rw d at b in omega arith in
       record { value = current-frame F other (c .1); counts = own-frame F other (c .1) }

@@ -37,11 +37,15 @@ pub record PastAfter (began : ℕ → ℕ) (values : ℕ → ℕ → ℕ) (u : �
   pub pairs : ℕ → List Entry
   pub past : Past (below began) (knowledge values u h pairs) m acts
 
-module _ {u p words blocks : ℕ} {m : Memory} {ts : List Task} {h h′ : History} {g′ : Option Arguments} {yes? : Bool} {values : ℕ → ℕ → ℕ} {pairs : ℕ → List Entry}
-    (R : Ready words blocks (beganIn u ts h) m ts p) (l : Linked u ts h) (n : Next u p h h′ (givenTo ts p) g′ yes?) (now : (c : ℕ) → values u c ≡ currentOf m c) (P : Past (below (beganIn u ts h)) (knowledge values u h pairs) m (actsOf ts)) where
+module _ {u p words blocks : ℕ} {m : Memory} {ts : List Task} {h h′ : History} {g′ : Option Arguments} {yes? : Bool} {values : ℕ → ℕ → ℕ}
+    {pairs : ℕ → List Entry}
+    (R : Ready words blocks (beganIn u ts h) m ts p) (l : Linked u ts h) (n : Next u p h h′ (givenTo ts p) g′ yes?)
+    (now : (c : ℕ) → values u c ≡ currentOf m c) (P : Past (below (beganIn u ts h)) (knowledge values u h pairs) m (actsOf ts)) where
   pub same-pairs : (x : Exchange) → actIn (taskAt ts p .job .phase) ≡ exchangingAct x → SamePairs (x .entries) (pairs p)
   same-pairs x e =
-      let k : PastExchange (below (beganIn u ts h)) (knowledge values u h pairs) (m .cells) (m .status) (m .saves) (actsOf ts) p x = subst (λ (v : Act). PastAct (below (beganIn u ts h)) (knowledge values u h pairs) (m .cells) (m .status) (m .saves) (actsOf ts) p v) (act-at ts p ∙ e) (P .knows p) in
+      let k : PastExchange (below (beganIn u ts h)) (knowledge values u h pairs) (m .cells) (m .status) (m .saves) (actsOf ts) p x = subst
+      (λ (v : Act). PastAct (below (beganIn u ts h)) (knowledge values u h pairs) (m .cells) (m .status) (m .saves) (actsOf ts) p v) (act-at ts p ∙ e)
+      (P .knows p) in
       k .pairs
 
   T : Passes (below (beganIn u ts h)) (actsOf ts) p (knowledge values u h pairs) (knowledge values (suc u) h′ pairs)
@@ -57,29 +61,35 @@ module _ {u p words blocks : ℕ} {m : Memory} {ts : List Task} {h h′ : Histor
         (λ k. let a : actIn (taskAt ts p .job .phase) ≡ free = e ∙ rw s in impossible (cc (b .act, ap (actAt (actsOf ts)) k, act-at ts p)))
         (λ ne. rw (ne-eqb q p ne))
 
-    start-passes : Passes (below (beganIn u ts h)) (actsOf ts) p (knowledge values u h pairs) (knowledge values (suc u) h′ (pairsWith p (x .entries) pairs))
+    start-passes :
+        Passes (below (beganIn u ts h)) (actsOf ts) p (knowledge values u h pairs) (knowledge values (suc u) h′ (pairsWith p (x .entries) pairs))
     start-passes = passes R l n same-pairs others-keep
 
-    start-past-after : Past (below (beganIn u ts h)) (knowledge values (suc u) h′ (pairsWith p (x .entries) pairs)) (memoryAfter (exchangeTick p m x (x .step))) (replace (actsOf ts) p (actAfter (exchangeTick p m x (x .step))))
+    start-past-after : Past (below (beganIn u ts h)) (knowledge values (suc u) h′ (pairsWith p (x .entries) pairs))
+        (memoryAfter (exchangeTick p m x (x .step))) (replace (actsOf ts) p (actAfter (exchangeTick p m x (x .step))))
     start-past-after =
         exchange-past start-passes (sees-now R l n (pairsWith p (x .entries) pairs) now) P x (situation R e) (room R i)
         (λ s. (distinct R i, rw (eq-eqb p p refl) (same-refl (x .entries))))
 
-  pub past-after : {v v′ : Act} {m′ : Memory} → actIn (taskAt ts p .job .phase) ≡ v → Touches p m (taskAt ts p) v m′ v′ → PastAfter (beganIn u ts h) values (suc u) h′ m′ (replace (actsOf ts) p v′)
+  pub past-after : {v v′ : Act} {m′ : Memory} → actIn (taskAt ts p .job .phase) ≡ v → Touches p m (taskAt ts p) v m′ v′
+      → PastAfter (beganIn u ts h) values (suc u) h′ m′ (replace (actsOf ts) p v′)
   past-after e (nothing s) = let k = free-past (situation R e) tt T P in record { pairs = pairs; past = rw (s .is) (record { knows = k .knows }) }
   past-after e (loads c) = record { pairs = pairs; past = load-past (situation R e) tt T P sees c }
   past-after e (looks c k q) = record { pairs = pairs; past = rw q (reading-past c T sees P k (situation R e)) }
   past-after e (exchanges x i) = started? x
       (λ s. record { pairs = pairsWith p (x .entries) pairs; past = start-past-after x i s e })
-      (λ k. record { pairs = pairs; past = exchange-past T sees P x (situation R e) (room R i) (λ s. impossible (cc (k, ap (λ (z : Step). actBy z x) s))) })
+      (λ k.
+      record { pairs = pairs; past = exchange-past T sees P x (situation R e) (room R i) (λ s. impossible (cc (k, ap (λ (z : Step). actBy z x) s))) })
 
   -- a READ gives a value that its word had
-  pub read-seen : (q w : ℕ) (s : Reading) (v : ℕ) → taskAt ts p .job .phase ≡ readingPhase q w s → readTick m w s ≡ gives v → Seen values (suc u) h′ p w v
+  pub read-seen : (q w : ℕ) (s : Reading) (v : ℕ) → taskAt ts p .job .phase ≡ readingPhase q w s → readTick m w s ≡ gives v
+      → Seen values (suc u) h′ p w v
   unfolding readTick
   read-seen q w loading v e k = impossible (cc)
   read-seen q w (looking c) v e k = reading-gives w T sees P (looking c) v (situation R (ap actIn e)) k
   read-seen q w (fetching c) v e k = reading-gives w T sees P (fetching c) v (situation R (ap actIn e)) k
 
   -- a SWAP that says no
-  pub no-seen : (x : Exchange) (m′ : Memory) → ExchangeIn (taskAt ts p) x → actIn (taskAt ts p .job .phase) ≡ exchangingAct x → exchangeTick p m x (x .step) ≡ ends m′ false → GroundsOf (knowledge values (suc u) h′ pairs) p
+  pub no-seen : (x : Exchange) (m′ : Memory) → ExchangeIn (taskAt ts p) x → actIn (taskAt ts p .job .phase) ≡ exchangingAct x
+      → exchangeTick p m x (x .step) ≡ ends m′ false → GroundsOf (knowledge values (suc u) h′ pairs) p
   no-seen x m′ i e k = no-has-grounds T sees P x m′ (situation R e) (room R i) k

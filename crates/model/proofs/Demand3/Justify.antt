@@ -31,7 +31,8 @@ use Rattle.model.proofs.Transactions.Given.{exchangeIn, SaysYes, Swappe
 use Rattle.model.proofs.Transactions.Machine.{statementOf}
 use Rattle.model.proofs.Transactions.Replay.{blocks-stay, contents-stay, commit-replays, nothing-replays}
 use Rattle.model.proofs.History.Exchange.{saysYes, says-commit, says-not, pairsOf}
-use Rattle.model.proofs.History.Moves.{given, innerCommitted, hasCommitted, readSettles, swapSettles, transactionSettles, commandSettles, innerSettles, settling}
+use Rattle.model.proofs.History.Moves.{given, innerCommitted, hasCommitted, readSettles, swapSettles}
+use Rattle.model.proofs.History.Moves.{transactionSettles, commandSettles, innerSettles, settling}
 use Rattle.model.proofs.History.Noted.{latestOf}
 use Rattle.model.proofs.History.Linked.{Open, OpenBy, InOperation, givenTo}
 use Rattle.model.proofs.History.Hit.{Hit}
@@ -47,7 +48,8 @@ use Rattle.model.proofs.Demand3.Latest.{latestOperation}
 use Rattle.model.proofs.Demand3.State.{Holds, ready, running-task}
 
 -- `memories t` is the shared memory after t ticks
-module _ {s : Sheet} (c : SheetFit s) (memories : ℕ → Memory) {m : Machine} {h : History} (linked : MachineLinked m h) (k : Holds s (λ t a. currentOf (memories t) a) (m .now) m h) (p : ℕ) (r : Foremost m p)
+module _ {s : Sheet} (c : SheetFit s) (memories : ℕ → Memory) {m : Machine} {h : History} (linked : MachineLinked m h)
+    (k : Holds s (λ t a. currentOf (memories t) a) (m .now) m h) (p : ℕ) (r : Foremost m p)
     (before : memories (m .now) ≡ m .memory) (after : memories (suc (m .now)) ≡ statementOf p (m .memory) (m .tasks) .memory) where
   abbrev contents : ℕ → Contents
   contents t = contentsOf s (memories t)
@@ -59,7 +61,8 @@ module _ {s : Sheet} (c : SheetFit s) (memories : ℕ → Memory) {m : Machine} 
   stays : ((x : Exchange) → SaysYes p (m .memory) (taskAt (m .tasks) p .job .phase) x → ⊥) → contents (m .now) ≡ contents (suc (m .now))
   stays f = rw (before, after) (sym (contents-stay s (running-task c linked k now p r) f))
 
-  no-exchange : {f : Phase} → taskAt (m .tasks) p .job .phase ≡ f → exchangeIn f ≡ none → (x : Exchange) → SaysYes p (m .memory) (taskAt (m .tasks) p .job .phase) x → ⊥
+  no-exchange : {f : Phase} → taskAt (m .tasks) p .job .phase ≡ f → exchangeIn f ≡ none → (x : Exchange)
+      → SaysYes p (m .memory) (taskAt (m .tasks) p .job .phase) x → ⊥
   no-exchange e z x y = impossible (cc (y .exchange, ap exchangeIn e))
 
   -- READ
@@ -68,7 +71,12 @@ module _ {s : Sheet} (c : SheetFit s) (memories : ℕ → Memory) {m : Machine} 
     found v z =
         let seen = read-seen (ready c linked k now p r) (linked .linked) (next-of linked p r) now (k .past .past) q w i v e z in
         let f = job-as (ready c linked k now p r) (readingPhase q w i) e in
-        record { tick = seen .tick; from = rw (← next-of linked p r .stays (rw e tt)) (seen .from); to = omega (arith, seen .before); value = word-at s (memories (seen .tick)) w (f .word) ∙ seen .value }
+        record {
+          tick = seen .tick;
+          from = rw (← next-of linked p r .stays (rw e tt)) (seen .from);
+          to = omega (arith, seen .before);
+          value = word-at s (memories (seen .tick)) w (f .word) ∙ seen .value;
+        }
 
     read-justified : (o : Read) → readTick (m .memory) w i ≡ o → Justified contents (m .now) p h (readSettles w o)
     read-justified (reads j) z = stays (no-exchange e refl)
@@ -82,11 +90,15 @@ module _ {s : Sheet} (c : SheetFit s) (memories : ℕ → Memory) {m : Machine} 
     swap-yes : saysYes p (m .memory) (x .step) ≡ true → plainly (swapOf (pairsOf x)) (contents (m .now)) ≡ result (contents (suc (m .now))) (1 ∷ [])
     swap-yes y = rw (before, after) (go (running-task c linked k now p r .given .cells))
       where
-        go : Cells p (m .memory) (taskAt (m .tasks) p .job .phase) (statementOf p (m .memory) (m .tasks) .memory) → plainly (swapOf (pairsOf x)) (contentsOf s (m .memory)) ≡ result (contentsOf s (statementOf p (m .memory) (m .tasks) .memory)) (1 ∷ [])
-        go (same no-yes h) = let z = says-commit p (m .memory) (x .step) y in absurd (no-yes x (record { exchange = rw e; step = z .0; status = z .1 }))
+        go : Cells p (m .memory) (taskAt (m .tasks) p .job .phase) (statementOf p (m .memory) (m .tasks) .memory)
+            → plainly (swapOf (pairsOf x)) (contentsOf s (m .memory)) ≡ result (contentsOf s (statementOf p (m .memory) (m .tasks) .memory)) (1 ∷ [])
+        go (same no-yes h) =
+            let z = says-commit p (m .memory) (x .step) y in absurd (no-yes x (record { exchange = rw e; step = z .0; status = z .1 }))
         go (swapped z Y i X) =
             let w : z ≡ x = cc (Y .exchange, ap exchangeIn e) in
-            swap-replays s (x .entries) (subst (λ (b : Exchange). Swapped (m .memory) (statementOf p (m .memory) (m .tasks) .memory) (b .entries)) w X) (fit .exchange .entries .below) (fit .exchange .entries .different)
+            swap-replays s (x .entries)
+            (subst (λ (b : Exchange). Swapped (m .memory) (statementOf p (m .memory) (m .tasks) .memory) (b .entries)) w X)
+            (fit .exchange .entries .below) (fit .exchange .entries .different)
             (blocks-stay s (running-task c linked k now p r) (λ Z. impossible (cc (Z .phase))))
 
     not-yes : saysYes p (m .memory) (x .step) ≡ false → contents (m .now) ≡ contents (suc (m .now))
@@ -96,7 +108,8 @@ module _ {s : Sheet} (c : SheetFit s) (memories : ℕ → Memory) {m : Machine} 
     at-exchange : (o : Memory) → exchangeTick p (m .memory) x (x .step) ≡ ends o false → actIn (taskAt (m .tasks) p .job .phase) ≡ exchangingAct x
     unfolding exchangeTick
     at-exchange o z = rw e (started? x
-        (λ st. let y : exchangeTick p (m .memory) x start ≡ ends o false = subst (λ (b : Step). exchangeTick p (m .memory) x b ≡ ends o false) st z in impossible (cc))
+        (λ st. let y : exchangeTick p (m .memory) x start ≡ ends o false = subst (λ (b : Step). exchangeTick p (m .memory) x b ≡ ends o false) st z in
+        impossible (cc))
         (λ w. w))
 
     -- a hit that is known after the tick was there before it
@@ -108,7 +121,10 @@ module _ {s : Sheet} (c : SheetFit s) (memories : ℕ → Memory) {m : Machine} 
         record {
           by = b .by;
           other = b .other;
-          began = sym (t .else (b .by) (λ z. impossible (cc (b .began, t .none-begun inside, ap (operationAt (observed m (running p) h)) z))) (λ i z. omega (arith, b .after))) ∙ b .began;
+          began =
+              sym (t .else (b .by) (λ z. impossible (cc (b .began, t .none-begun inside, ap (operationAt (observed m (running p) h)) z)))
+              (λ i z. omega (arith, b .after)))
+              ∙ b .began;
           higher = b .higher;
           after = rw (← same-latest) (b .after);
           pairs = b .pairs;
@@ -120,7 +136,8 @@ module _ {s : Sheet} (c : SheetFit s) (memories : ℕ → Memory) {m : Machine} 
         }
 
     ground : (o : Memory) → exchangeTick p (m .memory) x (x .step) ≡ ends o false → Ground contents (m .now) p h (pairsOf x)
-    ground o z = go (no-seen (ready c linked k now p r) (linked .linked) (next-of linked p r) now (k .past .past) x o (goes-on q e) (at-exchange o z) z)
+    ground o z =
+        go (no-seen (ready c linked k now p r) (linked .linked) (next-of linked p r) now (k .past .past) x o (goes-on q e) (at-exchange o z) z)
       where
         pairs : SamePairs (x .entries) (k .past .pairs p)
         pairs = same-pairs (ready c linked k now p r) (linked .linked) (next-of linked p r) now (k .past .past) x (at-exchange o z)
@@ -128,17 +145,25 @@ module _ {s : Sheet} (c : SheetFit s) (memories : ℕ → Memory) {m : Machine} 
         within : (i : ℕ) → i < length (k .past .pairs p) → i < length (x .entries)
         within i l = omega (arith, pairs .size)
 
-        go : GroundsOf (knowledge (λ t a. currentOf (memories t) a) (suc (m .now)) (observed m (running p) h) (k .past .pairs)) p → Ground contents (m .now) p h (pairsOf x)
+        go : GroundsOf (knowledge (λ t a. currentOf (memories t) a) (suc (m .now)) (observed m (running p) h) (k .past .pairs)) p
+            → Ground contents (m .now) p h (pairsOf x)
         go (differs i v l seen ne) =
             let into = fit .exchange .entries .below i (within i l) in
             let value : currentOf (memories (seen .tick)) (entryOf (x .entries) i .cell) ≡ v = rw (pairs .cell i) (seen .value) in
             differed (pairOf (entryOf (x .entries) i)) (among-pairs (x .entries) i (within i l))
-            (record { tick = seen .tick; from = rw (← next-of linked p r .stays (rw e tt)) (seen .from); to = omega (arith, seen .before); value = word-at s (memories (seen .tick)) (entryOf (x .entries) i .cell) into ∙ value })
+            (record {
+              tick = seen .tick;
+              from = rw (← next-of linked p r .stays (rw e tt)) (seen .from);
+              to = omega (arith, seen .before);
+              value = word-at s (memories (seen .tick)) (entryOf (x .entries) i .cell) into ∙ value;
+            })
             (rw (pairs .old i) ne)
         go (beaten i l (inl far)) = absurd (omega (arith, fit .exchange .entries .below i (within i l), pairs .cell i, c .words))
-        go (beaten i l (inr b)) = hit (pairOf (entryOf (x .entries) i)) (among-pairs (x .entries) i (within i l)) (hit-before (rw (← pairs .cell i) at b))
+        go (beaten i l (inr b)) =
+            hit (pairOf (entryOf (x .entries) i)) (among-pairs (x .entries) i (within i l)) (hit-before (rw (← pairs .cell i) at b))
 
-    swap-justified : (y : Bool) → saysYes p (m .memory) (x .step) ≡ y → (o : Exchanged) → exchangeTick p (m .memory) x (x .step) ≡ o → Justified contents (m .now) p h (swapSettles y (pairsOf x) o)
+    swap-justified : (y : Bool) → saysYes p (m .memory) (x .step) ≡ y → (o : Exchanged) → exchangeTick p (m .memory) x (x .step) ≡ o
+        → Justified contents (m .now) p h (swapSettles y (pairsOf x) o)
     swap-justified true y o z = swap-yes y
     swap-justified false y (goes o x′) z = not-yes y
     swap-justified false y (ends o true) z = not-yes y
@@ -150,7 +175,9 @@ module _ {s : Sheet} (c : SheetFit s) (memories : ℕ → Memory) {m : Machine} 
     opened = subst (λ (f : Phase). OpenBy h p (given f) (hasCommitted f)) e (linked .linked .opened p)
 
     -- the plain transaction, with what the latest operation of the task was given
-    replayed : {d : Contents} → plainly (latestOperation h p .arguments) (contentsOf s (m .memory)) ≡ result d (latestOperation h p .answers) → (o : Operation) → operationAt h (latestOf h p) ≡ some o → plainly (transactionOf (x .kept) (untilCommit (x .commands))) (contentsOf s (m .memory)) ≡ result d (o .answers)
+    replayed : {d : Contents} → plainly (latestOperation h p .arguments) (contentsOf s (m .memory)) ≡ result d (latestOperation h p .answers)
+        → (o : Operation) → operationAt h (latestOf h p) ≡ some o
+        → plainly (transactionOf (x .kept) (untilCommit (x .commands))) (contentsOf s (m .memory)) ≡ result d (o .answers)
     replayed {d} z o is =
         let same-operation : opened .operation ≡ o = cc (opened .is) in
         let y : plainly (o .arguments) (contentsOf s (m .memory)) ≡ result d (o .answers) = rw is at z in
@@ -163,11 +190,14 @@ module _ {s : Sheet} (c : SheetFit s) (memories : ℕ → Memory) {m : Machine} 
     quiet b = not-committing (rw b)
 
     -- COMMIT, by: nothing was touched
-    nothing-justified : i ≡ between → (l : List BodyCommand) → taskAt (m .tasks) p .job .commands ≡ inside COMMIT ∷ l → (n : Bool) → nothing? (x .blocks) ≡ n → Justified contents (m .now) p h (transactionSettles n x)
-    nothing-justified b l z true n = λ o is. rw (← quiet b, before) (replayed (nothing-replays s (running-task c linked k now p r) x l (e ∙ ap (transacting x) b) z n) o is)
+    nothing-justified : i ≡ between → (l : List BodyCommand) → taskAt (m .tasks) p .job .commands ≡ inside COMMIT ∷ l → (n : Bool)
+        → nothing? (x .blocks) ≡ n → Justified contents (m .now) p h (transactionSettles n x)
+    nothing-justified b l z true n =
+        λ o is. rw (← quiet b, before) (replayed (nothing-replays s (running-task c linked k now p r) x l (e ∙ ap (transacting x) b) z n) o is)
     nothing-justified b l z false n = quiet b
 
-    command-justified : i ≡ between → (l : List BodyCommand) → taskAt (m .tasks) p .job .commands ≡ l → Justified contents (m .now) p h (commandSettles x l)
+    command-justified : i ≡ between → (l : List BodyCommand) → taskAt (m .tasks) p .job .commands ≡ l
+        → Justified contents (m .now) p h (commandSettles x l)
     command-justified b [] z = quiet b
     command-justified b (inside COMMIT ∷ l) z = nothing-justified b l z (nothing? (x .blocks)) refl
     command-justified b (LOAD q v ∷ l) z = quiet b
@@ -175,18 +205,29 @@ module _ {s : Sheet} (c : SheetFit s) (memories : ℕ → Memory) {m : Machine} 
     command-justified b (inside (access a) ∷ l) z = quiet b
     command-justified b (outside c ∷ l) z = quiet b
 
-    commit-justified : (y : Exchange) → i ≡ committing y → (b : Bool) → saysYes p (m .memory) (y .step) ≡ b → Justified contents (m .now) p h (transactionSettles b x)
-    commit-justified y z true b = λ o is. rw (before, after) (replayed (commit-replays s (running-task c linked k now p r) (record { transaction = x; exchange = y; phase = e ∙ ap (transacting x) z; step = says-commit p (m .memory) (y .step) b .0; status = says-commit p (m .memory) (y .step) b .1 })) o is)
-    commit-justified y z false b = stays (λ w Y. let u : w ≡ y = cc (Y .exchange, ap exchangeIn (e ∙ ap (transacting x) z)) in says-not p (m .memory) (y .step) b (rw u at (Y .step)) (Y .status))
+    commit-justified : (y : Exchange) → i ≡ committing y → (b : Bool) → saysYes p (m .memory) (y .step) ≡ b
+        → Justified contents (m .now) p h (transactionSettles b x)
+    commit-justified y z true b = λ o is. rw (before, after) (replayed (commit-replays s (running-task c linked k now p r) (record {
+      transaction = x;
+      exchange = y;
+      phase = e ∙ ap (transacting x) z;
+      step = says-commit p (m .memory) (y .step) b .0;
+      status = says-commit p (m .memory) (y .step) b .1;
+    })) o is)
+    commit-justified y z false b =
+        stays (λ w Y. let u : w ≡ y = cc (Y .exchange, ap exchangeIn (e ∙ ap (transacting x) z)) in
+        says-not p (m .memory) (y .step) b (rw u at (Y .step)) (Y .status))
 
-  inner-justified : (x : Transaction) (i : Inner) → taskAt (m .tasks) p .job .phase ≡ transacting x i → Justified contents (m .now) p h (innerSettles p (m .memory) (taskAt (m .tasks) p .job .commands) x i)
+  inner-justified : (x : Transaction) (i : Inner) → taskAt (m .tasks) p .job .phase ≡ transacting x i
+      → Justified contents (m .now) p h (innerSettles p (m .memory) (taskAt (m .tasks) p .job .commands) x i)
   inner-justified x between e = command-justified x between e refl (taskAt (m .tasks) p .job .commands) refl
   inner-justified x (first a j) e = not-committing x (first a j) e refl
   inner-justified x (copying a j) e = not-committing x (copying a j) e refl
   inner-justified x (again a v j) e = not-committing x (again a v j) e refl
   inner-justified x (committing y) e = commit-justified x (committing y) e y refl (saysYes p (m .memory) (y .step)) refl
 
-  phase-justified : (f : Phase) → taskAt (m .tasks) p .job .phase ≡ f → Justified contents (m .now) p h (settling p (m .memory) (taskAt (m .tasks) p .job .commands) f)
+  phase-justified : (f : Phase) → taskAt (m .tasks) p .job .phase ≡ f
+      → Justified contents (m .now) p h (settling p (m .memory) (taskAt (m .tasks) p .job .commands) f)
   unfolding settling
   phase-justified idle e = stays (no-exchange e refl)
   phase-justified plain e = stays (no-exchange e refl)

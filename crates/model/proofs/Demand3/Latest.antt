@@ -7,8 +7,11 @@ use lib.ListN.{length}
 use Rattle.model.specs.History.{Operation, History, operationAt, Event, nothing, begins, amends, noted}
 use Rattle.model.specs.Arguments.{Arguments, readOf}
 use Rattle.model.proofs.Transactions.Pass.{operationAfter}
-use Rattle.model.proofs.History.Moves.{Settling, Moves, staysOutside, begun, goesOn, answers, readEnds, swapCommits, swapEnds, swapCommitsAndEnds, swapRejected, transactionCommits, transactionEnds, transactionCommitsAndEnds, nothingTouched, endsSpent}
-use Rattle.model.proofs.History.Noted.{latestOf, newOperation, noted-nothing, latest-nothing, noted-begins, latest-begins, noted-amends, latest-amends}
+use Rattle.model.proofs.History.Moves.{Settling, Moves, staysOutside, begun, goesOn, answers, readEnds}
+use Rattle.model.proofs.History.Moves.{swapCommits, swapEnds, swapCommitsAndEnds, swapRejected, transactionCommits}
+use Rattle.model.proofs.History.Moves.{transactionEnds, transactionCommitsAndEnds, nothingTouched, endsSpent}
+use Rattle.model.proofs.History.Noted.{latestOf, newOperation, noted-nothing, latest-nothing}
+use Rattle.model.proofs.History.Noted.{noted-begins, latest-begins, noted-amends, latest-amends}
 use Rattle.model.proofs.History.Linked.{Open, OpenBy}
 
 -- a task without operations has none that anything is said of
@@ -26,10 +29,12 @@ module _ (u p : ℕ) (h : History) (size : length (h .began) ≡ u) (below : p <
   after-begins : (a : Arguments) → latestOperation (noted u p (begins a) h) p ≡ newOperation p a
   after-begins a = rw (latest-begins u p h size a below, noted-begins u p h size a .here)
 
-  after-amends : {a : Arguments} {yes? : Bool} (o : Open h p a yes?) (f : Operation → Operation) → latestOperation (noted u p (amends f) h) p ≡ f (latestOperation h p)
+  after-amends : {a : Arguments} {yes? : Bool} (o : Open h p a yes?) (f : Operation → Operation)
+      → latestOperation (noted u p (amends f) h) p ≡ f (latestOperation h p)
   after-amends o f = rw (latest-amends u p h size f p, noted-amends u p h size f (o .is) .here, o .is)
 
-  pub latest-after : {g g′ : Option Arguments} {b b′ : Bool} {e : Event} {s : Settling} → Moves u g b e s g′ b′ → OpenBy h p g b → latestOperation (noted u p e h) p ≡ operationAfter p e (latestOperation h p)
+  pub latest-after : {g g′ : Option Arguments} {b b′ : Bool} {e : Event} {s : Settling} → Moves u g b e s g′ b′ → OpenBy h p g b
+      → latestOperation (noted u p e h) p ≡ operationAfter p e (latestOperation h p)
   latest-after staysOutside o = after-nothing
   latest-after (begun {a = a}) o = after-begins a
   latest-after goesOn o = after-nothing

@@ -101,7 +101,8 @@ pub began-inside : (u : ℕ) (ts : List Task) (h : History) (p : ℕ) → InOper
 began-inside u ts h p i = began-by (givenTo ts p) u (latestOf h p) i
 
 -- A TICK OF TASK p
-module _ {u p words blocks : ℕ} {m : Memory} {ts : List Task} {h h′ : History} {g′ : Option Arguments} {yes? : Bool} (R : Ready words blocks (beganIn u ts h) m ts p) (l : Linked u ts h) (n : Next u p h h′ (givenTo ts p) g′ yes?) where
+module _ {u p words blocks : ℕ} {m : Memory} {ts : List Task} {h h′ : History} {g′ : Option Arguments} {yes? : Bool}
+    (R : Ready words blocks (beganIn u ts h) m ts p) (l : Linked u ts h) (n : Next u p h h′ (givenTo ts p) g′ yes?) where
   latest-stays : (r : ℕ) → InOperation (givenTo ts r) → latestOf h′ r ≡ latestOf h r
   latest-stays r i = same? r p (λ e. rw e (n .stays (rw e at i))) (λ ne. n .other r ne)
 
@@ -113,7 +114,9 @@ module _ {u p words blocks : ℕ} {m : Memory} {ts : List Task} {h h′ : Histor
       go (inr e) = omega arith
 
   -- an exchange of words hits the operations that began before it on the words that it changes; an exchange of bank words counts as a hit
-  own-hit : {x : Exchange} {ps : List Entry} → ExchangeIn (taskAt ts p) x → actIn (taskAt ts p .job .phase) ≡ exchangingAct x → SamePairs (x .entries) ps → (r e : ℕ) → InOperation (givenTo ts r) → latestOf h r < latestOf h p → e < length ps → entryOf ps e .old ≢ entryOf ps e .new → HitOn h′ r (entryOf ps e .cell)
+  own-hit : {x : Exchange} {ps : List Entry} → ExchangeIn (taskAt ts p) x → actIn (taskAt ts p .job .phase) ≡ exchangingAct x
+      → SamePairs (x .entries) ps → (r e : ℕ) → InOperation (givenTo ts r) → latestOf h r < latestOf h p → e < length ps
+      → entryOf ps e .old ≢ entryOf ps e .new → HitOn h′ r (entryOf ps e .cell)
   own-hit {x} {ps} (begins q k e₀ c) a s r e i lt le ne = impossible (cc (rw e₀ at a))
   own-hit {x} {ps} (goes-on q k) a s r e i lt le ne =
       let o : Open h p (swapOf (pairsOf x)) _ = rw k at (l .opened p) in
@@ -128,14 +131,20 @@ module _ {u p words blocks : ℕ} {m : Memory} {ts : List Task} {h h′ : Histor
       inl (omega (arith, w .inner .exchange .entries .from e in-x, s .cell e))
 
   -- the exchange that task p is in has the pairs that are known of it
-  pub passes : {values : ℕ → ℕ → ℕ} {pairs pairs′ : ℕ → List Entry} → ((x : Exchange) → actIn (taskAt ts p .job .phase) ≡ exchangingAct x → SamePairs (x .entries) (pairs p)) → ((r : ℕ) → Busy (actsOf ts) r → pairs′ r ≡ pairs r)
+  pub passes : {values : ℕ → ℕ → ℕ} {pairs pairs′ : ℕ → List Entry}
+      → ((x : Exchange) → actIn (taskAt ts p .job .phase) ≡ exchangingAct x → SamePairs (x .entries) (pairs p))
+      → ((r : ℕ) → Busy (actsOf ts) r → pairs′ r ≡ pairs r)
       → Passes (below (beganIn u ts h)) (actsOf ts) p (knowledge values u h pairs) (knowledge values (suc u) h′ pairs′)
   passes {values} {pairs} {pairs′} same-pairs keep = record {
-    seen = λ r c v ne k. record { tick = k .tick; from = rw (latest-stays r (acts-inside ts r ne)) (k .from); before = omega (arith, k .before); value = k .value };
+    seen = λ r c v ne k.
+        record { tick = k .tick; from = rw (latest-stays r (acts-inside ts r ne)) (k .from); before = omega (arith, k .before); value = k .value };
     hit = λ r c b k. hit-on r c (latest-stays r (busy-inside ts r b)) k;
     pairs = keep;
     down = λ r c b bp lt k. down r c b bp lt k;
-    mine = λ r e b bp lt le ne. let a = sym (act-at ts p) ∙ bp .act in own-hit (at-work (taskAt ts p) (taskAt ts p .job .phase) refl a) a (same-pairs (bp .exchange) a) r e (busy-inside ts r b) (later r b bp lt) le ne;
+    mine = λ r e b bp lt le ne.
+        let a = sym (act-at ts p) ∙ bp .act in
+        own-hit (at-work (taskAt ts p) (taskAt ts p .job .phase) refl a) a (same-pairs (bp .exchange) a) r e (busy-inside ts r b) (later r b bp lt) le
+        ne;
   }
     where
       later : (r : ℕ) → Busy (actsOf ts) r → Busy (actsOf ts) p → below (beganIn u ts h) r p → latestOf h r < latestOf h p
@@ -147,7 +156,9 @@ module _ {u p words blocks : ℕ} {m : Memory} {ts : List Task} {h h′ : Histor
 
       down : (r c : ℕ) → Busy (actsOf ts) r → Busy (actsOf ts) p → below (beganIn u ts h) r p → HitOn h p c → HitOn h′ r c
       down r c b bp lt (inl k) = inl k
-      down r c b bp lt (inr k) = inr (hit-kept (n .advance) (latest-stays r (busy-inside ts r b)) (hit-lower l r p (later r b bp lt) (busy-inside ts r b) (busy-inside ts p bp) c k))
+      down r c b bp lt (inr k) =
+          inr (hit-kept (n .advance) (latest-stays r (busy-inside ts r b)) (hit-lower l r p (later r b bp lt) (busy-inside ts r b) (busy-inside ts p bp) c k))
 
-  pub sees-now : {values : ℕ → ℕ → ℕ} (pairs : ℕ → List Entry) → ((c : ℕ) → values u c ≡ currentOf m c) → SeesNow m p (knowledge values (suc u) h′ pairs)
+  pub sees-now : {values : ℕ → ℕ → ℕ} (pairs : ℕ → List Entry) → ((c : ℕ) → values u c ≡ currentOf m c)
+      → SeesNow m p (knowledge values (suc u) h′ pairs)
   sees-now pairs now = λ c. record { tick = u; from = latest-now; before = omega arith; value = now c }

@@ -30,7 +30,8 @@ unfolding at
 entry-next a es e = refl
 
 -- THE PLAIN SWAP on a list of words
-all-old : (words : List ℕ) (es : List Entry) → ((e : ℕ) → e < length es → at 0 words (entryOf es e .cell) ≡ entryOf es e .old) → allOld words (map pairOf es) ≡ true
+all-old : (words : List ℕ) (es : List Entry) → ((e : ℕ) → e < length es → at 0 words (entryOf es e .cell) ≡ entryOf es e .old)
+    → allOld words (map pairOf es) ≡ true
 unfolding allOld
 all-old words [] h = refl
 all-old words (a ∷ es) h =
@@ -42,25 +43,32 @@ unfolding allNew
 new-size words [] = refl
 new-size words (a ∷ es) = new-size (replace words (a .cell) (a .new)) es ∙ length-replace words (a .cell) (a .new)
 
-new-other : (words : List ℕ) (es : List Entry) (c : ℕ) → ((e : ℕ) → e < length es → entryOf es e .cell ≢ c) → at 0 (allNew words (map pairOf es)) c ≡ at 0 words c
+new-other : (words : List ℕ) (es : List Entry) (c : ℕ) → ((e : ℕ) → e < length es → entryOf es e .cell ≢ c)
+    → at 0 (allNew words (map pairOf es)) c ≡ at 0 words c
 unfolding allNew
 new-other words [] c h = refl
 new-other words (a ∷ es) c h =
     let first : a .cell ≢ c = rw (entry-first a es) at (h 0 (omega arith)) in
-    new-other (replace words (a .cell) (a .new)) es c (λ e l. rw (entry-next a es e) at (h (suc e) (omega arith))) ∙ replace-other 0 words (a .cell) c (a .new) (λ e. first (sym e))
+    new-other (replace words (a .cell) (a .new)) es c (λ e l. rw (entry-next a es e) at (h (suc e) (omega arith)))
+    ∙ replace-other 0 words (a .cell) c (a .new) (λ e. first (sym e))
 
 distinct-behind : (a : Entry) (es : List Entry) → Distinct (a ∷ es) → Distinct es
 distinct-behind a es d e f l k q = let z = d (suc e) (suc f) (omega arith) (omega arith) (rw (entry-next a es e, entry-next a es f) q) in omega arith
 
-new-at : (words : List ℕ) (es : List Entry) → Distinct es → (e : ℕ) → e < length es → entryOf es e .cell < length words → at 0 (allNew words (map pairOf es)) (entryOf es e .cell) ≡ entryOf es e .new
+new-at : (words : List ℕ) (es : List Entry) → Distinct es → (e : ℕ) → e < length es → entryOf es e .cell < length words
+    → at 0 (allNew words (map pairOf es)) (entryOf es e .cell) ≡ entryOf es e .new
 unfolding allNew
 new-at words [] d e l k = absurd (omega arith)
 new-at words (a ∷ es) d zero l k =
     let first : a .cell < length words = rw (entry-first a es) at k in
-    rw (entry-first a es) (new-other (replace words (a .cell) (a .new)) es (a .cell) (λ e l q. let z = d (suc e) 0 (omega arith) (omega arith) (rw (entry-next a es e, entry-first a es) q) in omega arith) ∙ replace-same 0 words (a .cell) (a .new) first)
+    rw (entry-first a es)
+    (new-other (replace words (a .cell) (a .new)) es (a .cell)
+    (λ e l q. let z = d (suc e) 0 (omega arith) (omega arith) (rw (entry-next a es e, entry-first a es) q) in omega arith)
+    ∙ replace-same 0 words (a .cell) (a .new) first)
 new-at words (a ∷ es) d (suc e) l k =
     let behind : entryOf es e .cell < length words = rw (entry-next a es e) at k in
-    rw (entry-next a es e) (new-at (replace words (a .cell) (a .new)) es (distinct-behind a es d) e (omega arith) (rw (length-replace words (a .cell) (a .new)) behind))
+    rw (entry-next a es e)
+    (new-at (replace words (a .cell) (a .new)) es (distinct-behind a es d) e (omega arith) (rw (length-replace words (a .cell) (a .new)) behind))
 
 -- a cell is named or not
 pub record Named (es : List Entry) (c : ℕ) : Type 0 where
@@ -78,7 +86,8 @@ named? (a ∷ es) c = same? (a .cell) c
     other ne h zero l = rw (entry-first a es) ne
     other ne h (suc e) l = rw (entry-next a es e) (h e (omega arith))
 
-    go : a .cell ≢ c → Named es c ⊎ ((e : ℕ) → e < length es → entryOf es e .cell ≢ c) → Named (a ∷ es) c ⊎ ((e : ℕ) → e < suc (length es) → entryOf (a ∷ es) e .cell ≢ c)
+    go : a .cell ≢ c → Named es c ⊎ ((e : ℕ) → e < length es → entryOf es e .cell ≢ c)
+        → Named (a ∷ es) c ⊎ ((e : ℕ) → e < suc (length es) → entryOf (a ∷ es) e .cell ≢ c)
     go ne (inl n) = inl (record { number = suc (n .number); below = omega (arith, n .below); cell = rw (entry-next a es (n .number)) (n .cell) })
     go ne (inr h) = inr (other ne h)
 
@@ -86,24 +95,32 @@ named? (a ∷ es) c = same? (a .cell) c
 pub word-at : (s : Sheet) (m : Memory) (c : ℕ) → c < length (s .words) → at 0 (contentsOf s m .words) c ≡ currentOf m c
 word-at s m c l = at-each 0 (length (s .words)) 0 (currentOf m) c l ∙ ap (currentOf m) (omega arith)
 
-plain-swap : (ps : List Pair) (c : Contents) → allOld (c .words) ps ≡ true → plainly (swapOf ps) c ≡ result (record { words = allNew (c .words) ps; blocks = c .blocks }) (1 ∷ [])
+plain-swap : (ps : List Pair) (c : Contents) → allOld (c .words) ps ≡ true
+    → plainly (swapOf ps) c ≡ result (record { words = allNew (c .words) ps; blocks = c .blocks }) (1 ∷ [])
 unfolding plainly plainSwapBy
 plain-swap ps c e = rw e refl
 
-module _ (s : Sheet) {m n : Memory} (es : List Entry) (x : Swapped m n es) (below : (e : ℕ) → e < length es → entryOf es e .cell < length (s .words)) (d : Distinct es) where
+module _ (s : Sheet) {m n : Memory} (es : List Entry) (x : Swapped m n es) (below : (e : ℕ) → e < length es → entryOf es e .cell < length (s .words))
+    (d : Distinct es) where
   words-after : allNew (contentsOf s m .words) (map pairOf es) ≡ contentsOf s n .words
   words-after =
       let size = length-each (length (s .words)) 0 (currentOf m) in
       ext-at 0 _ _ (new-size (contentsOf s m .words) es ∙ size ∙ sym (length-each (length (s .words)) 0 (currentOf n)))
       (λ c l. go c (rw (new-size (contentsOf s m .words) es, size) at l) (named? es c))
     where
-      go : (c : ℕ) → c < length (s .words) → Named es c ⊎ ((e : ℕ) → e < length es → entryOf es e .cell ≢ c) → at 0 (allNew (contentsOf s m .words) (map pairOf es)) c ≡ at 0 (contentsOf s n .words) c
+      go : (c : ℕ) → c < length (s .words) → Named es c ⊎ ((e : ℕ) → e < length es → entryOf es e .cell ≢ c)
+          → at 0 (allNew (contentsOf s m .words) (map pairOf es)) c ≡ at 0 (contentsOf s n .words) c
       go c l (inl k) =
           let e = k .number in
-          let into : entryOf es e .cell < length (contentsOf s m .words) = rw (length-each (length (s .words)) 0 (currentOf m)) (below e (k .below)) in
-          rw (← k .cell) (new-at (contentsOf s m .words) es d e (k .below) into ∙ sym (x .new e (k .below)) ∙ sym (word-at s n (entryOf es e .cell) (below e (k .below))))
+          let into : entryOf es e .cell < length (contentsOf s m .words) =
+          rw (length-each (length (s .words)) 0 (currentOf m)) (below e (k .below)) in
+          rw (← k .cell) (new-at (contentsOf s m .words) es d e (k .below) into ∙ sym (x .new e (k .below))
+          ∙ sym (word-at s n (entryOf es e .cell) (below e (k .below))))
       go c l (inr h) = new-other (contentsOf s m .words) es c h ∙ word-at s m c l ∙ sym (x .others c h) ∙ sym (word-at s n c l)
 
-  pub swap-replays : contentsOf s n .blocks ≡ contentsOf s m .blocks → plainly (swapOf (map pairOf es)) (contentsOf s m) ≡ result (contentsOf s n) (1 ∷ [])
+  pub swap-replays : contentsOf s n .blocks ≡ contentsOf s m .blocks
+      → plainly (swapOf (map pairOf es)) (contentsOf s m) ≡ result (contentsOf s n) (1 ∷ [])
   swap-replays e =
-      plain-swap (map pairOf es) (contentsOf s m) (all-old (contentsOf s m .words) es (λ e l. word-at s m (entryOf es e .cell) (below e l) ∙ x .old e l)) ∙ rw (words-after, e) refl
+      plain-swap (map pairOf es) (contentsOf s m)
+      (all-old (contentsOf s m .words) es (λ e l. word-at s m (entryOf es e .cell) (below e l) ∙ x .old e l))
+      ∙ rw (words-after, e) refl

@@ -30,7 +30,9 @@ module _ {s : Sheet} (c : SheetFit s) where
   memory-before : (t : ℕ) → memories (arrivedAt (startMachine s) t .now) ≡ arrivedAt (startMachine s) t .memory
   memory-before t = ap memories (arrived-now (started c) t) ∙ sym (arrived-at (startMachine s) t .memory)
 
-  memory-after : (t p : ℕ) → runningOf (arrivedAt (startMachine s) t) ≡ running p → memories (suc (arrivedAt (startMachine s) t .now)) ≡ statementOf p (arrivedAt (startMachine s) t .memory) (arrivedAt (startMachine s) t .tasks) .memory
+  memory-after : (t p : ℕ) → runningOf (arrivedAt (startMachine s) t) ≡ running p
+      → memories (suc (arrivedAt (startMachine s) t .now))
+      ≡ statementOf p (arrivedAt (startMachine s) t .memory) (arrivedAt (startMachine s) t .tasks) .memory
   memory-after t p e =
       ap (λ (u : ℕ). memories (suc u)) (arrived-now (started c) t)
       ∙ ap (λ (m : Machine). m .memory) (state-next (startMachine s) t)
@@ -40,8 +42,11 @@ module _ {s : Sheet} (c : SheetFit s) where
   pub justified-run : JustifiedRun s (startMachine s)
   justified-run = record {
     justified = λ t p e.
-        subst (λ (u : ℕ). Justified (contentsAfter s (startMachine s)) u p (historyAfter (startMachine s) t) (settledBy (arrivedAt (startMachine s) t) p)) (arrived-now (started c) t)
-        (justified c memories (arrived-linked (started c) t) (holds-at c t (holds c t)) p (running-foremost e) (memory-before t) (memory-after t p e));
+        subst
+        (λ (u : ℕ). Justified (contentsAfter s (startMachine s)) u p (historyAfter (startMachine s) t) (settledBy (arrivedAt (startMachine s) t) p))
+        (arrived-now (started c) t)
+        (justified c memories (arrived-linked (started c) t) (holds-at c t (holds c t)) p (running-foremost e) (memory-before t)
+        (memory-after t p e));
   }
 
 -- DEMAND 3

@@ -6,7 +6,8 @@ use mathlib.Core.List.{List}
 use lib.ListN.{length}
 use Rattle.model.specs.Lists.{at}
 use Rattle.model.specs.Word.{Memory, Reading}
-use Rattle.model.specs.Exchange.{Entry, entry, Step, start, test, load, look, fetch, fail, mark, install, commit, save, clean, cleanMark, Exchange, Exchanged, goes, ends}
+use Rattle.model.specs.Exchange.{Entry, entry, Step, start, test, load, look, fetch, fail, mark, install}
+use Rattle.model.specs.Exchange.{commit, save, clean, cleanMark, Exchange, Exchanged, goes, ends}
 
 -- a reading of that cell, for a plain word and a bank word alike
 pub data Act : Type 0 where

@@ -10,13 +10,16 @@ use lib.ListN.{length}
 use borrow.Author.Tests.{eqb-true, eqb-false}
 use Rattle.model.specs.Lists.{at, replace}
 use Rattle.model.specs.Word.{Word, Memory, cellOf, statusOf, saved, setCell, setStatus, setSave, current, currentOf, freshWord}
-use Rattle.model.specs.Exchange.{start, commit, clean, cleanMark, install, fail, mark, Exchange, Exchanged, entryAt, changing, installed, cleaned}
+use Rattle.model.specs.Exchange.{start, commit, clean, cleanMark, install, fail, mark}
+use Rattle.model.specs.Exchange.{Exchange, Exchanged, entryAt, changing, installed, cleaned}
 use Rattle.model.proofs.Lists.{replace-same, replace-other, same?}
 use Rattle.model.proofs.Fit.Elements.{and-left}
 use Rattle.model.proofs.Exchanges.Act.{Act, exchanging, memoryAfter, Quiet, here}
 use Rattle.model.proofs.Exchanges.Invariant.{WellFormed, valid, held, Anyone, Situation, Room}
 use Rattle.model.proofs.Exchanges.Words.{unchanging, own-valid, own-same, current-own, current-same, installed-new, installed-old, cleaned-new}
-use Rattle.model.proofs.Exchanges.Outcome.{Decides, commits, refuses, Cleans, renews, passes, gives-back, leaves, marks-after, Outcome, starts, tests-done, tests-on, loads, looks-own, looks-other, fetches, saves-differing, saves-to-mark, saves, fails, marks, installs, misses, decides, decides-last, cleans, cleans-last, cleans-to-mark}
+use Rattle.model.proofs.Exchanges.Outcome.{Decides, commits, refuses, Cleans, renews, passes, gives-back, leaves, marks-after, Outcome, starts}
+use Rattle.model.proofs.Exchanges.Outcome.{tests-done, tests-on, loads, looks-own, looks-other, fetches, saves-differing, saves-to-mark, saves}
+use Rattle.model.proofs.Exchanges.Outcome.{fails, marks, installs, misses, decides, decides-last, cleans, cleans-last, cleans-to-mark}
 use Rattle.model.proofs.Exchanges.Frame.{Frame, frame-save, frame-status, mark-keeps, frame-mark, kept-two, current-frame, below-clear}
 use Rattle.model.proofs.Exchanges.Early.{mine, at-step-as, replaced-status}
 use Rattle.model.proofs.Exchanges.Statement.{save-kept}
@@ -25,17 +28,21 @@ use Rattle.model.proofs.Exchanges.Kept.{others-content}
 use Rattle.model.proofs.Exchanges.Standing.{all-in-cells}
 
 -- p in no exchange, Start among its statements
-pub quiet-current : {below : ℕ → ℕ → Type 0} {m n : Memory} {acts : List Act} {p : ℕ} {v₀ : Act} → Situation below m acts p v₀ → Quiet v₀ → n .cells ≡ m .cells → Frame p m n → (c : ℕ) → currentOf n c ≡ currentOf m c
+pub quiet-current : {below : ℕ → ℕ → Type 0} {m n : Memory} {acts : List Act} {p : ℕ} {v₀ : Act} → Situation below m acts p v₀ → Quiet v₀
+    → n .cells ≡ m .cells → Frame p m n → (c : ℕ) → currentOf n c ≡ currentOf m c
 quiet-current S q ec F c = rw ec (current-frame F (below-clear S) (others-content S q (S .invariant .contents c)))
 
-pub start-current : {below : ℕ → ℕ → Type 0} {m : Memory} {acts : List Act} {p : ℕ} {v₀ : Act} → Situation below m acts p v₀ → Quiet v₀ → (c : ℕ) → currentOf (setStatus m p 0) c ≡ currentOf m c
+pub start-current : {below : ℕ → ℕ → Type 0} {m : Memory} {acts : List Act} {p : ℕ} {v₀ : Act} → Situation below m acts p v₀ → Quiet v₀ → (c : ℕ)
+    → currentOf (setStatus m p 0) c ≡ currentOf m c
 start-current {m = m} {p = p} S q c = quiet-current S q refl (frame-status p m 0) c
 
 module _ {below : ℕ → ℕ → Type 0} {m : Memory} {acts : List Act} {p : ℕ} {x : Exchange} (S : Situation below m acts p (exchanging x)) where
   -- a content keeps its current value if p's own do
-  content-current : {n : Memory} → Frame p m n → {c : ℕ} {w : Word} → (w .task ≡ p → (l : w .count < x .i) → entryAt x (w .count) .cell ≡ c → current (n .status) (n .saves) w ≡ current (m .status) (m .saves) w)
+  content-current : {n : Memory} → Frame p m n → {c : ℕ} {w : Word}
+      → (w .task ≡ p → (l : w .count < x .i) → entryAt x (w .count) .cell ≡ c → current (n .status) (n .saves) w ≡ current (m .status) (m .saves) w)
       → WellFormed Anyone acts c w → current (n .status) (n .saves) w ≡ current (m .status) (m .saves) w
-  content-current {n} F {c} {w} f (valid h) = current-own (n .status) (n .saves) w (own-valid (n .status) w h) ∙ sym (current-own (m .status) (m .saves) w (own-valid (m .status) w h))
+  content-current {n} F {c} {w} f (valid h) =
+      current-own (n .status) (n .saves) w (own-valid (n .status) w h) ∙ sym (current-own (m .status) (m .saves) w (own-valid (m .status) w h))
   content-current {n} F {c} {w} f (held o H) = same? (w .task) p
       (λ k. let y : H .exchange ≡ x = cc (S .act, H .at-work) in f k (rw (← y) (H .high)) (rw (← y) (H .cell)))
       (λ ne. current-frame F (λ r (k : r ≡ w .task) z. ne (sym k ∙ z)) alone)
@@ -44,13 +51,16 @@ module _ {below : ℕ → ℕ → Type 0} {m : Memory} {acts : List Act} {p : �
       alone = held refl H
 
   -- the cells stay, and of p's own contents status and save places stay
-  shared-current : {n : Memory} → n .cells ≡ m .cells → Frame p m n → eqb (statusOf n p) 2 ≡ eqb (statusOf m p) 2 → ((e : ℕ) → e < x .i → saved (n .saves) p e ≡ saved (m .saves) p e) → (c : ℕ) → currentOf n c ≡ currentOf m c
+  shared-current : {n : Memory} → n .cells ≡ m .cells → Frame p m n → eqb (statusOf n p) 2 ≡ eqb (statusOf m p) 2
+      → ((e : ℕ) → e < x .i → saved (n .saves) p e ≡ saved (m .saves) p e) → (c : ℕ) → currentOf n c ≡ currentOf m c
   shared-current {n} ec F st sv c = rw ec (content-current F
-      (λ k l d. let w = cellOf m c in current-same (m .status) (n .status) w (m .saves) (n .saves) (own-same (m .status) (n .status) w (rw k st)) (rw k (sv (w .count) l)))
+      (λ k l d. let w = cellOf m c in
+      current-same (m .status) (n .status) w (m .saves) (n .saves) (own-same (m .status) (n .status) w (rw k st)) (rw k (sv (w .count) l)))
       (S .invariant .contents c))
 
   -- one cell gets a word with the current value that it had
-  cell-current : (c : ℕ) (w : Word) → c < length (m .cells) → current (m .status) (m .saves) w ≡ currentOf m c → (d : ℕ) → currentOf (setCell m c w) d ≡ currentOf m d
+  cell-current : (c : ℕ) (w : Word) → c < length (m .cells) → current (m .status) (m .saves) w ≡ currentOf m c → (d : ℕ)
+      → currentOf (setCell m c w) d ≡ currentOf m d
   cell-current c w l e d = same? d c
       (λ k. rw (k, replace-same (freshWord 0) (m .cells) c w l) e)
       (λ ne. rw (replace-other (freshWord 0) (m .cells) c d w ne))
@@ -65,30 +75,37 @@ module _ {below : ℕ → ℕ → Type 0} {m : Memory} {acts : List Act} {p : �
     fail-current : x .step ≡ fail → (c : ℕ) → currentOf (setStatus m p 1) c ≡ currentOf m c
     fail-current s = mark-current p (rw (S .sizes) (S .task)) (mine S .not-yet (rw s))
 
-    install-current : x .step ≡ install → cellOf m (here x .cell) ≡ here x .init → (c : ℕ) → currentOf (setCell m (here x .cell) (installed p (here x) (x .i))) c ≡ currentOf m c
+    install-current : x .step ≡ install → cellOf m (here x .cell) ≡ here x .init → (c : ℕ)
+        → currentOf (setCell m (here x .cell) (installed p (here x) (x .i))) c ≡ currentOf m c
     install-current s h =
         let k = at-step-as S install s in
         cell-current (here x .cell) (installed p (here x) (x .i)) (R .cells (x .i) (mine S .at-entry (rw s)))
-        (installed-old (m .status) (m .saves) p (here x) (x .i) (mine S .not-yet (rw s)) ∙ k .found .kept-old ∙ sym (k .found .was-old) ∙ ap (λ (w : Word). current (m .status) (m .saves) w) (sym h))
+        (installed-old (m .status) (m .saves) p (here x) (x .i) (mine S .not-yet (rw s)) ∙ k .found .kept-old ∙ sym (k .found .was-old)
+        ∙ ap (λ (w : Word). current (m .status) (m .saves) w) (sym h))
 
     -- CLEAN, where p's word still stands
     module _ (j : ℕ) (yes? : Bool) (s : x .step ≡ clean j yes?) (h : cellOf m (entryAt x j .cell) ≡ installed p (entryAt x j) j) where
       in-room : entryAt x j .cell < length (m .cells)
       in-room = R .cells j (omega (arith, mine S .within, clean-entry S j yes? s))
 
-      clean-current : (w : Word) → current (m .status) (m .saves) w ≡ current (m .status) (m .saves) (installed p (entryAt x j) j) → (c : ℕ) → currentOf (setCell m (entryAt x j .cell) w) c ≡ currentOf m c
+      clean-current : (w : Word) → current (m .status) (m .saves) w ≡ current (m .status) (m .saves) (installed p (entryAt x j) j) → (c : ℕ)
+          → currentOf (setCell m (entryAt x j .cell) w) c ≡ currentOf m c
       clean-current w e = cell-current (entryAt x j .cell) w in-room (e ∙ ap (λ (w : Word). current (m .status) (m .saves) w) (sym h))
 
-      renew-current : (yes? && changing (entryAt x j)) ≡ true → current (m .status) (m .saves) (cleaned p (entryAt x j)) ≡ current (m .status) (m .saves) (installed p (entryAt x j) j)
+      renew-current : (yes? && changing (entryAt x j)) ≡ true
+          → current (m .status) (m .saves) (cleaned p (entryAt x j)) ≡ current (m .status) (m .saves) (installed p (entryAt x j) j)
       renew-current e =
           let st : statusOf m p ≡ 2 = eqb-true _ _ (sym (at-step-as S (clean j yes?) s .1) ∙ and-left yes? _ e) in
           cleaned-new (m .status) (m .saves) p (entryAt x j) ∙ sym (installed-new (m .status) (m .saves) p (entryAt x j) j st)
 
-      back-current : (yes? && changing (entryAt x j)) ≡ false → current (m .status) (m .saves) (entryAt x j .init) ≡ current (m .status) (m .saves) (installed p (entryAt x j) j)
+      back-current : (yes? && changing (entryAt x j)) ≡ false
+          → current (m .status) (m .saves) (entryAt x j .init) ≡ current (m .status) (m .saves) (installed p (entryAt x j) j)
       back-current e = clean-settled S j yes? s .found .was-old ∙ go yes? (at-step-as S (clean j yes?) s .1) e
         where
-          go : (b : Bool) → b ≡ eqb (statusOf m p) 2 → (b && changing (entryAt x j)) ≡ false → entryAt x j .old ≡ current (m .status) (m .saves) (installed p (entryAt x j) j)
-          go false k e = sym (installed-old (m .status) (m .saves) p (entryAt x j) j (eqb-false _ _ (sym k)) ∙ clean-settled S j yes? s .found .kept-old)
+          go : (b : Bool) → b ≡ eqb (statusOf m p) 2 → (b && changing (entryAt x j)) ≡ false
+              → entryAt x j .old ≡ current (m .status) (m .saves) (installed p (entryAt x j) j)
+          go false k e =
+              sym (installed-old (m .status) (m .saves) p (entryAt x j) j (eqb-false _ _ (sym k)) ∙ clean-settled S j yes? s .found .kept-old)
           go true k e = unchanging (entryAt x j) e ∙ sym (installed-new (m .status) (m .saves) p (entryAt x j) j (eqb-true _ _ (sym k)))
 
     cleaned-current : {n : Memory} (j : ℕ) (yes? : Bool) → Cleans p m x j yes? n → (c : ℕ) → currentOf n c ≡ currentOf m c
@@ -106,7 +123,8 @@ module _ {below : ℕ → ℕ → Type 0} {m : Memory} {acts : List Act} {p : �
     decided-current ne (refuses e) c = refl
 
     -- 1. every statement leaves every current value as it was, but for Commit at status 0
-    pub current-kept : {o : Exchanged} → Outcome p m x o → (x .step ≡ commit → statusOf m p ≢ 0) → (c : ℕ) → currentOf (memoryAfter o) c ≡ currentOf m c
+    pub current-kept : {o : Exchanged} → Outcome p m x o → (x .step ≡ commit → statusOf m p ≢ 0) → (c : ℕ)
+        → currentOf (memoryAfter o) c ≡ currentOf m c
     current-kept (starts s) ne c = absurd (at-step-as S start s)
     current-kept (tests-done s h) ne c = refl
     current-kept (tests-on s h) ne c = refl
@@ -118,7 +136,8 @@ module _ {below : ℕ → ℕ → Type 0} {m : Memory} {acts : List Act} {p : �
     current-kept (saves-to-mark v s d o g) ne c = save-current v c
     current-kept (saves v s d u) ne c = save-current v c
     current-kept (fails s) ne c = fail-current s c
-    current-kept (marks s) ne c = let h = at-step-as S mark s in let r = replaced-status S (h .0 .loaded) (h .1) in mark-current (here x .init .task) (r .0) (r .1) c
+    current-kept (marks s) ne c =
+        let h = at-step-as S mark s in let r = replaced-status S (h .0 .loaded) (h .1) in mark-current (here x .init .task) (r .0) (r .1) c
     current-kept (installs s h) ne c = install-current s h c
     current-kept (misses s h) ne c = refl
     current-kept (decides s d i) ne c = decided-current (ne s) d c
@@ -142,7 +161,8 @@ module _ {below : ℕ → ℕ → Type 0} {m : Memory} {acts : List Act} {p : �
     pub commit-old : (e : ℕ) → e < length (x .entries) → currentOf m (entryAt x e .cell) ≡ entryAt x e .old
     commit-old e l =
         rw (commit-installed e l)
-        (installed-old (m .status) (m .saves) p (entryAt x e) e (mine S .not-yet (rw s)) ∙ mine S .settled e (rw s (omega arith)) (rw commit-all l) .found .kept-old)
+        (installed-old (m .status) (m .saves) p (entryAt x e) e (mine S .not-yet (rw s))
+        ∙ mine S .settled e (rw s (omega arith)) (rw commit-all l) .found .kept-old)
 
     pub commit-new : (e : ℕ) → e < length (x .entries) → currentOf (setStatus m p 2) (entryAt x e .cell) ≡ entryAt x e .new
     commit-new e l =
@@ -150,4 +170,5 @@ module _ {below : ℕ → ℕ → Type 0} {m : Memory} {acts : List Act} {p : �
         (installed-new (replace (m .status) p 2) (m .saves) p (entryAt x e) e (replace-same 0 (m .status) p 2 (rw (S .sizes) (S .task))))
 
     pub commit-others : (c : ℕ) → ((e : ℕ) → e < length (x .entries) → entryAt x e .cell ≢ c) → currentOf (setStatus m p 2) c ≡ currentOf m c
-    commit-others c ne = content-current (frame-status p m 2) (λ k l d. absurd (ne (cellOf m c .count) (rw commit-all at l) d)) (S .invariant .contents c)
+    commit-others c ne =
+        content-current (frame-status p m 2) (λ k l d. absurd (ne (cellOf m c .count) (rw commit-all at l) d)) (S .invariant .contents c)

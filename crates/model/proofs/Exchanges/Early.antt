@@ -12,7 +12,8 @@ use Rattle.model.specs.Word.{Word, Memory, statusOf, saved}
 use Rattle.model.specs.Exchange.{Entry, entry, Step, Exchange, entryAt, installed, to, onward, withInit, initLoaded}
 use Rattle.model.proofs.Lists.{replace-same, replace-other, length-replace, at-below, same?, impossible}
 use Rattle.model.proofs.Exchanges.Act.{Act, free, exchanging, working, stage, undecided, uncleaned, undecided-all, here, stageOf}
-use Rattle.model.proofs.Exchanges.Invariant.{Held, WellFormed, valid, held, Anyone, Loaded, AtStep, InExchange, Knows, Rank, itself, idle, lower, Situation}
+use Rattle.model.proofs.Exchanges.Invariant.{Held, WellFormed, valid, held, Anyone, Loaded, AtStep}
+use Rattle.model.proofs.Exchanges.Invariant.{InExchange, Knows, Rank, itself, idle, lower, Situation}
 use Rattle.model.proofs.Exchanges.Words.{own-valid, not-own}
 use Rattle.model.proofs.Exchanges.Frame.{Frame, frame-none, settled-frame, Moved, below-clear}
 
@@ -67,7 +68,8 @@ module _ {below : ℕ → ℕ → Type 0} {m : Memory} {acts : List Act} {p : �
   -- CONTENTS
   -- a content stays well formed, if p's own entry, should it stand for one, is kept
   pub keep-content : (v : Act) {c : ℕ} {w : Word}
-      → ((e : ℕ) → uncleaned (stage x) ≤ e → e < x .i → entryAt x e .cell ≡ c → w ≡ installed p (entryAt x e) e → Held (replace acts p v) c (installed p (entryAt x e) e))
+      → ((e : ℕ) → uncleaned (stage x) ≤ e → e < x .i → entryAt x e .cell ≡ c → w ≡ installed p (entryAt x e) e
+      → Held (replace acts p v) c (installed p (entryAt x e) e))
       → WellFormed Anyone acts c w → WellFormed Anyone (replace acts p v) c w
   keep-content v keep (valid h) = valid h
   keep-content v {w = w} keep (held o H) = same? (w .task) p
@@ -75,13 +77,23 @@ module _ {below : ℕ → ℕ → Type 0} {m : Memory} {acts : List Act} {p : �
       let y : H .exchange ≡ x = cc (S .act) in
       let i : w ≡ installed p (entryAt x (w .count)) (w .count) = rw (← y, ← e) (H .is) in
       held tt (rw i (keep (w .count) (rw (← y) (H .low)) (rw (← y) (H .high)) (rw (← y) (H .cell)) i)))
-      (λ ne. held tt (record { exchange = H .exchange; at-work = replace-other free acts p (w .task) v ne ∙ H .at-work; low = H .low; high = H .high; cell = H .cell; is = H .is }))
+      (λ ne. held tt (record {
+        exchange = H .exchange;
+        at-work = replace-other free acts p (w .task) v ne ∙ H .at-work;
+        low = H .low;
+        high = H .high;
+        cell = H .cell;
+        is = H .is;
+      }))
 
-  pub held-on : {c : ℕ} (x′ : Exchange) → Follows x x′ → (e : ℕ) → uncleaned (stage x′) ≤ e → e < x′ .i → entryAt x e .cell ≡ c → Held (replace acts p (exchanging x′)) c (installed p (entryAt x e) e)
-  held-on x′ f e l h d = record { exchange = x′; at-work = replace-same free acts p (exchanging x′) (S .task); low = l; high = h; cell = f .cell e ∙ d; is = rw (f .new e) }
+  pub held-on : {c : ℕ} (x′ : Exchange) → Follows x x′ → (e : ℕ) → uncleaned (stage x′) ≤ e → e < x′ .i → entryAt x e .cell ≡ c
+      → Held (replace acts p (exchanging x′)) c (installed p (entryAt x e) e)
+  held-on x′ f e l h d =
+      record { exchange = x′; at-work = replace-same free acts p (exchanging x′) (S .task); low = l; high = h; cell = f .cell e ∙ d; is = rw (f .new e) }
 
   -- nobody above p has put a content there, and p has not either: its own entries are at other cells
-  pub loaded-content : x .i < length (x .entries) → {w : Word} → WellFormed Anyone acts (here x .cell) w → WellFormed (λ r. below r p) acts (here x .cell) w
+  pub loaded-content : x .i < length (x .entries) → {w : Word} → WellFormed Anyone acts (here x .cell) w
+      → WellFormed (λ r. below r p) acts (here x .cell) w
   loaded-content l (valid h) = valid h
   loaded-content l {w} (held o H) = go (S .rank (w .task))
     where
@@ -95,14 +107,16 @@ module _ {below : ℕ → ℕ → Type 0} {m : Memory} {acts : List Act} {p : �
           absurd (omega (arith, mine .distinct (w .count) (x .i) (omega arith) l d))
 
   -- the task whose content an overlapped entry replaces: it is in an exchange, and its status is not 2
-  pub replaced-held : {n : Entry} → Loaded (λ r. below r p) (m .status) acts n → n .overlapped ≡ true → below (n .init .task) p × Held acts (n .cell) (n .init)
+  pub replaced-held : {n : Entry} → Loaded (λ r. below r p) (m .status) acts n → n .overlapped ≡ true
+      → below (n .init .task) p × Held acts (n .cell) (n .init)
   replaced-held {n} L o = go (L .well-formed)
     where
       go : WellFormed (λ r. below r p) acts (n .cell) (n .init) → below (n .init .task) p × Held acts (n .cell) (n .init)
       go (valid h) = absurd (true≢false (sym o ∙ L .looked ∙ ap not (own-valid (m .status) (n .init) h)))
       go (held b H) = (b, H)
 
-  pub replaced-status : {n : Entry} → Loaded (λ r. below r p) (m .status) acts n → n .overlapped ≡ true → (n .init .task < length (m .status)) × (statusOf m (n .init .task) ≢ 2)
+  pub replaced-status : {n : Entry} → Loaded (λ r. below r p) (m .status) acts n → n .overlapped ≡ true
+      → (n .init .task < length (m .status)) × (statusOf m (n .init .task) ≢ 2)
   replaced-status {n} L o =
       let H = replaced-held L o .1 in
       let l : n .init .task < length acts = at-below free acts (n .init .task) (λ f. impossible (cc (H .at-work))) in
@@ -117,14 +131,17 @@ module _ {below : ℕ → ℕ → Type 0} {m : Memory} {acts : List Act} {p : �
   early-moved {n} x′ f ei u u′ ec F sv n2 w s =
       record {
         frame = F;
-        contents = λ c. rw ec (keep-content (exchanging x′) (λ e l h d i. held-on x′ f e (from-zero (undecided-all (stage x′) u′ .0) e) (rw ei h) d) (S .invariant .contents c));
+        contents = λ c.
+            rw ec (keep-content (exchanging x′) (λ e l h d i. held-on x′ f e (from-zero (undecided-all (stage x′) u′ .0) e) (rw ei h) d)
+            (S .invariant .contents c));
         knows = record {
           within = rw (ei, f .size) (mine .within);
           at-entry = λ k. rw (ei, f .size) (w k);
           distinct = λ e g le lg d. mine .distinct e g (rw (f .size) at le) (rw (f .size) at lg) (sym (f .cell e) ∙ d ∙ f .cell g);
           settled = λ e l h.
               let h′ : e < x .i = rw ei at h in
-              rw (f .done e h′) (settled-frame F (exchanging x′) acts (below-clear S) (sv e h′) (mine .settled e (from-zero (undecided-all (stage x) u .1) e) h′));
+              rw (f .done e h′)
+              (settled-frame F (exchanging x′) acts (below-clear S) (sv e h′) (mine .settled e (from-zero (undecided-all (stage x) u .1) e) h′));
           not-yet = λ _. n2;
           at-step = s;
         };

@@ -9,11 +9,13 @@ use lib.Dec.{eqb}
 use lib.ListN.{length}
 use borrow.Author.Tests.{ne-eqb}
 use Rattle.model.specs.Lists.{at, replace}
-use Rattle.model.specs.Word.{Word, Memory, cellOf, statusOf, saved, setCell, setStatus, setSave, own, current, Reading, loading, looking, fetching}
+use Rattle.model.specs.Word.{Word, Memory, cellOf, statusOf, saved, setCell, setStatus}
+use Rattle.model.specs.Word.{setSave, own, current, Reading, loading, looking, fetching}
 use Rattle.model.specs.Exchange.{Entry, Step, start, test, load, look, fetch, fail, mark, install, commit, save, clean, cleanMark, Exchange}
 use Rattle.model.proofs.Lists.{replace-same, replace-other, same?, impossible}
 use Rattle.model.proofs.Exchanges.Act.{Act, free, reading, exchanging, actAt}
-use Rattle.model.proofs.Exchanges.Invariant.{WellFormed, valid, held, Anyone, Loaded, Found, Settled, AtStep, InReading, Knows, Rank, itself, idle, lower, Situation}
+use Rattle.model.proofs.Exchanges.Invariant.{WellFormed, valid, held, Anyone, Loaded, Found, Settled}
+use Rattle.model.proofs.Exchanges.Invariant.{AtStep, InReading, Knows, Rank, itself, idle, lower, Situation}
 use Rattle.model.proofs.Exchanges.Words.{own-valid, own-same, current-own, current-same}
 
 -- a status that another task's statement leaves: the same, or marked, which it may be unless it is 2
@@ -64,28 +66,42 @@ pub frame-mark : (p : ℕ) (m : Memory) (q : ℕ) → q < length (m .status) →
 frame-mark p m q l ne = record { status = λ r d. mark-keeps m q l ne r; saves = λ r e d. refl }
 
 -- WHAT IS KNOWN OF A CONTENT stays, if it is of other tasks than p
-pub move-content : {of : ℕ → Type 0} {acts : List Act} {c : ℕ} {w : Word} (p : ℕ) (v : Act) → ((r : ℕ) → of r → r ≢ p) → WellFormed of acts c w → WellFormed of (replace acts p v) c w
+pub move-content : {of : ℕ → Type 0} {acts : List Act} {c : ℕ} {w : Word} (p : ℕ) (v : Act) → ((r : ℕ) → of r → r ≢ p) → WellFormed of acts c w
+    → WellFormed of (replace acts p v) c w
 move-content p v clear (valid h) = valid h
 move-content {acts = acts} {w = w} p v clear (held o H) =
-    held o (record { exchange = H .exchange; at-work = replace-other free acts p (w .task) v (clear (w .task) o) ∙ H .at-work; low = H .low; high = H .high; cell = H .cell; is = H .is })
+    held o (record {
+      exchange = H .exchange;
+      at-work = replace-other free acts p (w .task) v (clear (w .task) o) ∙ H .at-work;
+      low = H .low;
+      high = H .high;
+      cell = H .cell;
+      is = H .is;
+    })
 
 module _ {p : ℕ} {m n : Memory} (F : Frame p m n) where
-  pub own-frame : {of : ℕ → Type 0} {acts : List Act} {c : ℕ} {w : Word} → ((r : ℕ) → of r → r ≢ p) → WellFormed of acts c w → own (n .status) w ≡ own (m .status) w
+  pub own-frame : {of : ℕ → Type 0} {acts : List Act} {c : ℕ} {w : Word} → ((r : ℕ) → of r → r ≢ p) → WellFormed of acts c w
+      → own (n .status) w ≡ own (m .status) w
   own-frame {w = w} clear (valid h) = own-valid (n .status) w h ∙ sym (own-valid (m .status) w h)
   own-frame {w = w} clear (held o H) = own-same (m .status) (n .status) w (kept-two (F .status (w .task) (clear (w .task) o)))
 
   pub current-frame : {of : ℕ → Type 0} {acts : List Act} {c : ℕ} {w : Word} → ((r : ℕ) → of r → r ≢ p) → WellFormed of acts c w
       → current (n .status) (n .saves) w ≡ current (m .status) (m .saves) w
-  current-frame {w = w} clear (valid h) = current-own (n .status) (n .saves) w (own-valid (n .status) w h) ∙ sym (current-own (m .status) (m .saves) w (own-valid (m .status) w h))
-  current-frame {w = w} clear (held o H) = current-same (m .status) (n .status) w (m .saves) (n .saves) (own-frame clear (held o H)) (F .saves (w .task) (w .count) (clear (w .task) o))
+  current-frame {w = w} clear (valid h) =
+      current-own (n .status) (n .saves) w (own-valid (n .status) w h) ∙ sym (current-own (m .status) (m .saves) w (own-valid (m .status) w h))
+  current-frame {w = w} clear (held o H) =
+      current-same (m .status) (n .status) w (m .saves) (n .saves) (own-frame clear (held o H)) (F .saves (w .task) (w .count) (clear (w .task) o))
 
   -- an entry of task q, which may be p if the save place is kept
   module _ (v : Act) {of : ℕ → Type 0} (acts : List Act) (clear : (r : ℕ) → of r → r ≢ p) where
     pub loaded-frame : {e : Entry} → Loaded of (m .status) acts e → Loaded of (n .status) (replace acts p v) e
-    loaded-frame L = record { well-formed = move-content p v clear (L .well-formed); looked = L .looked ∙ ap not (sym (own-frame clear (L .well-formed))) }
+    loaded-frame L =
+        record { well-formed = move-content p v clear (L .well-formed); looked = L .looked ∙ ap not (sym (own-frame clear (L .well-formed))) }
 
-    pub found-frame : {q : ℕ} {e : Entry} {i : ℕ} → saved (n .saves) q i ≡ saved (m .saves) q i → Found of (m .status) (m .saves) acts q e i → Found of (n .status) (n .saves) (replace acts p v) q e i
-    found-frame s E = record { loaded = loaded-frame (E .loaded); was-old = current-frame clear (E .loaded .well-formed) ∙ E .was-old; kept-old = s ∙ E .kept-old }
+    pub found-frame : {q : ℕ} {e : Entry} {i : ℕ} → saved (n .saves) q i ≡ saved (m .saves) q i → Found of (m .status) (m .saves) acts q e i
+        → Found of (n .status) (n .saves) (replace acts p v) q e i
+    found-frame s E =
+        record { loaded = loaded-frame (E .loaded); was-old = current-frame clear (E .loaded .well-formed) ∙ E .was-old; kept-old = s ∙ E .kept-old }
 
     -- the task whose content an overlapped entry replaces
     pub replaced-of : {e : Entry} → Loaded of (m .status) acts e → e .overlapped ≡ true → of (e .init .task)
@@ -95,7 +111,8 @@ module _ {p : ℕ} {m n : Memory} (F : Frame p m n) where
         go (valid h) = let z : _≡_ {A = Bool} true false = sym o ∙ L .looked ∙ ap not (own-valid (m .status) (e .init) h) in impossible (cc)
         go (held h H) = h
 
-    pub settled-frame : {q : ℕ} {e : Entry} {i : ℕ} → saved (n .saves) q i ≡ saved (m .saves) q i → Settled of (m .status) (m .saves) acts q e i → Settled of (n .status) (n .saves) (replace acts p v) q e i
+    pub settled-frame : {q : ℕ} {e : Entry} {i : ℕ} → saved (n .saves) q i ≡ saved (m .saves) q i → Settled of (m .status) (m .saves) acts q e i
+        → Settled of (n .status) (n .saves) (replace acts p v) q e i
     settled-frame {e = e} s E =
         record {
           found = found-frame s (E .found);
@@ -119,7 +136,8 @@ module _ {p : ℕ} {m n : Memory} (F : Frame p m n) where
       step-frame x (clean j yes?) h = (h .0, h .1 ∙ sym (kept-two (F .status q ne)))
       step-frame x (cleanMark j yes?) h = (h .0, h .1 ∙ sym (kept-two (F .status q ne)), h .2)
 
-      reading-frame : (c : ℕ) (r : Reading) → InReading of (m .status) (m .saves) acts q c r → InReading of (n .status) (n .saves) (replace acts p v) q c r
+      reading-frame : (c : ℕ) (r : Reading) → InReading of (m .status) (m .saves) acts q c r
+          → InReading of (n .status) (n .saves) (replace acts p v) q c r
       reading-frame c loading h = tt
       reading-frame c (looking w) h = move-content p v clear h
       reading-frame c (fetching w) h = (move-content p v clear (h .0), own-frame clear (h .0) ∙ h .1)
@@ -160,7 +178,8 @@ module _ {below : ℕ → ℕ → Type 0} {m : Memory} {acts : List Act} {p : �
       go (idle i) = i
       go (lower l) = absurd (lower-clear q l p b refl)
 
-  pub assemble : {n : Memory} {v : Act} → Moved below m n acts p v → (q : ℕ) → Knows (λ r. below r q) (n .status) (n .saves) (replace acts p v) q (actAt (replace acts p v) q)
+  pub assemble : {n : Memory} {v : Act} → Moved below m n acts p v → (q : ℕ)
+      → Knows (λ r. below r q) (n .status) (n .saves) (replace acts p v) q (actAt (replace acts p v) q)
   assemble {n} {v} M q = same? q p
       (λ e. rw (e, replace-same free acts p v (S .task)) (M .knows))
       (λ ne. rw (replace-other free acts p q v ne) (go ne (S .rank q)))

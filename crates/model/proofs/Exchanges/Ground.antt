@@ -7,7 +7,8 @@ use mathlib.Core.List.{List}
 use lib.ListN.{length}
 use Rattle.model.specs.Lists.{at}
 use Rattle.model.specs.Word.{Word, Memory, current, currentOf, Reading, loading, looking, fetching, freshWord}
-use Rattle.model.specs.Exchange.{Entry, Step, start, test, load, look, fetch, fail, mark, install, commit, save, clean, cleanMark, Exchange, entryAt, installed}
+use Rattle.model.specs.Exchange.{Entry, Step, start, test, load, look, fetch, fail, mark, install}
+use Rattle.model.specs.Exchange.{commit, save, clean, cleanMark, Exchange, entryAt, installed}
 use Rattle.model.proofs.Fit.Exchange.{entryOf, SamePairs}
 use Rattle.model.proofs.Exchanges.Act.{Act, free, reading, exchanging, actAt, stage, undecided, uncleaned, here}
 
@@ -48,7 +49,8 @@ pub data CountsOn (below : ℕ → ℕ → Type 0) (hit : ℕ → Type 0) (cells
   was-hit : hit c → CountsOn below hit cells acts r c w
 
 -- what a step knows, over what is counted on, seen and hit
-module _ (counts : ℕ → Word → Type 0) (seen : ℕ → ℕ → Type 0) (hit : ℕ → Type 0) (grounds : Type 0) (status : List ℕ) (saves : List (List ℕ)) (x : Exchange) where
+module _ (counts : ℕ → Word → Type 0) (seen : ℕ → ℕ → Type 0) (hit : ℕ → Type 0) (grounds : Type 0) (status : List ℕ) (saves : List (List ℕ))
+    (x : Exchange) where
   abbrev pub PastStep : Step → Type 0
   PastStep start = Unit {0}
   PastStep test = Unit {0}
@@ -66,7 +68,8 @@ module _ (counts : ℕ → Word → Type 0) (seen : ℕ → ℕ → Type 0) (hit
 module _ (below : ℕ → ℕ → Type 0) (H : History) (cells : List Word) (status : List ℕ) (saves : List (List ℕ)) (acts : List Act) (r : ℕ) where
   pub record PastExchange (x : Exchange) : Type 0 where
     pub pairs : SamePairs (x .entries) (H .pairs r)
-    pub counts : (e : ℕ) → uncleaned (stage x) ≤ e → e < x .i → CountsOn below (H .hit r) cells acts r (entryAt x e .cell) (installed r (entryAt x e) e)
+    pub counts : (e : ℕ) → uncleaned (stage x) ≤ e → e < x .i
+        → CountsOn below (H .hit r) cells acts r (entryAt x e .cell) (installed r (entryAt x e) e)
     pub grounds : undecided (stage x) ≡ true → at 0 status r ≢ 0 → GroundsOf H r
     pub at-step : PastStep (CountsOn below (H .hit r) cells acts r) (H .seen r) (H .hit r) (GroundsOf H r) status saves x (x .step)
 
@@ -96,7 +99,8 @@ pub record Passes (below : ℕ → ℕ → Type 0) (acts : List Act) (p : ℕ) (
   pub pairs : (r : ℕ) → Busy acts r → H′ .pairs r ≡ H .pairs r
   -- of two tasks in an operation the lower one began first: what hit p has hit it, and so has p's own exchange
   pub down : (r c : ℕ) → Busy acts r → Busy acts p → below r p → H .hit p c → H′ .hit r c
-  pub mine : (r e : ℕ) → Busy acts r → Busy acts p → below r p → e < length (H .pairs p) → entryOf (H .pairs p) e .old ≢ entryOf (H .pairs p) e .new → H′ .hit r (entryOf (H .pairs p) e .cell)
+  pub mine : (r e : ℕ) → Busy acts r → Busy acts p → below r p → e < length (H .pairs p) → entryOf (H .pairs p) e .old ≢ entryOf (H .pairs p) e .new
+      → H′ .hit r (entryOf (H .pairs p) e .cell)
 
 -- the memory being m at the beginning of the tick, p's operation sees it
 abbrev pub SeesNow : Memory → ℕ → History → Type 0

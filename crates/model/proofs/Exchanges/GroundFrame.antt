@@ -7,13 +7,15 @@ use mathlib.Core.List.{List}
 use native.Mathlib.Omega.{arith}
 use Rattle.model.specs.Lists.{at, replace}
 use Rattle.model.specs.Word.{Word, Memory, cellOf, statusOf, current, loading, looking, fetching}
-use Rattle.model.specs.Exchange.{Entry, Step, start, test, load, look, fetch, fail, mark, install, commit, save, clean, cleanMark, Exchange, entryAt, installed}
+use Rattle.model.specs.Exchange.{Entry, Step, start, test, load, look, fetch, fail, mark, install}
+use Rattle.model.specs.Exchange.{commit, save, clean, cleanMark, Exchange, entryAt, installed}
 use Rattle.model.proofs.Lists.{replace-same, replace-other, same?, impossible}
 use Rattle.model.proofs.Exchanges.Act.{Act, free, reading, exchanging, actAt, stage, undecided}
 use Rattle.model.proofs.Exchanges.Invariant.{WellFormed, valid, held, AtStep, InExchange, Knows, Rank, itself, idle, lower, Situation}
 use Rattle.model.proofs.Exchanges.Frame.{current-frame, lower-clear, Moved}
 use Rattle.model.proofs.Fit.Exchange.{SamePairs}
-use Rattle.model.proofs.Exchanges.Ground.{History, Grounds, differs, beaten, GroundsOf, ReplacedBy, CountsOn, there, replaced, was-hit, PastStep, PastExchange, PastAct, Past, Busy, Passes}
+use Rattle.model.proofs.Exchanges.Ground.{History, Grounds, differs, beaten, GroundsOf, ReplacedBy, CountsOn, there}
+use Rattle.model.proofs.Exchanges.Ground.{replaced, was-hit, PastStep, PastExchange, PastAct, Past, Busy, Passes}
 
 -- one of the cells that the exchange has come to was hit
 pub record HitBelow (hit : ℕ → Type 0) (z : Exchange) : Type 0 where
@@ -23,7 +25,8 @@ pub record HitBelow (hit : ℕ → Type 0) (z : Exchange) : Type 0 where
 
 -- what is asked of a statement of p that leads from the memory m and act v₀ to n and v
 pub record UpholdsPast (below : ℕ → ℕ → Type 0) (H′ : History) (m n : Memory) (acts : List Act) (p : ℕ) (v₀ v : Act) : Type 0 where
-  pub content : (r c : ℕ) (w : Word) → Busy acts r → below r p → ((e : Entry) (i : ℕ) → w ≢ installed p e i) → cellOf m c ≡ w → CountsOn below (H′ .hit r) (n .cells) (replace acts p v) r c w
+  pub content : (r c : ℕ) (w : Word) → Busy acts r → below r p → ((e : Entry) (i : ℕ) → w ≢ installed p e i) → cellOf m c ≡ w
+      → CountsOn below (H′ .hit r) (n .cells) (replace acts p v) r c w
   pub cover : (r c : ℕ) (w : Word) → Busy acts r → below r p → ReplacedBy v₀ c w → CountsOn below (H′ .hit r) (n .cells) (replace acts p v) r c w
   pub marked : (r : ℕ) → r ≢ p → (statusOf n r ≡ statusOf m r) ⊎ ((z : Exchange) → actAt acts r ≡ exchanging z → below r p → HitBelow (H′ .hit r) z)
   pub own : PastAct below H′ (n .cells) (n .status) (n .saves) (replace acts p v) p v
@@ -45,10 +48,12 @@ module _ {below : ℕ → ℕ → Type 0} {acts : List Act} {p : ℕ} {H H′ : 
   pub seen-later : {r : ℕ} {c v : ℕ} → Busy acts r → H .seen r c v → H′ .seen r c v
   seen-later {r} {c} {v} B s = T .seen r c v (busy-not-free B) s
 
-module _ {below : ℕ → ℕ → Type 0} {m : Memory} {acts : List Act} {p : ℕ} {v₀ : Act} (S : Situation below m acts p v₀) {H H′ : History} (T : Passes below acts p H H′) {n : Memory} {v : Act} (M : Moved below m n acts p v) (U : UpholdsPast below H′ m n acts p v₀ v) where
+module _ {below : ℕ → ℕ → Type 0} {m : Memory} {acts : List Act} {p : ℕ} {v₀ : Act} (S : Situation below m acts p v₀) {H H′ : History}
+    (T : Passes below acts p H H′) {n : Memory} {v : Act} (M : Moved below m n acts p v) (U : UpholdsPast below H′ m n acts p v₀ v) where
   -- a task r below p
   module _ (r : ℕ) (b : below r p) (ne : r ≢ p) where
-    counts-later : (c : ℕ) (w : Word) → Busy acts r → ((e : Entry) (i : ℕ) → w ≢ installed p e i) → CountsOn below (H .hit r) (m .cells) acts r c w → CountsOn below (H′ .hit r) (n .cells) (replace acts p v) r c w
+    counts-later : (c : ℕ) (w : Word) → Busy acts r → ((e : Entry) (i : ℕ) → w ≢ installed p e i) → CountsOn below (H .hit r) (m .cells) acts r c w
+        → CountsOn below (H′ .hit r) (n .cells) (replace acts p v) r c w
     counts-later c w B o (there h) = U .content r c w B b o h
     counts-later c w B o (replaced q bq C) = same? q p
         (λ k. U .cover r c w B b (rw (k, S .act) at C))
@@ -63,14 +68,16 @@ module _ {below : ℕ → ℕ → Type 0} {m : Memory} {acts : List Act} {p : �
     current-later : {c : ℕ} {w : Word} → WellFormed (λ q. below q r) acts c w → current (n .status) (n .saves) w ≡ current (m .status) (m .saves) w
     current-later k = current-frame (M .frame) (lower-clear S r b) k
 
-    value-later : {c : ℕ} {w : Word} → actAt acts r ≢ free → WellFormed (λ q. below q r) acts c w → H .seen r c (current (m .status) (m .saves) w) → H′ .seen r c (current (n .status) (n .saves) w)
+    value-later : {c : ℕ} {w : Word} → actAt acts r ≢ free → WellFormed (λ q. below q r) acts c w → H .seen r c (current (m .status) (m .saves) w)
+        → H′ .seen r c (current (n .status) (n .saves) w)
     value-later nf k h = rw (current-later k) (T .seen r _ _ nf h)
 
     module _ (x : Exchange) (ax : actAt acts r ≡ exchanging x) where
       busy : Busy acts r
       busy = record { exchange = x; act = ax }
 
-      loaded-later : {c : ℕ} {w : Word} → WellFormed (λ q. below q r) acts c w → CountsOn below (H .hit r) (m .cells) acts r c w → CountsOn below (H′ .hit r) (n .cells) (replace acts p v) r c w
+      loaded-later : {c : ℕ} {w : Word} → WellFormed (λ q. below q r) acts c w → CountsOn below (H .hit r) (m .cells) acts r c w
+          → CountsOn below (H′ .hit r) (n .cells) (replace acts p v) r c w
       loaded-later {c} {w} k h = counts-later c w busy (not-running k) h
 
       step-later : (s : Step) → AtStep (λ q. below q r) (m .status) (m .saves) acts r x s
@@ -99,14 +106,16 @@ module _ {below : ℕ → ℕ → Type 0} {m : Memory} {acts : List Act} {p : �
             at-step = step-later (x .step) (K .at-step) (P .at-step);
           }
         where
-          go : undecided (stage x) ≡ true → statusOf n r ≢ 0 → (statusOf n r ≡ statusOf m r) ⊎ ((z : Exchange) → actAt acts r ≡ exchanging z → below r p → HitBelow (H′ .hit r) z) → GroundsOf H′ r
+          go : undecided (stage x) ≡ true → statusOf n r ≢ 0
+              → (statusOf n r ≡ statusOf m r) ⊎ ((z : Exchange) → actAt acts r ≡ exchanging z → below r p → HitBelow (H′ .hit r) z) → GroundsOf H′ r
           go u d (inl e) = grounds-later T busy (P .grounds u (rw e at d))
           go u d (inr f) =
               let h = f x ax b in
               let Q = pairs-later T busy (P .pairs) in
               beaten (h .number) (omega (arith, h .high, K .within, Q .size)) (rw (Q .cell (h .number)) at (h .was))
 
-    lower-later : (u : Act) → actAt acts r ≡ u → Knows (λ q. below q r) (m .status) (m .saves) acts r u → PastAct below H (m .cells) (m .status) (m .saves) acts r u
+    lower-later : (u : Act) → actAt acts r ≡ u → Knows (λ q. below q r) (m .status) (m .saves) acts r u
+        → PastAct below H (m .cells) (m .status) (m .saves) acts r u
         → PastAct below H′ (n .cells) (n .status) (n .saves) (replace acts p v) r u
     lower-later free e k h = tt
     lower-later (reading c loading) e k h = tt

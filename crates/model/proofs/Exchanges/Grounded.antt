@@ -6,7 +6,8 @@ use mathlib.Core.Logic.{_≢_, inl}
 use mathlib.Core.List.{List}
 use native.Mathlib.Omega.{arith}
 use Rattle.model.specs.Lists.{at, replace}
-use Rattle.model.specs.Word.{Word, Memory, cellOf, statusOf, setStatus, saved, own, Reading, loading, looking, fetching, gives, readTick, lookingBy}
+use Rattle.model.specs.Word.{Word, Memory, cellOf, statusOf, setStatus, saved, own, Reading}
+use Rattle.model.specs.Word.{loading, looking, fetching, gives, readTick, lookingBy}
 use Rattle.model.specs.Exchange.{Entry, Step, start, test, Exchange, Exchanged, ends, exchangeTick}
 use Rattle.model.proofs.Lists.{replace-same, replace-other, impossible}
 use Rattle.model.proofs.Exchanges.Act.{Act, free, reading, exchanging, actBy, actOf, started?, actAfter, memoryAfter, Quiet, Distinct}
@@ -21,10 +22,13 @@ use Rattle.model.proofs.Exchanges.GroundFrame.{past-after}
 use Rattle.model.proofs.Exchanges.GroundKept.{exchange-upholds-past, no-grounds, NoGrounds}
 
 -- A TASK IN NO EXCHANGE
-module _ {below : ℕ → ℕ → Type 0} {m : Memory} {acts : List Act} {p : ℕ} {v₀ : Act} (S : Situation below m acts p v₀) (q : Quiet v₀) {H H′ : History} (T : Passes below acts p H H′) (P : Past below H m acts) where
+module _ {below : ℕ → ℕ → Type 0} {m : Memory} {acts : List Act} {p : ℕ} {v₀ : Act} (S : Situation below m acts p v₀) (q : Quiet v₀) {H H′ : History}
+    (T : Passes below acts p H H′) (P : Past below H m acts) where
   pub quiet-past : {n : Memory} (v : Act) → Moved below m n acts p v → n .cells ≡ m .cells → ((r : ℕ) → r ≢ p → statusOf n r ≡ statusOf m r)
       → PastAct below H′ (n .cells) (n .status) (n .saves) (replace acts p v) p v → Past below H′ n (replace acts p v)
-  quiet-past v M ec st own = past-after S T M (record { content = λ r c w B b o h. there (rw ec h); cover = λ r c w B b C. absurd (none v₀ c w q C); marked = λ r ne. inl (st r ne); own = own }) P
+  quiet-past v M ec st own =
+      past-after S T M
+      (record { content = λ r c w B b o h. there (rw ec h); cover = λ r c w B b C. absurd (none v₀ c w q C); marked = λ r ne. inl (st r ne); own = own }) P
     where
       none : (y : Act) (c : ℕ) (w : Word) → Quiet y → ReplacedBy y c w → ⊥
       none free c w q C = C
@@ -38,7 +42,8 @@ module _ {below : ℕ → ℕ → Type 0} {m : Memory} {acts : List Act} {p : �
   pub load-past : SeesNow m p H′ → (c : ℕ) → Past below H′ m (replace acts p (reading c (looking (cellOf m c))))
   load-past now c = quiet-past (reading c (looking (cellOf m c))) (read-loaded S q c) refl (λ r ne. refl) (now c)
 
-  pub start-past : (es : List Entry) → Distinct es → SamePairs es (H′ .pairs p) → Past below H′ (setStatus m p 0) (replace acts p (exchanging (record { entries = es; i = 0; step = test })))
+  pub start-past : (es : List Entry) → Distinct es → SamePairs es (H′ .pairs p)
+      → Past below H′ (setStatus m p 0) (replace acts p (exchanging (record { entries = es; i = 0; step = test })))
   start-past es d Q =
       quiet-past (exchanging (record { entries = es; i = 0; step = test })) (start-moved S q es d) refl (λ r ne. replace-other 0 (m .status) p r 0 ne)
       (record {
@@ -49,19 +54,22 @@ module _ {below : ℕ → ℕ → Type 0} {m : Memory} {acts : List Act} {p : �
       })
 
 -- READINGS
-module _ {below : ℕ → ℕ → Type 0} {m : Memory} {acts : List Act} {p : ℕ} (c : ℕ) {H H′ : History} (T : Passes below acts p H H′) (now : SeesNow m p H′) (P : Past below H m acts) where
+module _ {below : ℕ → ℕ → Type 0} {m : Memory} {acts : List Act} {p : ℕ} (c : ℕ) {H H′ : History} (T : Passes below acts p H H′)
+    (now : SeesNow m p H′) (P : Past below H m acts) where
   seen-before : {r : Reading} → Situation below m acts p (reading c r) → (v : ℕ) → H .seen p c v → H′ .seen p c v
   seen-before S v h = T .seen p c v (λ f. impossible (cc (S .act))) h
 
   mine-past : {r : Reading} → Situation below m acts p (reading c r) → PastAct below H (m .cells) (m .status) (m .saves) acts p (reading c r)
   mine-past S = subst (λ (v : Act). PastAct below H (m .cells) (m .status) (m .saves) acts p v) (S .act) (P .knows p)
 
-  looked-past : (w : Word) → Situation below m acts p (reading c (looking w)) → (b : Bool) → own (m .status) w ≡ b → PastAct below H′ (m .cells) (m .status) (m .saves) (replace acts p (actRead c (lookingBy b w))) p (actRead c (lookingBy b w))
+  looked-past : (w : Word) → Situation below m acts p (reading c (looking w)) → (b : Bool) → own (m .status) w ≡ b
+      → PastAct below H′ (m .cells) (m .status) (m .saves) (replace acts p (actRead c (lookingBy b w))) p (actRead c (lookingBy b w))
   unfolding lookingBy
   looked-past w S true e = tt
   looked-past w S false e = seen-before S _ (mine-past S)
 
-  read-past : (r : Reading) → Situation below m acts p (reading c r) → PastAct below H′ (m .cells) (m .status) (m .saves) (replace acts p (actRead c (readTick m c r))) p (actRead c (readTick m c r))
+  read-past : (r : Reading) → Situation below m acts p (reading c r)
+      → PastAct below H′ (m .cells) (m .status) (m .saves) (replace acts p (actRead c (readTick m c r))) p (actRead c (readTick m c r))
   unfolding readTick
   read-past loading S = now c
   read-past (looking w) S = looked-past w S (own (m .status) w) refl
@@ -70,7 +78,8 @@ module _ {below : ℕ → ℕ → Type 0} {m : Memory} {acts : List Act} {p : �
   pub reading-past : (r : Reading) → Situation below m acts p (reading c r) → Past below H′ m (replace acts p (actRead c (readTick m c r)))
   reading-past r S = quiet-past S tt T P (actRead c (readTick m c r)) (reading-moved r S) refl (λ r ne. refl) (read-past r S)
 
-  looked-gives : (w : Word) (v : ℕ) → Situation below m acts p (reading c (looking w)) → (b : Bool) → own (m .status) w ≡ b → lookingBy b w ≡ gives v → H′ .seen p c v
+  looked-gives : (w : Word) (v : ℕ) → Situation below m acts p (reading c (looking w)) → (b : Bool) → own (m .status) w ≡ b → lookingBy b w ≡ gives v
+      → H′ .seen p c v
   unfolding lookingBy
   looked-gives w v S true e g =
       let k : w .value ≡ v = cc in
@@ -91,17 +100,23 @@ module _ {below : ℕ → ℕ → Type 0} {m : Memory} {acts : List Act} {p : �
       knows S = subst (λ (v : Act). Knows (λ r. below r p) (m .status) (m .saves) acts p v) (S .act) (S .invariant .knows p)
 
 -- EXCHANGES
-module _ {below : ℕ → ℕ → Type 0} {m : Memory} {acts : List Act} {p : ℕ} {H H′ : History} (T : Passes below acts p H H′) (now : SeesNow m p H′) (P : Past below H m acts) where
-  pub exchange-past : (x : Exchange) → Situation below m acts p (actOf x) → Room m p (x .entries) → (x .step ≡ start → Distinct (x .entries) × SamePairs (x .entries) (H′ .pairs p))
+module _ {below : ℕ → ℕ → Type 0} {m : Memory} {acts : List Act} {p : ℕ} {H H′ : History} (T : Passes below acts p H H′) (now : SeesNow m p H′)
+    (P : Past below H m acts) where
+  pub exchange-past : (x : Exchange) → Situation below m acts p (actOf x) → Room m p (x .entries)
+      → (x .step ≡ start → Distinct (x .entries) × SamePairs (x .entries) (H′ .pairs p))
       → Past below H′ (memoryAfter (exchangeTick p m x (x .step))) (replace acts p (actAfter (exchangeTick p m x (x .step))))
   unfolding exchangeTick
   exchange-past x S R d = started? x
-      (λ s. subst (λ (z : Step). Past below H′ (memoryAfter (exchangeTick p m x z)) (replace acts p (actAfter (exchangeTick p m x z)))) (sym s) (at-start (subst (λ (z : Step). Situation below m acts p (actBy z x)) s S) (d s)))
-      (λ k. let S′ : Situation below m acts p (exchanging x) = rw k at S in past-after S′ T (exchange-moved S′ R (outcome p m x)) (exchange-upholds-past S′ T P now R (outcome p m x)) P)
+      (λ s. subst (λ (z : Step). Past below H′ (memoryAfter (exchangeTick p m x z)) (replace acts p (actAfter (exchangeTick p m x z)))) (sym s)
+      (at-start (subst (λ (z : Step). Situation below m acts p (actBy z x)) s S) (d s)))
+      (λ k. let S′ : Situation below m acts p (exchanging x) = rw k at S in
+      past-after S′ T (exchange-moved S′ R (outcome p m x)) (exchange-upholds-past S′ T P now R (outcome p m x)) P)
     where
-      at-start : Situation below m acts p free → Distinct (x .entries) × SamePairs (x .entries) (H′ .pairs p) → Past below H′ (memoryAfter (exchangeTick p m x start)) (replace acts p (actAfter (exchangeTick p m x start)))
+      at-start : Situation below m acts p free → Distinct (x .entries) × SamePairs (x .entries) (H′ .pairs p)
+          → Past below H′ (memoryAfter (exchangeTick p m x start)) (replace acts p (actAfter (exchangeTick p m x start)))
       at-start S d = start-past S tt T P (x .entries) (d .0) (d .1)
 
   -- an exchange that answers no has its grounds
-  pub no-has-grounds : (x : Exchange) (n : Memory) → Situation below m acts p (exchanging x) → Room m p (x .entries) → exchangeTick p m x (x .step) ≡ ends n false → GroundsOf H′ p
+  pub no-has-grounds : (x : Exchange) (n : Memory) → Situation below m acts p (exchanging x) → Room m p (x .entries)
+      → exchangeTick p m x (x .step) ≡ ends n false → GroundsOf H′ p
   no-has-grounds x n S R e = (subst (λ (o : Exchanged). NoGrounds S T P o) e (no-grounds S T P R (outcome p m x))) refl

@@ -8,8 +8,10 @@ use lib.Dec.{eqb}
 use lib.ListN.{length}
 use Rattle.model.specs.Lists.{at}
 use Rattle.model.specs.Word.{Word, Memory, cellOf, saved, own, current, Reading, loading, looking, fetching, freshWord}
-use Rattle.model.specs.Exchange.{Entry, entry, Step, start, test, load, look, fetch, fail, mark, install, commit, save, clean, cleanMark, Exchange, entryAt, installed}
-use Rattle.model.proofs.Exchanges.Act.{Act, free, reading, exchanging, actAt, working, stage, undecided, hopeful, uncleaned, covering, here, Distinct}
+use Rattle.model.specs.Exchange.{Entry, entry, Step, start, test, load, look, fetch, fail, mark}
+use Rattle.model.specs.Exchange.{install, commit, save, clean, cleanMark, Exchange, entryAt, installed}
+use Rattle.model.proofs.Exchanges.Act.{Act, free, reading, exchanging, actAt, working, stage}
+use Rattle.model.proofs.Exchanges.Act.{undecided, hopeful, uncleaned, covering, here, Distinct}
 
 -- CONTENTS
 -- the word stands in cell c for an uncleaned entry of its task's exchange

@@ -10,10 +10,14 @@ use Rattle.model.specs.Exchange.{Entry, start, test, Exchange, Exchanged
 use Rattle.model.proofs.Lists.{replace-same, impossible}
 use Rattle.model.proofs.Exchanges.Act.{Act, free, reading, exchanging, actAt, actAfter, memoryAfter, Quiet, Distinct}
 use Rattle.model.proofs.Exchanges.Invariant.{WellFormed, valid, held, Anyone, Knows, Rank, itself, idle, lower, Situation, Room}
-use Rattle.model.proofs.Exchanges.Outcome.{Outcome, starts, tests-done, tests-on, loads, looks-own, looks-other, fetches, saves-differing, saves-to-mark, saves, fails, marks, installs, misses, decides, decides-last, cleans, cleans-last, cleans-to-mark}
+use Rattle.model.proofs.Exchanges.Outcome.{Outcome, starts, tests-done, tests-on, loads, looks-own, looks-other}
+use Rattle.model.proofs.Exchanges.Outcome.{fetches, saves-differing, saves-to-mark, saves, fails, marks, installs}
+use Rattle.model.proofs.Exchanges.Outcome.{misses, decides, decides-last, cleans, cleans-last, cleans-to-mark}
 use Rattle.model.proofs.Exchanges.Frame.{Frame, frame-none, frame-status, move-content, Moved, below-clear}
 use Rattle.model.proofs.Exchanges.Early.{at-step-as}
-use Rattle.model.proofs.Exchanges.Statement.{test-done-moved, test-on-moved, load-moved, look-own-moved, look-other-moved, fetch-moved, fail-moved, mark-moved, save-differing-moved, save-to-mark-moved, save-on-moved, miss-moved, install-moved}
+use Rattle.model.proofs.Exchanges.Statement.{test-done-moved, test-on-moved, load-moved, look-own-moved}
+use Rattle.model.proofs.Exchanges.Statement.{look-other-moved, fetch-moved, fail-moved, mark-moved, save-differing-moved}
+use Rattle.model.proofs.Exchanges.Statement.{save-to-mark-moved, save-on-moved, miss-moved, install-moved}
 use Rattle.model.proofs.Exchanges.Clean.{decides-moved, decides-last-moved, cleaned-at, cleans-moved, cleans-last-moved, cleans-to-mark-moved}
 
 quiet-not : {x : Exchange} (v : Act) → Quiet v → v ≡ exchanging x → ⊥
@@ -32,15 +36,18 @@ module _ {below : ℕ → ℕ → Type 0} {m : Memory} {acts : List Act} {p : �
       go (idle i) = impossible (cc (H .at-work))
       go (itself e) = absurd (quiet-not v₀ q (sym (S .act) ∙ ap (λ (r : ℕ). actAt acts r) (sym e) ∙ H .at-work))
 
-  pub quiet-moved : {n : Memory} (v : Act) → n .cells ≡ m .cells → Frame p m n → Knows (λ r. below r p) (n .status) (n .saves) (replace acts p v) p v → Moved below m n acts p v
-  quiet-moved v ec F k = record { frame = F; contents = λ c. rw ec (weaken (move-content p v (below-clear S) (others-content (S .invariant .contents c)))); knows = k }
+  pub quiet-moved : {n : Memory} (v : Act) → n .cells ≡ m .cells → Frame p m n → Knows (λ r. below r p) (n .status) (n .saves) (replace acts p v) p v
+      → Moved below m n acts p v
+  quiet-moved v ec F k =
+      record { frame = F; contents = λ c. rw ec (weaken (move-content p v (below-clear S) (others-content (S .invariant .contents c)))); knows = k }
     where
       weaken : {a : List Act} {c : ℕ} {w : Word} → WellFormed (λ r. below r p) a c w → WellFormed Anyone a c w
       weaken (valid h) = valid h
       weaken (held b H) = held tt H
 
   -- Start
-  pub start-moved : (es : List Entry) → Distinct es → Moved below m (setStatus m p 0) acts p (exchanging (record { entries = es; i = 0; step = test }))
+  pub start-moved : (es : List Entry) → Distinct es
+      → Moved below m (setStatus m p 0) acts p (exchanging (record { entries = es; i = 0; step = test }))
   start-moved es d =
       quiet-moved (exchanging (record { entries = es; i = 0; step = test })) refl (frame-status p m 0)
       (record {
@@ -54,7 +61,9 @@ module _ {below : ℕ → ℕ → Type 0} {m : Memory} {acts : List Act} {p : �
 
   -- the Load of a reading
   pub read-loaded : (c : ℕ) → Moved below m m acts p (reading c (looking (cellOf m c)))
-  read-loaded c = quiet-moved (reading c (looking (cellOf m c))) refl (frame-none p m) (move-content p _ (below-clear S) (others-content (S .invariant .contents c)))
+  read-loaded c =
+      quiet-moved (reading c (looking (cellOf m c))) refl (frame-none p m)
+      (move-content p _ (below-clear S) (others-content (S .invariant .contents c)))
 
 -- what a tick of a reading of cell c leaves of its task's act
 abbrev pub actRead : ℕ → Read → Act
@@ -62,11 +71,13 @@ actRead c (reads r) = reading c r
 actRead c (gives v) = free
 
 module _ {below : ℕ → ℕ → Type 0} {m : Memory} {acts : List Act} {p c : ℕ} where
-  looked-moved : {w : Word} → Situation below m acts p (reading c (looking w)) → (b : Bool) → own (m .status) w ≡ b → Moved below m m acts p (actRead c (lookingBy b w))
+  looked-moved : {w : Word} → Situation below m acts p (reading c (looking w)) → (b : Bool) → own (m .status) w ≡ b
+      → Moved below m m acts p (actRead c (lookingBy b w))
   unfolding lookingBy
   looked-moved S true e = quiet-moved S tt free refl (frame-none p m) tt
   looked-moved {w} S false e =
-      let k : WellFormed (λ r. below r p) acts c w = subst (λ (v : Act). Knows (λ r. below r p) (m .status) (m .saves) acts p v) (S .act) (S .invariant .knows p) in
+      let k : WellFormed (λ r. below r p) acts c w =
+      subst (λ (v : Act). Knows (λ r. below r p) (m .status) (m .saves) acts p v) (S .act) (S .invariant .knows p) in
       quiet-moved S tt (reading c (fetching w)) refl (frame-none p m) (move-content p (reading c (fetching w)) (below-clear S) k, e)
 
   pub reading-moved : (r : Reading) → Situation below m acts p (reading c r) → Moved below m m acts p (actRead c (readTick m c r))
@@ -75,7 +86,8 @@ module _ {below : ℕ → ℕ → Type 0} {m : Memory} {acts : List Act} {p c : 
   reading-moved (looking w) S = looked-moved S (own (m .status) w) refl
   reading-moved (fetching w) S = quiet-moved S tt free refl (frame-none p m) tt
 
-module _ {below : ℕ → ℕ → Type 0} {m : Memory} {acts : List Act} {p : ℕ} {x : Exchange} (S : Situation below m acts p (exchanging x)) (R : Room m p (x .entries)) where
+module _ {below : ℕ → ℕ → Type 0} {m : Memory} {acts : List Act} {p : ℕ} {x : Exchange} (S : Situation below m acts p (exchanging x))
+    (R : Room m p (x .entries)) where
   pub exchange-moved : {o : Exchanged} → Outcome p m x o → Moved below m (memoryAfter o) acts p (actAfter o)
   exchange-moved (starts s) = absurd (at-step-as S start s)
   exchange-moved (tests-done s h) = test-done-moved S s h

@@ -16,11 +16,13 @@ use Rattle.model.proofs.Exchanges.Standing.{stays, GivesBack, AllInstal
 use Rattle.model.proofs.Exchanges.Upheld.{exchange-upholds}
 
 -- all cells valid and all tasks free
-pub invariant-at-first : {below : ℕ → ℕ → Type 0} (m : Memory) (acts : List Act) → ((c : ℕ) → cellOf m c .valid ≡ true) → ((p : ℕ) → actAt acts p ≡ free) → Invariant below m acts
+pub invariant-at-first : {below : ℕ → ℕ → Type 0} (m : Memory) (acts : List Act) → ((c : ℕ) → cellOf m c .valid ≡ true)
+    → ((p : ℕ) → actAt acts p ≡ free) → Invariant below m acts
 invariant-at-first m acts v f = record { contents = λ c. valid (v c); knows = λ p. rw (f p) tt; standing = λ p. rw (f p) tt }
 
 -- block stores are no matter of this layer
-pub stores-kept : {below : ℕ → ℕ → Type 0} {m : Memory} {acts : List Act} (stores : List (List ℕ)) → Invariant below m acts → Invariant below (memory (m .cells) (m .status) (m .saves) stores) acts
+pub stores-kept : {below : ℕ → ℕ → Type 0} {m : Memory} {acts : List Act} (stores : List (List ℕ)) → Invariant below m acts
+    → Invariant below (memory (m .cells) (m .status) (m .saves) stores) acts
 stores-kept stores I = record { contents = I .contents; knows = I .knows; standing = I .standing }
 
 -- A TASK IN NO EXCHANGE
@@ -40,7 +42,8 @@ module _ {below : ℕ → ℕ → Type 0} {m : Memory} {acts : List Act} {p : �
   pub load-kept : (c : ℕ) → Invariant below m (replace acts p (reading c (looking (cellOf m c))))
   load-kept c = invariant-after S (read-loaded S q c) (quiet-upholds _ refl tt)
 
-  pub start-kept : (es : List Entry) → Distinct es → Invariant below (setStatus m p 0) (replace acts p (exchanging (record { entries = es; i = 0; step = test })))
+  pub start-kept : (es : List Entry) → Distinct es
+      → Invariant below (setStatus m p 0) (replace acts p (exchanging (record { entries = es; i = 0; step = test })))
   start-kept es d = invariant-after S (start-moved S q es d) (quiet-upholds _ refl (λ k st e (h : e < 0). absurd (omega arith)))
 
 module _ {below : ℕ → ℕ → Type 0} {m : Memory} {acts : List Act} {p : ℕ} where
@@ -52,7 +55,8 @@ module _ {below : ℕ → ℕ → Type 0} {m : Memory} {acts : List Act} {p : �
       none (gives v) = tt
 
   -- A TASK IN AN EXCHANGE
-  pub going-kept : {x : Exchange} {o : Exchanged} → Situation below m acts p (exchanging x) → Room m p (x .entries) → Outcome p m x o → Invariant below (memoryAfter o) (replace acts p (actAfter o))
+  pub going-kept : {x : Exchange} {o : Exchanged} → Situation below m acts p (exchanging x) → Room m p (x .entries) → Outcome p m x o
+      → Invariant below (memoryAfter o) (replace acts p (actAfter o))
   going-kept S R o = invariant-after S (exchange-moved S R o) (exchange-upholds S R o)
 
   -- every tick of an exchange, Start too
@@ -60,8 +64,10 @@ module _ {below : ℕ → ℕ → Type 0} {m : Memory} {acts : List Act} {p : �
       → Invariant below (memoryAfter (exchangeTick p m x (x .step))) (replace acts p (actAfter (exchangeTick p m x (x .step))))
   unfolding exchangeTick
   exchange-kept x S R d = started? x
-      (λ s. subst (λ (z : Step). Invariant below (memoryAfter (exchangeTick p m x z)) (replace acts p (actAfter (exchangeTick p m x z)))) (sym s) (at-start (subst (λ (z : Step). Situation below m acts p (actBy z x)) s S) (d s)))
+      (λ s. subst (λ (z : Step). Invariant below (memoryAfter (exchangeTick p m x z)) (replace acts p (actAfter (exchangeTick p m x z)))) (sym s)
+      (at-start (subst (λ (z : Step). Situation below m acts p (actBy z x)) s S) (d s)))
       (λ k. going-kept (rw k at S) R (outcome p m x))
     where
-      at-start : Situation below m acts p free → Distinct (x .entries) → Invariant below (memoryAfter (exchangeTick p m x start)) (replace acts p (actAfter (exchangeTick p m x start)))
+      at-start : Situation below m acts p free → Distinct (x .entries)
+          → Invariant below (memoryAfter (exchangeTick p m x start)) (replace acts p (actAfter (exchangeTick p m x start)))
       at-start S d = start-kept S tt (x .entries) d

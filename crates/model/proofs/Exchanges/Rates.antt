@@ -8,9 +8,12 @@ use native.Mathlib.Omega.{arith}
 use lib.ListN.{length}
 use Rattle.model.specs.Lists.{at, replace}
 use Rattle.model.specs.Word.{Word, Memory, cellOf, statusOf, own, Reading, loading, looking, fetching, reads, gives, readTick, lookingBy}
-use Rattle.model.specs.Exchange.{Entry, Step, start, test, load, look, fetch, fail, mark, install, commit, save, clean, cleanMark, Exchange, exchangeOf, Exchanged, goes, ends, exchangeTick}
+use Rattle.model.specs.Exchange.{Entry, Step, start, test, load, look, fetch, fail, mark, install, commit, save}
+use Rattle.model.specs.Exchange.{clean, cleanMark, Exchange, exchangeOf, Exchanged, goes, ends, exchangeTick}
 use Rattle.model.proofs.Lists.{replace-same, length-replace, impossible}
-use Rattle.model.proofs.Exchanges.Outcome.{Cleans, renews, passes, gives-back, leaves, marks-after, Outcome, starts, tests-done, tests-on, loads, looks-own, looks-other, fetches, saves-differing, saves-to-mark, saves, fails, marks, installs, misses, decides, decides-last, cleans, cleans-last, cleans-to-mark, outcome}
+use Rattle.model.proofs.Exchanges.Outcome.{Cleans, renews, passes, gives-back, leaves, marks-after, Outcome, starts, tests-done, tests-on}
+use Rattle.model.proofs.Exchanges.Outcome.{loads, looks-own, looks-other, fetches, saves-differing, saves-to-mark, saves, fails, marks}
+use Rattle.model.proofs.Exchanges.Outcome.{installs, misses, decides, decides-last, cleans, cleans-last, cleans-to-mark, outcome}
 
 -- READINGS
 -- a reading of cell c that has done t ticks and not ended, the memory being any at each of them
@@ -63,7 +66,8 @@ reading-ends {c} {t} {r} R = go r (reading-at R)
 -- task p's exchange of those entries has done t ticks of its own and not ended; what the others do keeps p's status if it is 1
 pub data Ran (p : ℕ) (es : List Entry) : ℕ → Memory → Exchange → Type 0 where
   before-start : (m : Memory) → Ran p es 0 m (exchangeOf es)
-  own-tick : {t : ℕ} {m n : Memory} {x y : Exchange} → Ran p es t m x → p < length (m .status) → exchangeTick p m x (x .step) ≡ goes n y → Ran p es (suc t) n y
+  own-tick : {t : ℕ} {m n : Memory} {x y : Exchange} → Ran p es t m x → p < length (m .status) → exchangeTick p m x (x .step) ≡ goes n y
+      → Ran p es (suc t) n y
   others : {t : ℕ} {m n : Memory} {x : Exchange} → Ran p es t m x → (statusOf m p ≡ 1 → statusOf n p ≡ 1) → Ran p es t n x
 
 -- t ticks are at most so many: an entry takes 7 up to its Install and 2 in Clean; after a Fail only Clean is left
@@ -115,15 +119,18 @@ module _ {t k p : ℕ} {m : Memory} {x : Exchange} (h : Ticked t k p m x) where
   tick-most : {o : Exchanged} → p < length (m .status) → Outcome p m x o → AtMostAfter (suc t) k p o
   tick-most l (starts s) = let b = at-most-as start s in record { size = h .size; most = (omega arith, inl (omega arith)) }
   tick-most l (tests-done s e) = let b = at-most-as test s in record { size = h .size; most = tested (b .1) (b .0) }
-  tick-most l (tests-on s g) = let b = at-most-as test s in record { size = h .size; most = (omega (arith, b .0, h .size, g .0), tested-on (b .1) (g .1)) }
+  tick-most l (tests-on s g) =
+      let b = at-most-as test s in record { size = h .size; most = (omega (arith, b .0, h .size, g .0), tested-on (b .1) (g .1)) }
   tick-most l (loads s) = let b = at-most-as load s in record { size = noted-length _; most = (b .0, omega (arith, b .1)) }
   tick-most l (looks-own s w) = let b = at-most-as look s in record { size = noted-length _; most = (b .0, omega (arith, b .1)) }
   tick-most l (looks-other s w) = let b = at-most-as look s in record { size = noted-length _; most = (b .0, omega (arith, b .1)) }
   tick-most l (fetches s) = let b = at-most-as fetch s in record { size = h .size; most = (b .0, omega (arith, b .1)) }
-  tick-most l (saves-differing v s ne) = let b = at-most-as (save v) s in record { size = h .size; most = (omega (arith, b .0), omega (arith, b .0, b .1)) }
+  tick-most l (saves-differing v s ne) =
+      let b = at-most-as (save v) s in record { size = h .size; most = (omega (arith, b .0), omega (arith, b .0, b .1)) }
   tick-most l (saves-to-mark v s d o c) = let b = at-most-as (save v) s in record { size = h .size; most = (b .0, omega (arith, b .1)) }
   tick-most l (saves v s d u) = let b = at-most-as (save v) s in record { size = h .size; most = (b .0, omega (arith, b .1)) }
-  tick-most l (fails s) = let b = at-most-as fail s in record { size = h .size; most = (b .0, inr (replace-same 0 (m .status) p 1 l, omega (arith, b .1))) }
+  tick-most l (fails s) =
+      let b = at-most-as fail s in record { size = h .size; most = (b .0, inr (replace-same 0 (m .status) p 1 l, omega (arith, b .1))) }
   tick-most l (marks s) = let b = at-most-as mark s in record { size = h .size; most = (b .0, omega (arith, b .1)) }
   tick-most l (installs s e) = let b = at-most-as install s in record { size = h .size; most = (b .0, inl (omega (arith, b .1))) }
   tick-most l (misses s e) = let b = at-most-as install s in record { size = h .size; most = (b .0, omega (arith, b .0, b .1)) }
@@ -156,10 +163,12 @@ ran-most (before-start m) = record { size = refl; most = refl }
 ran-most {p} {es} (own-tick {t} {m} {n} {x} {y} r l e) =
     let b : AtMostAfter (suc t) (length es) p (exchangeTick p m x (x .step)) = tick-most (ran-most r) l (outcome p m x) in
     rw e at b
-ran-most {p} {es} (others {t} {m} {n} {x} r f) = let b = ran-most r in record { size = b .size; most = others-most t (length es) (x .i) (statusOf m p) (statusOf n p) f (x .step) (b .most) }
+ran-most {p} {es} (others {t} {m} {n} {x} r f) =
+    let b = ran-most r in record { size = b .size; most = others-most t (length es) (x .i) (statusOf m p) (statusOf n p) f (x .step) (b .most) }
 
 -- the tick that ends an exchange of k entries is at most its (9k + 4)th
-pub exchange-rate : {p : ℕ} {es : List Entry} {t : ℕ} {m n : Memory} {x : Exchange} {yes? : Bool} → Ran p es t m x → p < length (m .status) → exchangeTick p m x (x .step) ≡ ends n yes? → suc t ≤ 9 * length es + 4
+pub exchange-rate : {p : ℕ} {es : List Entry} {t : ℕ} {m n : Memory} {x : Exchange} {yes? : Bool} → Ran p es t m x → p < length (m .status)
+    → exchangeTick p m x (x .step) ≡ ends n yes? → suc t ≤ 9 * length es + 4
 exchange-rate {p} {es} {t} {m} {n} {x} {yes?} r l e =
     let b : AtMostAfter (suc t) (length es) p (exchangeTick p m x (x .step)) = tick-most (ran-most r) l (outcome p m x) in
     rw e at b

@@ -7,7 +7,8 @@ use Rattle.model.specs.Word.{Word, Memory, loading, looking, fetching}
 use Rattle.model.specs.Exchange.{Entry, Step, start, test, load, look, fetch, fail, mark, install, commit, save, clean, cleanMark, Exchange}
 use Rattle.model.proofs.Lists.{impossible}
 use Rattle.model.proofs.Exchanges.Act.{Act, free, reading, exchanging, actAt}
-use Rattle.model.proofs.Exchanges.Invariant.{WellFormed, valid, held, Loaded, Found, Settled, AtStep, Knows, CoveredBy, Stands, stands, covered, Standing, Invariant}
+use Rattle.model.proofs.Exchanges.Invariant.{WellFormed, valid, held, Loaded, Found, Settled, AtStep, Knows}
+use Rattle.model.proofs.Exchanges.Invariant.{CoveredBy, Stands, stands, covered, Standing, Invariant}
 use Rattle.model.proofs.Exchanges.Ground.{History, GroundsOf, ReplacedBy, CountsOn, there, replaced, was-hit, PastStep, PastAct, Past}
 
 not-free : {v : Act} {x : Exchange} → v ≡ exchanging x → v ≢ free
@@ -73,12 +74,14 @@ module _ {below below′ : ℕ → ℕ → Type 0} (acts : List Act) (f : (r q :
   stands-reordered cells n (stands h) = stands h
   stands-reordered cells {p} {w = w} n (covered q b C) = covered q (f p q n (at-work-covered (actAt acts q) w C) b) C
 
-  standing-reordered : (cells : List Word) (status : List ℕ) (p : ℕ) (v : Act) → actAt acts p ≡ v → Standing below cells status acts p v → Standing below′ cells status acts p v
+  standing-reordered : (cells : List Word) (status : List ℕ) (p : ℕ) (v : Act) → actAt acts p ≡ v → Standing below cells status acts p v
+      → Standing below′ cells status acts p v
   standing-reordered cells status p free a h = tt
   standing-reordered cells status p (reading c r) a h = tt
   standing-reordered cells status p (exchanging x) a h = λ k st e l. stands-reordered cells (not-free a) (h k st e l)
 
-  knows-at-work : (status : List ℕ) (saves : List (List ℕ)) (p : ℕ) (v : Act) → actAt acts p ≡ v → Knows (λ r. below r p) status saves acts p v → Knows (λ r. below′ r p) status saves acts p v
+  knows-at-work : (status : List ℕ) (saves : List (List ℕ)) (p : ℕ) (v : Act) → actAt acts p ≡ v → Knows (λ r. below r p) status saves acts p v
+      → Knows (λ r. below′ r p) status saves acts p v
   knows-at-work status saves p free a h = tt
   knows-at-work status saves p (reading c r) a h = knows-reordered acts (λ q n b. f q p n (λ e. impossible (cc)) b) status saves p (reading c r) h
   knows-at-work status saves p (exchanging x) a h = knows-reordered acts (λ q n b. f q p n (not-free a) b) status saves p (exchanging x) h
@@ -92,7 +95,8 @@ module _ {below below′ : ℕ → ℕ → Type 0} (acts : List Act) (f : (r q :
       }
 
   -- THE GROUNDS
-  counts-reordered : {hit : ℕ → Type 0} {cells : List Word} {r c : ℕ} {w : Word} → actAt acts r ≢ free → CountsOn below hit cells acts r c w → CountsOn below′ hit cells acts r c w
+  counts-reordered : {hit : ℕ → Type 0} {cells : List Word} {r c : ℕ} {w : Word} → actAt acts r ≢ free → CountsOn below hit cells acts r c w
+      → CountsOn below′ hit cells acts r c w
   counts-reordered n (there h) = there h
   counts-reordered {r = r} {c} {w} n (replaced q b C) = replaced q (f r q n (at-work-replaced (actAt acts q) c w C) b) C
   counts-reordered n (was-hit h) = was-hit h

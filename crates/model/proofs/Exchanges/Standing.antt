@@ -9,7 +9,8 @@ use Rattle.model.specs.Word.{Word, Memory, cellOf, statusOf, freshWord}
 use Rattle.model.specs.Exchange.{Exchange, entryAt, installed}
 use Rattle.model.proofs.Lists.{replace-same, replace-other, same?}
 use Rattle.model.proofs.Exchanges.Act.{Act, free, reading, exchanging, actAt, stage, hopeful}
-use Rattle.model.proofs.Exchanges.Invariant.{WellFormed, valid, held, Knows, Covers, CoveredBy, Stands, stands, covered, Standing, Invariant, Rank, itself, idle, lower, Situation}
+use Rattle.model.proofs.Exchanges.Invariant.{WellFormed, valid, held, Knows, Covers, CoveredBy, Stands, stands}
+use Rattle.model.proofs.Exchanges.Invariant.{covered, Standing, Invariant, Rank, itself, idle, lower, Situation}
 use Rattle.model.proofs.Exchanges.Frame.{kept-zero, nobody-above, Moved, assemble}
 
 -- after the statement a content is in its cell, or covered by p
@@ -43,7 +44,8 @@ pub record Upholds (below : ℕ → ℕ → Type 0) (m n : Memory) (p : ℕ) (v�
   pub own : AllInstalled (n .cells) (n .status) p v
 
 -- the cell of a content that stands for entry e of task r
-held-cell : {of : ℕ → Type 0} {acts : List Act} {c : ℕ} {u : Word} (r e : ℕ) (z : Exchange) → u ≡ installed r (entryAt z e) e → actAt acts r ≡ exchanging z → WellFormed of acts c u → entryAt z e .cell ≡ c
+held-cell : {of : ℕ → Type 0} {acts : List Act} {c : ℕ} {u : Word} (r e : ℕ) (z : Exchange) → u ≡ installed r (entryAt z e) e
+    → actAt acts r ≡ exchanging z → WellFormed of acts c u → entryAt z e .cell ≡ c
 held-cell r e z i az (valid h) = absurd (true≢false (sym h ∙ ap (λ (w : Word). w .valid) i))
 held-cell {u = u} r e z i az (held o H) =
     let et : u .task ≡ r = ap (λ (w : Word). w .task) i in
@@ -51,26 +53,34 @@ held-cell {u = u} r e z i az (held o H) =
     let y : H .exchange ≡ z = cc (H .at-work) in
     rw (y, ec) at (H .cell)
 
-module _ {below : ℕ → ℕ → Type 0} {m : Memory} {acts : List Act} {p : ℕ} {v₀ : Act} (S : Situation below m acts p v₀) {n : Memory} {v : Act} (M : Moved below m n acts p v) (U : Upholds below m n p v₀ v) where
+module _ {below : ℕ → ℕ → Type 0} {m : Memory} {acts : List Act} {p : ℕ} {v₀ : Act} (S : Situation below m acts p v₀) {n : Memory} {v : Act}
+    (M : Moved below m n acts p v) (U : Upholds below m n p v₀ v) where
   -- p covered what r has installed: it is at the cell of r's entry
   gives-back : (r e : ℕ) (z : Exchange) → actAt acts r ≡ exchanging z → (y : Act) → Knows (λ r. below r p) (m .status) (m .saves) acts p y
-      → GivesBack y n v (installed r (entryAt z e) e) → CoveredBy y (installed r (entryAt z e) e) → Keeps n v (entryAt z e .cell) (installed r (entryAt z e) e)
+      → GivesBack y n v (installed r (entryAt z e) e) → CoveredBy y (installed r (entryAt z e) e)
+      → Keeps n v (entryAt z e .cell) (installed r (entryAt z e) e)
   gives-back r e z az free K g C = absurd C
   gives-back r e z az (reading c s) K g C = absurd C
-  gives-back r e z az (exchanging y) K g C = rw (held-cell r e z (C .init) az (K .settled (C .number) (C .low) (C .high) .found .loaded .well-formed)) (g C)
+  gives-back r e z az (exchanging y) K g C =
+      rw (held-cell r e z (C .init) az (K .settled (C .number) (C .low) (C .high) .found .loaded .well-formed)) (g C)
 
   where-now : (r c : ℕ) (u : Word) → below r p → Keeps n v c u → Stands below (n .cells) (replace acts p v) r c u
   where-now r c u b (stays h) = stands h
   where-now r c u b (taken C) = covered p b (rw (replace-same free acts p v (S .task)) C)
 
   lower-stands : (r e : ℕ) (z : Exchange) → actAt acts r ≡ exchanging z → below r p → statusOf n r ≡ 0
-      → Stands below (m .cells) acts r (entryAt z e .cell) (installed r (entryAt z e) e) → Stands below (n .cells) (replace acts p v) r (entryAt z e .cell) (installed r (entryAt z e) e)
-  lower-stands r e z az b st (stands h) = where-now r _ _ b (U .content (entryAt z e .cell) (installed r (entryAt z e) e) (record { task = b; not-valid = refl; unmarked = st }) h)
+      → Stands below (m .cells) acts r (entryAt z e .cell) (installed r (entryAt z e) e)
+      → Stands below (n .cells) (replace acts p v) r (entryAt z e .cell) (installed r (entryAt z e) e)
+  lower-stands r e z az b st (stands h) =
+      where-now r _ _ b (U .content (entryAt z e .cell) (installed r (entryAt z e) e) (record { task = b; not-valid = refl; unmarked = st }) h)
   lower-stands r e z az b st (covered q bq C) = same? q p
-      (λ k. where-now r _ _ b (gives-back r e z az v₀ (rw (S .act) at (S .invariant .knows p)) (U .cover (installed r (entryAt z e) e) (record { task = b; not-valid = refl; unmarked = st })) (rw (k, S .act) at C)))
+      (λ k. where-now r _ _ b
+      (gives-back r e z az v₀ (rw (S .act) at (S .invariant .knows p))
+      (U .cover (installed r (entryAt z e) e) (record { task = b; not-valid = refl; unmarked = st })) (rw (k, S .act) at C)))
       (λ ne. covered q bq (rw (replace-other free acts p q v ne) C))
 
-  lower-standing : (r : ℕ) (u : Act) → actAt acts r ≡ u → r ≢ p → below r p → Standing below (m .cells) (m .status) acts r u → Standing below (n .cells) (n .status) (replace acts p v) r u
+  lower-standing : (r : ℕ) (u : Act) → actAt acts r ≡ u → r ≢ p → below r p → Standing below (m .cells) (m .status) acts r u
+      → Standing below (n .cells) (n .status) (replace acts p v) r u
   lower-standing r free ar ne b h = tt
   lower-standing r (reading c s) ar ne b h = tt
   lower-standing r (exchanging z) ar ne b h = λ k st e l. lower-stands r e z ar b st (h k (kept-zero (M .frame .status r ne) st) e l)

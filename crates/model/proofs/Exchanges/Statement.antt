@@ -9,13 +9,16 @@ use lib.ListN.{length}
 use borrow.Author.Tests.{not-true}
 use Rattle.model.specs.Lists.{at, replace}
 use Rattle.model.specs.Word.{Memory, cellOf, statusOf, saved, setCell, setStatus, setSave, own, freshWord}
-use Rattle.model.specs.Exchange.{Entry, Step, test, load, look, fetch, fail, mark, install, commit, save, Exchange, changing, installed, to, onward, withInit, initLoaded}
+use Rattle.model.specs.Exchange.{Entry, Step, test, load, look, fetch, fail, mark, install, commit}
+use Rattle.model.specs.Exchange.{save, Exchange, changing, installed, to, onward, withInit, initLoaded}
 use Rattle.model.proofs.Lists.{replace-same, replace-other, same?, impossible}
 use Rattle.model.proofs.Exchanges.Act.{Act, exchanging, working, stageOf, undecided, uncleaned, here}
 use Rattle.model.proofs.Exchanges.Invariant.{WellFormed, held, Anyone, Loaded, Found, AtStep, InExchange, Situation, Room}
 use Rattle.model.proofs.Exchanges.Words.{current-own, current-other, changes, unchanging}
-use Rattle.model.proofs.Exchanges.Frame.{frame-none, frame-cell, frame-save, frame-status, frame-mark, mark-keeps, kept-not-two, move-content, current-frame, loaded-frame, found-frame, settled-frame, Moved, below-clear}
-use Rattle.model.proofs.Exchanges.Early.{follows-to, follows-onward, noted-here, follows-noted, from-zero, mine, inside, at-step-as, keep-content, held-on, loaded-content, replaced-status, early-moved, early-quiet}
+use Rattle.model.proofs.Exchanges.Frame.{frame-none, frame-cell, frame-save, frame-status, frame-mark, mark-keeps, kept-not-two}
+use Rattle.model.proofs.Exchanges.Frame.{move-content, current-frame, loaded-frame, found-frame, settled-frame, Moved, below-clear}
+use Rattle.model.proofs.Exchanges.Early.{follows-to, follows-onward, noted-here, follows-noted, from-zero, mine, inside, at-step-as}
+use Rattle.model.proofs.Exchanges.Early.{keep-content, held-on, loaded-content, replaced-status, early-moved, early-quiet}
 
 module _ {below : ℕ → ℕ → Type 0} {m : Memory} {acts : List Act} {p : ℕ} {x : Exchange} (S : Situation below m acts p (exchanging x)) where
   pub test-done-moved : x .step ≡ test → (x .i ≡ length (x .entries)) ⊎ (statusOf m p ≡ 1) → Moved below m m acts p (exchanging (to x commit))
@@ -37,7 +40,8 @@ module _ {below : ℕ → ℕ → Type 0} {m : Memory} {acts : List Act} {p : �
 
   looked-moved : (o : Bool) (s : Step) → x .step ≡ look → own (m .status) (here x .init) ≡ not o → undecided (stageOf s) ≡ true
       → (Loaded (λ r. below r p) (m .status) (replace acts p (exchanging (initLoaded x (here x .init) o s))) (withInit (here x) (here x .init) o)
-      → AtStep (λ r. below r p) (m .status) (m .saves) (replace acts p (exchanging (initLoaded x (here x .init) o s))) p (initLoaded x (here x .init) o s) s)
+      → AtStep (λ r. below r p) (m .status) (m .saves) (replace acts p (exchanging (initLoaded x (here x .init) o s))) p
+      (initLoaded x (here x .init) o s) s)
       → Moved below m m acts p (exchanging (initLoaded x (here x .init) o s))
   looked-moved o s e w u′ h =
       let l = inside S look e refl in
@@ -49,14 +53,17 @@ module _ {below : ℕ → ℕ → Type 0} {m : Memory} {acts : List Act} {p : �
       double true = refl
       double false = refl
 
-  pub look-own-moved : x .step ≡ look → own (m .status) (here x .init) ≡ true → Moved below m m acts p (exchanging (initLoaded x (here x .init) false (save (here x .init .value))))
+  pub look-own-moved : x .step ≡ look → own (m .status) (here x .init) ≡ true
+      → Moved below m m acts p (exchanging (initLoaded x (here x .init) false (save (here x .init .value))))
   look-own-moved s w =
       let l = inside S look s refl in
       looked-moved false (save (here x .init .value)) s w refl
       (λ L. rw (noted-here x (here x .init) false (save (here x .init .value)) l) (L, sym (current-own (m .status) (m .saves) (here x .init) w)))
 
-  pub look-other-moved : x .step ≡ look → own (m .status) (here x .init) ≡ false → Moved below m m acts p (exchanging (initLoaded x (here x .init) true fetch))
-  look-other-moved s w = let l = inside S look s refl in looked-moved true fetch s w refl (λ L. rw (noted-here x (here x .init) true fetch l) (L, refl))
+  pub look-other-moved : x .step ≡ look → own (m .status) (here x .init) ≡ false
+      → Moved below m m acts p (exchanging (initLoaded x (here x .init) true fetch))
+  look-other-moved s w =
+      let l = inside S look s refl in looked-moved true fetch s w refl (λ L. rw (noted-here x (here x .init) true fetch l) (L, refl))
 
   pub fetch-moved : x .step ≡ fetch → Moved below m m acts p (exchanging (to x (save (saved (m .saves) (here x .init .task) (here x .init .count)))))
   fetch-moved s =
@@ -83,7 +90,9 @@ module _ {below : ℕ → ℕ → Type 0} {m : Memory} {acts : List Act} {p : �
   -- SAVE
   module _ (R : Room m p (x .entries)) where
     pub save-kept : (v e : ℕ) → e < x .i → saved (setSave m p (x .i) v .saves) p e ≡ saved (m .saves) p e
-    save-kept v e h = rw (replace-same [] (m .saves) p (replace (at [] (m .saves) p) (x .i) v) (R .saves)) (replace-other 0 (at [] (m .saves) p) (x .i) e v (omega arith))
+    save-kept v e h =
+        rw (replace-same [] (m .saves) p (replace (at [] (m .saves) p) (x .i) v) (R .saves))
+        (replace-other 0 (at [] (m .saves) p) (x .i) e v (omega arith))
 
     save-new : (v : ℕ) → x .i < length (x .entries) → saved (setSave m p (x .i) v .saves) p (x .i) ≡ v
     save-new v l =
@@ -94,7 +103,8 @@ module _ {below : ℕ → ℕ → Type 0} {m : Memory} {acts : List Act} {p : �
         → AtStep (λ r. below r p) (m .status) (setSave m p (x .i) v .saves) (replace acts p (exchanging (to x s))) p (to x s) s
         → Moved below m (setSave m p (x .i) v) acts p (exchanging (to x s))
     save-moved v s e l0 h =
-        early-moved S (to x s) (follows-to x s) refl (rw e) l0 refl (frame-save p m (x .i) v) (save-kept v) (mine S .not-yet (rw e)) (λ _. inside S (save v) e refl) h
+        early-moved S (to x s) (follows-to x s) refl (rw e) l0 refl (frame-save p m (x .i) v) (save-kept v) (mine S .not-yet (rw e))
+        (λ _. inside S (save v) e refl) h
 
     -- the value found is the old one
     save-found : (v : ℕ) (s : Step) → x .step ≡ save v → v ≡ here x .old
@@ -111,17 +121,21 @@ module _ {below : ℕ → ℕ → Type 0} {m : Memory} {acts : List Act} {p : �
     pub save-differing-moved : (v : ℕ) → x .step ≡ save v → Moved below m (setSave m p (x .i) v) acts p (exchanging (to x fail))
     save-differing-moved v e = save-moved v fail e refl tt
 
-    pub save-to-mark-moved : (v : ℕ) → x .step ≡ save v → v ≡ here x .old → here x .overlapped ≡ true → changing (here x) ≡ true → Moved below m (setSave m p (x .i) v) acts p (exchanging (to x mark))
+    pub save-to-mark-moved : (v : ℕ) → x .step ≡ save v → v ≡ here x .old → here x .overlapped ≡ true → changing (here x) ≡ true
+        → Moved below m (setSave m p (x .i) v) acts p (exchanging (to x mark))
     save-to-mark-moved v e d o c = save-moved v mark e refl (save-found v mark e d, o, changes (here x) c)
 
-    pub save-on-moved : (v : ℕ) → x .step ≡ save v → v ≡ here x .old → (here x .overlapped && changing (here x)) ≡ false → Moved below m (setSave m p (x .i) v) acts p (exchanging (to x install))
-    save-on-moved v e d u = save-moved v install e refl (record { found = save-found v install e d; marked = λ o ne. absurd (needed (here x) o ne u) })
+    pub save-on-moved : (v : ℕ) → x .step ≡ save v → v ≡ here x .old → (here x .overlapped && changing (here x)) ≡ false
+        → Moved below m (setSave m p (x .i) v) acts p (exchanging (to x install))
+    save-on-moved v e d u =
+        save-moved v install e refl (record { found = save-found v install e d; marked = λ o ne. absurd (needed (here x) o ne u) })
       where
         needed : (n : Entry) → n .overlapped ≡ true → n .old ≢ n .new → (n .overlapped && changing n) ≡ false → ⊥
         needed n o ne u = ne (unchanging n (rw o at u))
 
   -- INSTALL, the word written or not: entry i is settled, and the exchange goes on to the next
-  installed-knows : (s : Step) → x .step ≡ install → uncleaned (stageOf s) ≡ 0 → (stageOf s ≡ working → ⊥) → AtStep (λ r. below r p) (m .status) (m .saves) (replace acts p (exchanging (onward x s))) p (onward x s) s
+  installed-knows : (s : Step) → x .step ≡ install → uncleaned (stageOf s) ≡ 0 → (stageOf s ≡ working → ⊥)
+      → AtStep (λ r. below r p) (m .status) (m .saves) (replace acts p (exchanging (onward x s))) p (onward x s) s
       → InExchange (λ r. below r p) (m .status) (m .saves) (replace acts p (exchanging (onward x s))) p (onward x s)
   installed-knows s e l0 w h =
       let F = frame-none p m in
@@ -138,12 +152,15 @@ module _ {below : ℕ → ℕ → Type 0} {m : Memory} {acts : List Act} {p : �
       }
 
   onward-content : (s : Step) → uncleaned (stageOf s) ≡ 0 → (c : ℕ) → WellFormed Anyone (replace acts p (exchanging (onward x s))) c (cellOf m c)
-  onward-content s l0 c = keep-content S (exchanging (onward x s)) (λ e l h d i. held-on S (onward x s) (follows-onward x s) e (from-zero l0 e) (omega arith) d) (S .invariant .contents c)
+  onward-content s l0 c =
+      keep-content S (exchanging (onward x s)) (λ e l h d i. held-on S (onward x s) (follows-onward x s) e (from-zero l0 e) (omega arith) d)
+      (S .invariant .contents c)
 
   pub miss-moved : x .step ≡ install → Moved below m m acts p (exchanging (onward x fail))
   miss-moved e = record { frame = frame-none p m; contents = onward-content fail refl; knows = installed-knows fail e refl (λ w. impossible (cc)) tt }
 
-  pub install-moved : Room m p (x .entries) → x .step ≡ install → Moved below m (setCell m (here x .cell) (installed p (here x) (x .i))) acts p (exchanging (onward x test))
+  pub install-moved : Room m p (x .entries) → x .step ≡ install
+      → Moved below m (setCell m (here x .cell) (installed p (here x) (x .i))) acts p (exchanging (onward x test))
   install-moved R e =
       let l = inside S install e refl in
       let w = installed p (here x) (x .i) in

@@ -30,9 +30,11 @@ mark-refl false = refl
 
 pub same-word : (v w : Word) → sameWord v w ≡ true → v ≡ w
 unfolding sameWord
-same-word v w e = go _ _ _ _ (eqb-true (v .value) (w .value)) (eqb-true (v .count) (w .count)) (mark-same (v .valid) (w .valid)) (eqb-true (v .task) (w .task)) e
+same-word v w e =
+    go _ _ _ _ (eqb-true (v .value) (w .value)) (eqb-true (v .count) (w .count)) (mark-same (v .valid) (w .valid)) (eqb-true (v .task) (w .task)) e
   where
-    go : (a b c d : Bool) → (a ≡ true → v .value ≡ w .value) → (b ≡ true → v .count ≡ w .count) → (c ≡ true → v .valid ≡ w .valid) → (d ≡ true → v .task ≡ w .task) → (a && b && c && d) ≡ true → v ≡ w
+    go : (a b c d : Bool) → (a ≡ true → v .value ≡ w .value) → (b ≡ true → v .count ≡ w .count) → (c ≡ true → v .valid ≡ w .valid)
+        → (d ≡ true → v .task ≡ w .task) → (a && b && c && d) ≡ true → v ≡ w
     go false b c d value count valid task q = cc
     go true false c d value count valid task q = cc
     go true true false d value count valid task q = cc
@@ -63,7 +65,8 @@ pub current-own : (status : List ℕ) (saves : List (List ℕ)) (w : Word) → o
 unfolding current currentBy
 current-own status saves w e = rw e
 
-pub current-other : (status : List ℕ) (saves : List (List ℕ)) (w : Word) → own status w ≡ false → current status saves w ≡ saved saves (w .task) (w .count)
+pub current-other : (status : List ℕ) (saves : List (List ℕ)) (w : Word) → own status w ≡ false
+    → current status saves w ≡ saved saves (w .task) (w .count)
 unfolding current currentBy
 current-other status saves w e = rw e
 
@@ -86,7 +89,8 @@ module _ (status status′ : List ℕ) (w : Word) where
   unfolding own
   own-same e = rw e
 
-  pub current-same : (saves saves′ : List (List ℕ)) → own status′ w ≡ own status w → saved saves′ (w .task) (w .count) ≡ saved saves (w .task) (w .count)
+  pub current-same : (saves saves′ : List (List ℕ)) → own status′ w ≡ own status w
+      → saved saves′ (w .task) (w .count) ≡ saved saves (w .task) (w .count)
       → current status′ saves′ w ≡ current status saves w
   unfolding current currentBy
   current-same saves saves′ e f = rw e (go (own status w))

@@ -38,10 +38,16 @@ row-each Q b (x ∷ rows) f r e = go (eqb b (x .byte)) e (row-each Q b rows (f .
 
 eight-rows : EachRow (λ (r : Row). (o : ℕ → ℕ) → EightValues (r .command o)) table
 unfolding table
-eight-rows = (λ o. tt, (λ o. refl, (λ o. tt, (λ o. tt, (λ o. tt, (λ o. tt, (λ o. tt, (λ o. tt, (λ o. tt, (λ o. tt, (λ o. tt, (λ o. tt, (λ o. tt, (λ o. tt, tt))))))))))))))
+eight-rows = (
+  λ o. tt,
+  (λ o. refl, (λ o. tt, (λ o. tt, (λ o. tt, (λ o. tt, (λ o. tt, (λ o. tt, (λ o. tt, (λ o. tt, (λ o. tt, (λ o. tt, (λ o. tt, (λ o. tt, tt))))))))))))),
+)
 
 pub eight : (sheet : List ℕ) (place : ℕ) (c : Command) (next : ℕ) → FoundAt sheet place c next → EightValues c
-eight sheet place c next f = subst EightValues (sym (f .command)) (row-each (λ (r : Row). (o : ℕ → ℕ) → EightValues (r .command o)) (getD sheet place 0) table eight-rows (f .row) (f .byte) (λ n. operand sheet (suc place) (f .row .widths) n))
+eight sheet place c next f =
+    subst EightValues (sym (f .command))
+    (row-each (λ (r : Row). (o : ℕ → ℕ) → EightValues (r .command o)) (getD sheet place 0) table eight-rows (f .row) (f .byte)
+    (λ n. operand sheet (suc place) (f .row .widths) n))
 
 -- THE SHEET
 pub accepted-fit : (bytes : List ℕ) → verdict bytes ≡ accepted → SheetFit (sheetOf bytes)

@@ -55,14 +55,16 @@ unfolding remove among
 remove-fewer x [] m = absurd (false≢true m)
 remove-fewer x (y ∷ l) m = go (eqb x y) m (remove-fewer x l)
   where
-    go : (b : Bool) → (b || among x l) ≡ true → (among x l ≡ true → length (remove x l) < length l) → length (removeBy b y (remove x l)) < suc (length l)
+    go : (b : Bool) → (b || among x l) ≡ true → (among x l ≡ true → length (remove x l) < length l)
+        → length (removeBy b y (remove x l)) < suc (length l)
     go true m h = omega (arith, remove-most x l)
     go false m h = omega (arith, h m)
 
 -- COUNTS
 module _ (test : Touched → Bool) where
   -- each of them is in the list, so they are no more than the list is long
-  count-from : (ts : List Touched) (from : ℕ) (l : List ℕ) → ((n : ℕ) → test (at untouched ts n) ≡ true → among (from + n) l ≡ true) → count test ts ≤ length l
+  count-from : (ts : List Touched) (from : ℕ) (l : List ℕ) → ((n : ℕ) → test (at untouched ts n) ≡ true → among (from + n) l ≡ true)
+      → count test ts ≤ length l
   unfolding count at
   count-from [] from l h = omega arith
   count-from (t ∷ ts) from l h = go (test t) refl (count-from ts (suc from))
@@ -70,7 +72,9 @@ module _ (test : Touched → Bool) where
       next : (n : ℕ) → test (at untouched ts n) ≡ true → among (suc from + n) l ≡ true
       next n e = let s : from + suc n ≡ suc from + n = omega arith in rw s at (h (suc n) e)
 
-      go : (b : Bool) → test t ≡ b → ((l : List ℕ) → ((n : ℕ) → test (at untouched ts n) ≡ true → among (suc from + n) l ≡ true) → count test ts ≤ length l) → countBy b (count test ts) ≤ length l
+      go : (b : Bool) → test t ≡ b
+          → ((l : List ℕ) → ((n : ℕ) → test (at untouched ts n) ≡ true → among (suc from + n) l ≡ true) → count test ts ≤ length l)
+          → countBy b (count test ts) ≤ length l
       go true e others =
           let z : from + 0 ≡ from = omega arith in
           let fewer = remove-fewer from l (rw z at (h 0 e)) in
@@ -82,10 +86,12 @@ module _ (test : Touched → Bool) where
   count-most ts l h = count-from ts 0 l (λ n e. let z : 0 + n ≡ n = omega arith in rw z (h n e))
 
   -- and fewer where the list has one of which the test does not hold
-  pub count-fewer : (ts : List Touched) (l : List ℕ) (x : ℕ) → ((n : ℕ) → test (at untouched ts n) ≡ true → among n l ≡ true) → among x l ≡ true → test (at untouched ts x) ≡ false → count test ts < length l
+  pub count-fewer : (ts : List Touched) (l : List ℕ) (x : ℕ) → ((n : ℕ) → test (at untouched ts n) ≡ true → among n l ≡ true) → among x l ≡ true
+      → test (at untouched ts x) ≡ false → count test ts < length l
   count-fewer ts l x h m f =
       let fewer = remove-fewer x l m in
-      let most = count-most ts (remove x l) (λ n e. remove-other x n l (λ q. true≢false (sym e ∙ ap (λ (z : ℕ). test (at untouched ts z)) q ∙ f)) (h n e)) in
+      let most =
+      count-most ts (remove x l) (λ n e. remove-other x n l (λ q. true≢false (sym e ∙ ap (λ (z : ℕ). test (at untouched ts z)) q ∙ f)) (h n e)) in
       omega arith
 
   count-by : (b : Bool) (n : ℕ) → countBy b n ≡ n + countBy b 0
@@ -93,7 +99,8 @@ module _ (test : Touched → Bool) where
   count-by false n = omega arith
 
   -- one block replaced
-  pub count-replace : (ts : List Touched) (n : ℕ) (t : Touched) → n < length ts → count test (replace ts n t) + countBy (test (at untouched ts n)) 0 ≡ count test ts + countBy (test t) 0
+  pub count-replace : (ts : List Touched) (n : ℕ) (t : Touched) → n < length ts
+      → count test (replace ts n t) + countBy (test (at untouched ts n)) 0 ≡ count test ts + countBy (test t) 0
   unfolding count at replace
   count-replace [] n t h = absurd (omega arith)
   count-replace (s ∷ ts) zero t h = omega (arith, count-by (test t) (count test ts), count-by (test s) (count test ts))
@@ -135,12 +142,23 @@ blocks-none blocks b =
     }
 
 -- more blocks named in the text
-pub blocks-named : {blocks : ℕ} {b c : Body} {ts : List Touched} {used : ℕ} → ((n : ℕ) → among n (b .touched) ≡ true → among n (c .touched) ≡ true) → ((n : ℕ) → among n (b .puts) ≡ true → among n (c .puts) ≡ true) → BlocksFit blocks b ts used → BlocksFit blocks c ts used
-blocks-named f g h = record { size = h .size; below = h .below; touched = λ n e. f n (h .touched n e); put = λ n e. g n (h .put n e); slots = h .slots; slot = h .slot; different = h .different }
+pub blocks-named : {blocks : ℕ} {b c : Body} {ts : List Touched} {used : ℕ} → ((n : ℕ) → among n (b .touched) ≡ true → among n (c .touched) ≡ true)
+    → ((n : ℕ) → among n (b .puts) ≡ true → among n (c .puts) ≡ true) → BlocksFit blocks b ts used → BlocksFit blocks c ts used
+blocks-named f g h = record {
+  size = h .size;
+  below = h .below;
+  touched = λ n e. f n (h .touched n e);
+  put = λ n e. g n (h .put n e);
+  slots = h .slots;
+  slot = h .slot;
+  different = h .different;
+}
 
-module _ {blocks : ℕ} {b : Body} {ts : List Touched} {used : ℕ} (f : BlocksFit blocks b ts used) (most : blocks ≤ 16) (n : ℕ) (below : n < blocks) (named : among n (b .touched) ≡ true) where
+module _ {blocks : ℕ} {b : Body} {ts : List Touched} {used : ℕ} (f : BlocksFit blocks b ts used) (most : blocks ≤ 16) (n : ℕ) (below : n < blocks)
+    (named : among n (b .touched) ≡ true) where
   -- a block by its number: the one replaced, or another
-  by-block : {P : Type 0} (t : Touched) (q : ℕ) → (q ≡ n → at untouched (replace ts n t) q ≡ t → P) → (at untouched (replace ts n t) q ≡ at untouched ts q → P) → P
+  by-block : {P : Type 0} (t : Touched) (q : ℕ) → (q ≡ n → at untouched (replace ts n t) q ≡ t → P)
+      → (at untouched (replace ts n t) q ≡ at untouched ts q → P) → P
   by-block t q here other =
       same? q n
       (λ e. here e (rw e (replace-same untouched ts n t (omega (arith, f .size)))))
@@ -171,7 +189,8 @@ module _ {blocks : ℕ} {b : Body} {ts : List Touched} {used : ℕ} (f : BlocksF
       }
 
   -- it was copied into the next copy slot
-  pub blocks-copied : (v : ℕ) → at untouched ts n ≡ remembered v → among n (b .puts) ≡ true → BlocksFit blocks b (replace ts n (copied v used)) (suc used)
+  pub blocks-copied : (v : ℕ) → at untouched ts n ≡ remembered v → among n (b .puts) ≡ true
+      → BlocksFit blocks b (replace ts n (copied v used)) (suc used)
   blocks-copied v e put =
       record {
         size = length-replace ts n (copied v used) ∙ f .size;
@@ -237,19 +256,26 @@ cells-join {low} {high} {es} e q most c = record { from = from; below = below; d
     different (suc i) zero hi hj s = let l = c .from i (omega arith) in absurd (omega arith)
     different (suc i) (suc j) hi hj s = ap suc (c .different i j (omega arith) (omega arith) s)
 
-gather-cells : (copies : List ℕ) (blocks b : ℕ) (ts : List Touched) → ((n : ℕ) → touched? (at untouched ts n) ≡ true → b + n < blocks) → Cells (32 + b) (32 + blocks) (gather copies b ts)
+gather-cells : (copies : List ℕ) (blocks b : ℕ) (ts : List Touched) → ((n : ℕ) → touched? (at untouched ts n) ≡ true → b + n < blocks)
+    → Cells (32 + b) (32 + blocks) (gather copies b ts)
 unfolding gather at
-gather-cells copies blocks b [] h = record { from = λ i (l : i < 0). absurd (omega arith); below = λ i (l : i < 0). absurd (omega arith); different = λ i j (l : i < 0) k e. absurd (omega arith) }
+gather-cells copies blocks b [] h = record {
+  from = λ i (l : i < 0). absurd (omega arith);
+  below = λ i (l : i < 0). absurd (omega arith);
+  different = λ i j (l : i < 0) k e. absurd (omega arith);
+}
 gather-cells copies blocks b (t ∷ ts) h =
     let same : suc (32 + b) ≡ 32 + suc b = omega arith in
     go t (h 0) (rw same (gather-cells copies blocks (suc b) ts (λ n e. let l = h (suc n) e in omega arith)))
   where
-    go : (t : Touched) → (touched? t ≡ true → b + 0 < blocks) → Cells (suc (32 + b)) (32 + blocks) (gather copies (suc b) ts) → Cells (32 + b) (32 + blocks) (gather copies b (t ∷ ts))
+    go : (t : Touched) → (touched? t ≡ true → b + 0 < blocks) → Cells (suc (32 + b)) (32 + blocks) (gather copies (suc b) ts)
+        → Cells (32 + b) (32 + blocks) (gather copies b (t ∷ ts))
     go untouched f c = cells-skip c
     go (remembered v) f c = let l = f refl in cells-join (entry (bank b) v v) refl (omega arith) c
     go (copied v k) f c = let l = f refl in cells-join (entry (bank b) v (bankValue (suc (versionOf v)) (at 0 copies k))) refl (omega arith) c
 
-pub gather-entries : {blocks : ℕ} {b : Body} {ts : List Touched} {used : ℕ} (copies : List ℕ) → BlocksFit blocks b ts used → count touched? ts ≤ 8 → EntriesFit 32 (32 + blocks) (gather copies 0 ts)
+pub gather-entries : {blocks : ℕ} {b : Body} {ts : List Touched} {used : ℕ} (copies : List ℕ) → BlocksFit blocks b ts used → count touched? ts ≤ 8
+    → EntriesFit 32 (32 + blocks) (gather copies 0 ts)
 gather-entries {blocks} {b} {ts} copies f most =
     let c = gather-cells copies blocks 0 ts (λ n e. let l = f .below n e in omega arith) in
     record { most = rw (gather-size copies 0 ts) most; from = λ i h. let l = c .from i h in omega arith; below = c .below; different = c .different }

@@ -8,7 +8,8 @@ use native.Mathlib.Omega.{arith}
 use lib.ListN.{length}
 use lib.Dec.{ltb, leb}
 use borrow.Author.Tests.{ltb-true, leb-true, not-true}
-use Rattle.model.specs.Command.{GET, PUT, Outside, READ, PAIR, SWAP, BEGIN, Inside, access, COMMIT, BodyCommand, LOAD, ADD, outside, inside, Command, body}
+use Rattle.model.specs.Command.{GET, PUT, Outside, READ, PAIR, SWAP, BEGIN, Inside, access}
+use Rattle.model.specs.Command.{COMMIT, BodyCommand, LOAD, ADD, outside, inside, Command, body}
 use Rattle.model.specs.Fault.{bodySection, Body, Known, mayEnd, among, none?, room, faultOf, outsideTransaction, body?, lowest}
 use Rattle.model.specs.Fault.{inPlaceOutside, inPlaceBody, inPlace, underCeilingOutside, underCeilingInside, underCeilingBody, underCeiling}
 use Rattle.model.specs.Fault.{inRangeOutside, inRangeInside, inRangeBody, inRange, newWordOutside, newWordBody, newWord, rising}
@@ -105,7 +106,8 @@ passed true true true false e q = impossible (cc)
 passed true true true true false q = impossible (cc)
 passed true true true true true q = record { inPlace = refl; underCeiling = refl; inRange = refl; newWord = refl; rising = refl }
 
-pub passedOf : (k : Known) (c : Command) → faultOf k c ≡ none → Passed (inPlace k c) (underCeiling k c) (inRange (k .counts) c) (newWord (k .body) c) (rising k c)
+pub passedOf : (k : Known) (c : Command) → faultOf k c ≡ none
+    → Passed (inPlace k c) (underCeiling k c) (inRange (k .counts) c) (newWord (k .body) c) (rising k c)
 unfolding faultOf
 passedOf k c q = passed (inPlace k c) (underCeiling k c) (inRange (k .counts) c) (newWord (k .body) c) (rising k c) q
 
@@ -175,7 +177,9 @@ module _ (k : Known) (words blocks : ℕ) (o : Open words blocks k) where
       let p = passedOf k (body (outside c)) q in
       record {
         place = outside-place k (and-left (outsideTransaction k) _ (p .inPlace));
-        fits = outside-fits c (and-right (outsideTransaction k) _ (p .inPlace)) (and-right (ltb (k .counts .commands) 512) _ (p .underCeiling)) (p .inRange) (p .newWord);
+        fits =
+            outside-fits c (and-right (outsideTransaction k) _ (p .inPlace)) (and-right (ltb (k .counts .commands) 512) _ (p .underCeiling))
+            (p .inRange) (p .newWord);
       }
   command-fits (inside c) q =
       let p = passedOf k (body (inside c)) q in

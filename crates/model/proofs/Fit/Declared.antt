@@ -65,7 +65,8 @@ pub record DeclaredHere (k : Known) (d : Declared) : Type 0 where
   pub commands : k .counts .commands ≤ 512 → k .counts .commands + length (d .body) + commandCount (d .sheet .bodies) ≤ 512
   pub releases : k .counts .releases ≤ 256 → k .counts .releases + length (d .sheet .releases) ≤ 256
   pub block : (b : ℕ) → b < length (d .sheet .blocks) → BlockFit (blockAt (d .sheet .blocks) b)
-  pub body : (p : ℕ) → p < length (d .sheet .bodies) → BodyFit (k .counts .words + length (d .sheet .words)) (k .counts .blocks + length (d .sheet .blocks)) (at [] (d .sheet .bodies) p)
+  pub body : (p : ℕ) → p < length (d .sheet .bodies)
+      → BodyFit (k .counts .words + length (d .sheet .words)) (k .counts .blocks + length (d .sheet .blocks)) (at [] (d .sheet .bodies) p)
   pub released : ReleasesDeclared (k .counts .tasks + length (d .sheet .bodies)) (k .last) (k .counts .releases) (d .sheet .releases)
   pub section : InSection (k .section) k d
 
@@ -106,14 +107,22 @@ pub rises-trans : {a b c : Release} → Rises a b → Rises b c → Rises a c
 rises-trans {a} {b} {c} f g =
     record {
       tick = omega (arith, f .tick, g .tick);
-      task = λ e. let p : a .tick ≡ b .tick = omega (arith, f .tick, g .tick) in let q : b .tick ≡ c .tick = omega arith in omega (arith, f .task p, g .task q);
+      task = λ e.
+          let p : a .tick ≡ b .tick = omega (arith, f .tick, g .tick) in
+          let q : b .tick ≡ c .tick = omega arith in
+          omega (arith, f .task p, g .task q);
     }
 
 pub no-releases : (tasks before : ℕ) (last : Release) → ReleasesDeclared tasks last before []
-no-releases tasks before last = record { task = λ i (h : i < 0). absurd (omega arith); rising = λ i j l (h : j < 0). absurd (omega arith); afterLast = λ p i (h : i < 0). absurd (omega arith) }
+no-releases tasks before last = record {
+  task = λ i (h : i < 0). absurd (omega arith);
+  rising = λ i j l (h : j < 0). absurd (omega arith);
+  afterLast = λ p i (h : i < 0). absurd (omega arith);
+}
 
 -- one more in front, which rises from the last one known
-pub release-first : {tasks before : ℕ} {last r : Release} {rs : List Release} → r .task < tasks → (0 < before → Rises last r) → ReleasesDeclared tasks r (suc before) rs → ReleasesDeclared tasks last before (r ∷ rs)
+pub release-first : {tasks before : ℕ} {last r : Release} {rs : List Release} → r .task < tasks → (0 < before → Rises last r)
+    → ReleasesDeclared tasks r (suc before) rs → ReleasesDeclared tasks last before (r ∷ rs)
 unfolding at
 release-first {tasks} {before} {last} {r} {rs} t up f = record { task = task; rising = rising; afterLast = afterLast }
   where

@@ -120,13 +120,15 @@ module _ {A : Type 0} (d : A) where
   append-all P (x ∷ l) a none new old (suc j) = append-all P l a none new (λ i. old (suc i)) j
 
   -- what holds of the elements of two lists holds of those of both together
-  pub append-each : (P : A → Type 0) (l r : List A) → ((j : ℕ) → j < length l → P (at d l j)) → ((j : ℕ) → j < length r → P (at d r j)) → (j : ℕ) → j < length (l ++ r) → P (at d (l ++ r) j)
+  pub append-each : (P : A → Type 0) (l r : List A) → ((j : ℕ) → j < length l → P (at d l j)) → ((j : ℕ) → j < length r → P (at d r j)) → (j : ℕ)
+      → j < length (l ++ r) → P (at d (l ++ r) j)
   unfolding at
   append-each P [] r f g j h = g j h
   append-each P (x ∷ l) r f g zero h = f zero (omega arith)
   append-each P (x ∷ l) r f g (suc j) h = append-each P l r (λ i k. f (suc i) (omega arith)) g j (omega arith)
 
-  pub first-each : (P : A → Type 0) (a : A) (l : List A) → P a → ((j : ℕ) → j < length l → P (at d l j)) → (j : ℕ) → j < suc (length l) → P (at d (a ∷ l) j)
+  pub first-each : (P : A → Type 0) (a : A) (l : List A) → P a → ((j : ℕ) → j < length l → P (at d l j)) → (j : ℕ) → j < suc (length l)
+      → P (at d (a ∷ l) j)
   unfolding at
   first-each P a l f g zero h = f
   first-each P a l f g (suc j) h = g j (omega arith)

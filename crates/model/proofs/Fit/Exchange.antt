@@ -9,7 +9,9 @@ use lib.Dec.{eqb}
 use borrow.Author.Tests.{eqb-false}
 use Rattle.model.specs.Lists.{at, replace}
 use Rattle.model.specs.Word.{Word, sameWord, Memory, cellOf, statusOf, own, freshWord}
-use Rattle.model.specs.Exchange.{Entry, entry, Step, start, test, load, look, fetch, fail, mark, install, commit, save, clean, cleanMark, Exchange, Exchanged, goes, ends, exchangeOf, entryAt, changing, installed, cleaned, to, onward, testBy, lookBy, afterSave, installBy, cleanBy, commitBy, nextBy, next, cleanWordBy, exchangeTick, withInit, initLoaded}
+use Rattle.model.specs.Exchange.{Entry, entry, Step, start, test, load, look, fetch, fail, mark, install, commit, save, clean, cleanMark}
+use Rattle.model.specs.Exchange.{Exchange, Exchanged, goes, ends, exchangeOf, entryAt, changing, installed, cleaned, to, onward, testBy, lookBy}
+use Rattle.model.specs.Exchange.{afterSave, installBy, cleanBy, commitBy, nextBy, next, cleanWordBy, exchangeTick, withInit, initLoaded}
 use Rattle.model.proofs.Lists.{length-replace}
 use Rattle.model.proofs.Fit.Elements.{or-none, replace-part}
 use Rattle.model.proofs.Fit.Memory.{MemoryFit, cell-fit, status-fit, save-fit}
@@ -97,7 +99,8 @@ noted-same {es} {ps} s i w o =
     }
 
 module _ {low high : ℕ} {ps : List Entry} (some : 1 ≤ length ps) (fits : EntriesFit low high ps) where
-  exchange-of : {es : List Entry} {i : ℕ} {s : Step} → SamePairs es ps → StepFit (length es) i s → ExchangeFit low high ps (record { entries = es; i = i; step = s })
+  exchange-of : {es : List Entry} {i : ℕ} {s : Step} → SamePairs es ps → StepFit (length es) i s
+      → ExchangeFit low high ps (record { entries = es; i = i; step = s })
   exchange-of s f = record { some = rw (s .size) some; entries = same-entries s fits; same = s; step = f }
 
   -- an exchange with its pairs, as it starts
@@ -108,17 +111,22 @@ module _ {low high : ℕ} {ps : List Entry} (some : 1 ≤ length ps) (fits : Ent
     on : {m : Memory} {s′ : Step} → MemoryFit m → StepFit (length (x .entries)) (x .i) s′ → ExchangedFit low high ps (goes m (to x s′))
     on g h = record { memory = g; exchange = exchange-of s h }
 
-    load-on : {m : Memory} (w : Word) (o : Bool) {s′ : Step} → MemoryFit m → StepFit (length (x .entries)) (x .i) s′ → ExchangedFit low high ps (goes m (initLoaded x w o s′))
+    load-on : {m : Memory} (w : Word) (o : Bool) {s′ : Step} → MemoryFit m → StepFit (length (x .entries)) (x .i) s′
+        → ExchangedFit low high ps (goes m (initLoaded x w o s′))
     load-on w o {s′} g h =
         record {
           memory = g;
-          exchange = exchange-of (noted-same s (x .i) w o) (subst (λ (n : ℕ). StepFit n (x .i) s′) (sym (length-replace (x .entries) (x .i) (withInit (entryOf (x .entries) (x .i)) w o))) h);
+          exchange =
+              exchange-of (noted-same s (x .i) w o)
+              (subst (λ (n : ℕ). StepFit n (x .i) s′) (sym (length-replace (x .entries) (x .i) (withInit (entryOf (x .entries) (x .i)) w o))) h);
         }
 
-    onward-on : {m : Memory} {s′ : Step} → MemoryFit m → StepFit (length (x .entries)) (suc (x .i)) s′ → ExchangedFit low high ps (goes m (onward x s′))
+    onward-on : {m : Memory} {s′ : Step} → MemoryFit m → StepFit (length (x .entries)) (suc (x .i)) s′
+        → ExchangedFit low high ps (goes m (onward x s′))
     onward-on g h = record { memory = g; exchange = exchange-of s h }
 
-    test-fit : (b : Bool) → (eqb (x .i) (length (x .entries)) || eqb (statusOf m p) 1) ≡ b → x .i ≤ length (x .entries) → ExchangedFit low high ps (testBy b m x)
+    test-fit : (b : Bool) → (eqb (x .i) (length (x .entries)) || eqb (statusOf m p) 1) ≡ b → x .i ≤ length (x .entries)
+        → ExchangedFit low high ps (testBy b m x)
     unfolding testBy
     test-fit true e h = on f h
     test-fit false e h =
@@ -141,7 +149,8 @@ module _ {low high : ℕ} {ps : List Entry} (some : 1 ≤ length ps) (fits : Ent
     install-fit true e h = onward-on (cell-fit f (e .cell) (installed p e (x .i))) h
     install-fit false e h = onward-on f h
 
-    clean-fit : {m : Memory} (b : Bool) → eqb (x .i) 0 ≡ b → (yes? : Bool) → MemoryFit m → x .i ≤ length (x .entries) → ExchangedFit low high ps (cleanBy b m x yes?)
+    clean-fit : {m : Memory} (b : Bool) → eqb (x .i) 0 ≡ b → (yes? : Bool) → MemoryFit m → x .i ≤ length (x .entries)
+        → ExchangedFit low high ps (cleanBy b m x yes?)
     unfolding cleanBy
     clean-fit true e yes? g h = g
     clean-fit false e yes? g h =
@@ -163,7 +172,8 @@ module _ {low high : ℕ} {ps : List Entry} (some : 1 ≤ length ps) (fits : Ent
             let n = eqb-false (suc j) (x .i) e in
             on g (record { clean = omega arith; most = h .most })
 
-    clean-word-fit : (new same overlapped : Bool) (e : Entry) (j : ℕ) (yes? : Bool) → Below j (x .i) (length (x .entries)) → ExchangedFit low high ps (cleanWordBy new same overlapped p m x e j yes?)
+    clean-word-fit : (new same overlapped : Bool) (e : Entry) (j : ℕ) (yes? : Bool) → Below j (x .i) (length (x .entries))
+        → ExchangedFit low high ps (cleanWordBy new same overlapped p m x e j yes?)
     unfolding cleanWordBy
     clean-word-fit true true o e j yes? h = next-fit j yes? (cell-fit f (e .cell) (cleaned p e)) h
     clean-word-fit true false o e j yes? h = next-fit j yes? f h
@@ -178,14 +188,18 @@ module _ {low high : ℕ} {ps : List Entry} (some : 1 ≤ length ps) (fits : Ent
     step-fit load h = load-on (cellOf m (entryAt x (x .i) .cell)) false f h
     step-fit look h = look-fit (own (m .status) (entryAt x (x .i) .init)) (entryAt x (x .i)) h
     step-fit fetch h = on f h
-    step-fit (save v) h = on (save-fit f p (x .i) v) (after-save (eqb v (entryAt x (x .i) .old)) (entryAt x (x .i) .overlapped && changing (entryAt x (x .i))) h)
+    step-fit (save v) h =
+        on (save-fit f p (x .i) v) (after-save (eqb v (entryAt x (x .i) .old)) (entryAt x (x .i) .overlapped && changing (entryAt x (x .i))) h)
     step-fit fail h = on (status-fit f p 1) h
     step-fit mark h = on (status-fit f (entryAt x (x .i) .init .task) 1) h
     step-fit install h = install-fit (sameWord (cellOf m (entryAt x (x .i) .cell)) (entryAt x (x .i) .init)) (entryAt x (x .i)) h
     step-fit commit h = commit-fit (eqb (statusOf m p) 0) h
-    step-fit (clean j yes?) h = clean-word-fit (yes? && changing (entryAt x j)) (sameWord (cellOf m (entryAt x j .cell)) (installed p (entryAt x j) j)) (entryAt x j .overlapped) (entryAt x j) j yes? h
+    step-fit (clean j yes?) h =
+        clean-word-fit (yes? && changing (entryAt x j)) (sameWord (cellOf m (entryAt x j .cell)) (installed p (entryAt x j) j))
+        (entryAt x j .overlapped) (entryAt x j) j yes? h
     step-fit (cleanMark j yes?) h = next-fit j yes? (status-fit f (entryAt x j .init .task) 1) h
 
 -- a tick of an exchange at its step
-pub exchange-fit : {low high : ℕ} {ps : List Entry} (p : ℕ) {m : Memory} {x : Exchange} → MemoryFit m → ExchangeFit low high ps x → EntriesFit low high ps → ExchangedFit low high ps (exchangeTick p m x (x .step))
+pub exchange-fit : {low high : ℕ} {ps : List Entry} (p : ℕ) {m : Memory} {x : Exchange} → MemoryFit m → ExchangeFit low high ps x
+    → EntriesFit low high ps → ExchangedFit low high ps (exchangeTick p m x (x .step))
 exchange-fit p {m} {x} f e fits = step-fit (rw (e .same .size) at (e .some)) fits p f x (e .same) (x .step) (e .step)

@@ -22,10 +22,12 @@ row-size l p i v q = replace-part [] length l p (replace (at [] l p) i v) (lengt
 
 module _ {m : Memory} (f : MemoryFit m) where
   pub cell-fit : (c : ℕ) (w : Word) → MemoryFit (setCell m c w)
-  cell-fit c w = record { cells = length-replace (m .cells) c w ∙ f .cells; status = f .status; saves = f .saves; save = f .save; stores = f .stores; store = f .store }
+  cell-fit c w =
+      record { cells = length-replace (m .cells) c w ∙ f .cells; status = f .status; saves = f .saves; save = f .save; stores = f .stores; store = f .store }
 
   pub status-fit : (p v : ℕ) → MemoryFit (setStatus m p v)
-  status-fit p v = record { cells = f .cells; status = length-replace (m .status) p v ∙ f .status; saves = f .saves; save = f .save; stores = f .stores; store = f .store }
+  status-fit p v =
+      record { cells = f .cells; status = length-replace (m .status) p v ∙ f .status; saves = f .saves; save = f .save; stores = f .stores; store = f .store }
 
   pub save-fit : (p i v : ℕ) → MemoryFit (setSave m p i v)
   save-fit p i v =

@@ -46,14 +46,17 @@ among-words : (ps : List Entry) (i : ℕ) → i < length ps → among (entryOf p
 unfolding at among
 among-words [] i h = absurd (omega arith)
 among-words (e ∷ ps) zero h = or-left (eqb (e .cell) (e .cell)) (among (e .cell) (map wordOf ps)) (eq-eqb (e .cell) (e .cell) refl)
-among-words (e ∷ ps) (suc i) h = or-right (eqb (entryOf ps i .cell) (e .cell)) (among (entryOf ps i .cell) (map wordOf ps)) (among-words ps i (omega arith))
+among-words (e ∷ ps) (suc i) h =
+    or-right (eqb (entryOf ps i .cell) (e .cell)) (among (entryOf ps i .cell) (map wordOf ps)) (among-words ps i (omega arith))
 
-module _ {low high : ℕ} {ps : List Entry} (f : EntriesFit low high ps) (c o n : ℕ) (more : length ps < 8) (least : low ≤ c) (most : c < high) (new : among c (map wordOf ps) ≡ false) where
+module _ {low high : ℕ} {ps : List Entry} (f : EntriesFit low high ps) (c o n : ℕ) (more : length ps < 8) (least : low ≤ c) (most : c < high)
+    (new : among c (map wordOf ps) ≡ false) where
   size : length (ps ++ (entry c o n ∷ [])) ≡ suc (length ps)
   size = omega (arith, length-append ps (entry c o n ∷ []))
 
   -- an entry by its number: one of the old ones, or the last
-  by-number : {P : Type 0} (i : ℕ) → i < length (ps ++ (entry c o n ∷ [])) → (i < length ps → entryOf (ps ++ (entry c o n ∷ [])) i ≡ entryOf ps i → P) → (i ≡ length ps → entryOf (ps ++ (entry c o n ∷ [])) i ≡ entry c o n → P) → P
+  by-number : {P : Type 0} (i : ℕ) → i < length (ps ++ (entry c o n ∷ [])) → (i < length ps → entryOf (ps ++ (entry c o n ∷ [])) i ≡ entryOf ps i → P)
+      → (i ≡ length ps → entryOf (ps ++ (entry c o n ∷ [])) i ≡ entry c o n → P) → P
   by-number i h old last =
       same? i (length ps)
       (λ e. last e (rw e (at-last ps (entry c o n))))
@@ -92,7 +95,8 @@ pub record TurnFit (words blocks : ℕ) (t : Task) (u : Turn) : Type 0 where
   pub body : u .task .body ≡ t .body
   pub registers : length (u .task .job .registers) ≡ 8
   pub copies : length (u .task .copies) ≡ 4
-  pub counts : u .task .counts .finished + u .task .counts .spent + u .task .counts .rejected ≤ suc (t .counts .finished + t .counts .spent + t .counts .rejected)
+  pub counts : u .task .counts .finished + u .task .counts .spent + u .task .counts .rejected
+      ≤ suc (t .counts .finished + t .counts .spent + t .counts .rejected)
   pub ticks : u .task .counts .ticks ≡ t .counts .ticks
   pub phase : PhaseFit words blocks (u .task .copies) (u .task .job .commands) (u .task .job .pairs) (u .task .job .phase)
 
@@ -102,7 +106,8 @@ first-turn-fit f =
     record { memory = f .memory; body = f .body; registers = f .registers; copies = f .copies; counts = f .counts; ticks = f .ticks; phase = f .phase }
 
 -- the task as it was, in another phase
-pub phase-fit : {words blocks : ℕ} {m : Memory} {d : Deed} (t : Task) (f : Phase) → MemoryFit m → length (t .job .registers) ≡ 8 → length (t .copies) ≡ 4
+pub phase-fit : {words blocks : ℕ} {m : Memory} {d : Deed} (t : Task) (f : Phase) → MemoryFit m → length (t .job .registers) ≡ 8
+    → length (t .copies) ≡ 4
     → PhaseFit words blocks (t .copies) (t .job .commands) (t .job .pairs) f → TurnFit words blocks t (turn m (inPhase t f) d)
 phase-fit t f g rs cs p = record { memory = g; body = refl; registers = rs; copies = cs; counts = omega arith; ticks = refl; phase = p }
 
@@ -114,15 +119,32 @@ none-waiting (x ∷ ps) b e q =
     absurd (false≢true (rw e at z))
 
 -- the command is done, and the job is outside a transaction
-pub done-fit : {words blocks : ℕ} {m : Memory} {d : Deed} (t : Task) (l : List BodyCommand) (rs : List ℕ) (ps : List Entry) (cs : List ℕ) → rest (t .job .commands) ≡ l
+pub done-fit : {words blocks : ℕ} {m : Memory} {d : Deed} (t : Task) (l : List BodyCommand) (rs : List ℕ) (ps : List Entry) (cs : List ℕ)
+    → rest (t .job .commands) ≡ l
     → MemoryFit m → length rs ≡ 8 → length cs ≡ 4 → OutsideFit words blocks l ps → TurnFit words blocks t (turn m (done t rs ps cs) d)
 unfolding doneBy
 done-fit {words} {blocks} {m} {d} t l rs ps cs e g hr hc o =
     subst (λ (z : List BodyCommand). TurnFit words blocks t (turn m (doneBy z t rs ps cs) d)) (sym e) (go l o)
   where
     go : (l : List BodyCommand) → OutsideFit words blocks l ps → TurnFit words blocks t (turn m (doneBy l t rs ps cs) d)
-    go [] o = record { memory = g; body = refl; registers = hr; copies = hc; counts = omega arith; ticks = refl; phase = record { commands = refl; noPairs = none-waiting ps (o .known .body) (o .waiting) (o .faultless) } }
-    go (c ∷ l) o = record { memory = g; body = refl; registers = hr; copies = hc; counts = omega arith; ticks = refl; phase = record { command = c; others = l; commands = refl; outside = o } }
+    go [] o = record {
+      memory = g;
+      body = refl;
+      registers = hr;
+      copies = hc;
+      counts = omega arith;
+      ticks = refl;
+      phase = record { commands = refl; noPairs = none-waiting ps (o .known .body) (o .waiting) (o .faultless) };
+    }
+    go (c ∷ l) o = record {
+      memory = g;
+      body = refl;
+      registers = hr;
+      copies = hc;
+      counts = omega arith;
+      ticks = refl;
+      phase = record { command = c; others = l; commands = refl; outside = o };
+    }
 
 -- THE TEXT AFTER A COMMAND
 pub open-next : {words blocks : ℕ} {k : Known} (b : Body) → Open words blocks k → Open words blocks (inBody k b)
@@ -134,7 +156,8 @@ module _ {words blocks : ℕ} {ps : List Entry} where
   first-fits {c} o = command-fits (o .known) words blocks (o .opened) c (o .faultless .faultless)
 
   -- after a command that leaves the waiting PAIRs as they are
-  pub keeps-pairs : {c : BodyCommand} {l : List BodyCommand} (o : OutsideFit words blocks (c ∷ l) ps) → after (o .known) (body c) ≡ inBody (o .known) (waiting (o .known .body .pairs) (o .known .body)) → OutsideFit words blocks l ps
+  pub keeps-pairs : {c : BodyCommand} {l : List BodyCommand} (o : OutsideFit words blocks (c ∷ l) ps)
+      → after (o .known) (body c) ≡ inBody (o .known) (waiting (o .known .body .pairs) (o .known .body)) → OutsideFit words blocks l ps
   keeps-pairs {c} {l} o e =
       record {
         known = inBody (o .known) (waiting (o .known .body .pairs) (o .known .body));
@@ -158,7 +181,8 @@ module _ {words blocks : ℕ} {ps : List Entry} where
   unfolding after afterBody afterOutside
   after-read o = keeps-pairs o refl
 
-  pub after-pair : {w old new : ℕ} {l : List BodyCommand} (a b : ℕ) → OutsideFit words blocks (outside (PAIR w old new) ∷ l) ps → OutsideFit words blocks l (ps ++ (entry w a b ∷ []))
+  pub after-pair : {w old new : ℕ} {l : List BodyCommand} (a b : ℕ) → OutsideFit words blocks (outside (PAIR w old new) ∷ l) ps
+      → OutsideFit words blocks l (ps ++ (entry w a b ∷ []))
   unfolding after afterBody afterOutside
   after-pair {w} a b o =
       let f = first-fits o .fits in
@@ -196,11 +220,13 @@ some-pairs ps b e q = go ps (rw e at q)
     go (x ∷ l) q = omega arith
 
 -- READ AND SWAP AT WORK
-pub read-fit : {words blocks : ℕ} {m : Memory} → MemoryFit m → (t : Task) → length (t .job .registers) ≡ 8 → length (t .copies) ≡ 4 → (r w : ℕ) → ReadingFit words blocks (t .job .commands) (t .job .pairs) r w → (o : Read) → TurnFit words blocks t (readBy m t r w o)
+pub read-fit : {words blocks : ℕ} {m : Memory} → MemoryFit m → (t : Task) → length (t .job .registers) ≡ 8 → length (t .copies) ≡ 4 → (r w : ℕ)
+    → ReadingFit words blocks (t .job .commands) (t .job .pairs) r w → (o : Read) → TurnFit words blocks t (readBy m t r w o)
 unfolding readBy
 read-fit g t hr hc r w f (reads s) = phase-fit t (reading r w s) g hr hc f
 read-fit {words} {blocks} g t hr hc r w f (gives v) =
-    done-fit t (f .others) (replace (t .job .registers) r v) (t .job .pairs) (t .copies) (ap rest (f .commands)) g (length-replace (t .job .registers) r v ∙ hr) hc
+    done-fit t (f .others) (replace (t .job .registers) r v) (t .job .pairs) (t .copies) (ap rest (f .commands)) g
+    (length-replace (t .job .registers) r v ∙ hr) hc
     (after-read (subst (λ (z : List BodyCommand). OutsideFit words blocks z (t .job .pairs)) (f .commands) (f .outside)))
 
 -- what an exchange needs of its task, besides the exchange itself
@@ -210,10 +236,14 @@ pub record SwapAt (words blocks : ℕ) (l : List BodyCommand) (ps : List Entry) 
   pub register : r < 8
   pub outside : OutsideFit words blocks l ps
 
-pub swap-fit : {words blocks : ℕ} (t : Task) (hr : length (t .job .registers) ≡ 8) (hc : length (t .copies) ≡ 4) (r : ℕ) → SwapAt words blocks (t .job .commands) (t .job .pairs) r
+pub swap-fit : {words blocks : ℕ} (t : Task) (hr : length (t .job .registers) ≡ 8) (hc : length (t .copies) ≡ 4) (r : ℕ)
+    → SwapAt words blocks (t .job .commands) (t .job .pairs) r
     → (x : Exchange) (o : Exchanged) → ExchangedFit 0 words (t .job .pairs) o → TurnFit words blocks t (swapBy t r x o)
 unfolding swapBy
-swap-fit t hr hc r f y (goes m x) e = phase-fit t (exchanging r x) (e .memory) hr hc (record { others = f .others; commands = f .commands; register = f .register; exchange = e .exchange; outside = f .outside })
+swap-fit t hr hc r f y (goes m x) e =
+    phase-fit t (exchanging r x) (e .memory) hr hc
+    (record { others = f .others; commands = f .commands; register = f .register; exchange = e .exchange; outside = f .outside })
 swap-fit {words} {blocks} t hr hc r f y (ends m yes?) e =
-    done-fit t (f .others) (replace (t .job .registers) r (answer yes?)) [] (t .copies) (ap rest (f .commands)) e (length-replace (t .job .registers) r (answer yes?) ∙ hr) hc
+    done-fit t (f .others) (replace (t .job .registers) r (answer yes?)) [] (t .copies) (ap rest (f .commands)) e
+    (length-replace (t .job .registers) r (answer yes?) ∙ hr) hc
     (after-swap (subst (λ (z : List BodyCommand). OutsideFit words blocks z (t .job .pairs)) (f .commands) (f .outside)))

@@ -13,7 +13,8 @@ use Rattle.model.specs.Job.{Touched, Transaction, Inner}
 use Rattle.model.specs.Transaction.{freshTransaction}
 use Rattle.model.proofs.Fit.Elements.{and-right, include-more, include-size}
 use Rattle.model.proofs.Fit.Body.{InsideFits, Faultless, CommandFits, command-fits}
-use Rattle.model.proofs.Fit.Transaction.{namedInside, touched?, copied?, namedBy, namedSoFar, BlocksFit, InTransaction, BegunFit, InnerFit, TransactionFit}
+use Rattle.model.proofs.Fit.Transaction.{namedInside, touched?, copied?, namedBy, namedSoFar}
+use Rattle.model.proofs.Fit.Transaction.{BlocksFit, InTransaction, BegunFit, InnerFit, TransactionFit}
 use Rattle.model.proofs.Fit.Blocks.{count-most, blocks-none, blocks-named}
 use Rattle.model.proofs.Fit.Outside.{open-next}
 
@@ -74,14 +75,16 @@ blocks-by (LOAD r v) f = f
 blocks-by (ADD r q) f = f
 blocks-by (outside c) f = f
 
-blocks-so-far : {blocks used : ℕ} {b : Body} {ts : List Touched} (l : List BodyCommand) → BlocksFit blocks b ts used → BlocksFit blocks (namedSoFar l b) ts used
+blocks-so-far : {blocks used : ℕ} {b : Body} {ts : List Touched} (l : List BodyCommand) → BlocksFit blocks b ts used
+    → BlocksFit blocks (namedSoFar l b) ts used
 blocks-so-far [] f = f
 blocks-so-far (c ∷ l) f = blocks-by c f
 
 -- THE NEXT COMMAND
 module _ {words blocks : ℕ} {x : Transaction} where
   -- the text after a command whose body is then b
-  pass-on : {c : BodyCommand} {l : List BodyCommand} (f : PassFit words blocks (c ∷ l) x) (b : Body) → after (f .known) (body c) ≡ inBody (f .known) b → b .inside ≡ true → b .pairs ≡ [] → NamedFit b → BlocksFit blocks b (x .blocks) (x .used) → PassFit words blocks l x
+  pass-on : {c : BodyCommand} {l : List BodyCommand} (f : PassFit words blocks (c ∷ l) x) (b : Body) → after (f .known) (body c) ≡ inBody (f .known) b
+      → b .inside ≡ true → b .pairs ≡ [] → NamedFit b → BlocksFit blocks b (x .blocks) (x .used) → PassFit words blocks l x
   pass-on {c} {l} f b e i ps s ts =
       record {
         kept = f .kept;
@@ -92,7 +95,9 @@ module _ {words blocks : ℕ} {x : Transaction} where
         touched = blocks-so-far l ts;
       }
 
-  same-body : {c : BodyCommand} {l : List BodyCommand} (f : PassFit words blocks (c ∷ l) x) → after (f .known) (body c) ≡ inBody (f .known) (waiting (f .known .body .pairs) (f .known .body)) → BlocksFit blocks (f .known .body) (x .blocks) (x .used) → PassFit words blocks l x
+  same-body : {c : BodyCommand} {l : List BodyCommand} (f : PassFit words blocks (c ∷ l) x)
+      → after (f .known) (body c) ≡ inBody (f .known) (waiting (f .known .body .pairs) (f .known .body))
+      → BlocksFit blocks (f .known .body) (x .blocks) (x .used) → PassFit words blocks l x
   same-body f e ts =
       pass-on f (waiting (f .known .body .pairs) (f .known .body)) e (f .inside .inside) (f .inside .pairs)
       (record { touched = f .inside .touched; puts = f .inside .puts })
@@ -108,7 +113,9 @@ module _ {words blocks : ℕ} {x : Transaction} where
 
   pub pass-access : {a : Access} {l : List BodyCommand} → PassFit words blocks (inside (access a) ∷ l) x → PassFit words blocks l x
   unfolding after afterBody afterInside
-  pass-access {a} {l} f = pass-on f (named a (f .known .body)) refl (inside-named a) (pairs-named a) (named-fit (f .inside) (inside (access a) ∷ l) (f .faultless)) (f .touched)
+  pass-access {a} {l} f =
+      pass-on f (named a (f .known .body)) refl (inside-named a) (pairs-named a) (named-fit (f .inside) (inside (access a) ∷ l) (f .faultless))
+      (f .touched)
     where
       inside-named : (a : Access) → named a (f .known .body) .inside ≡ true
       inside-named (GET r n o) = refl
@@ -119,7 +126,8 @@ module _ {words blocks : ℕ} {x : Transaction} where
       pairs-named (PUT n o r) = f .inside .pairs
 
 -- THE FACTS OF A TRANSACTION FROM THOSE OF ITS PASS
-pub transaction-fit : {words blocks : ℕ} {copies : List ℕ} {l : List BodyCommand} {x : Transaction} {s : Inner} → PassFit words blocks l x → InnerFit blocks copies l x s → TransactionFit words blocks copies l [] x s
+pub transaction-fit : {words blocks : ℕ} {copies : List ℕ} {l : List BodyCommand} {x : Transaction} {s : Inner} → PassFit words blocks l x
+    → InnerFit blocks copies l x s → TransactionFit words blocks copies l [] x s
 transaction-fit {l = l} {x} f i =
     let s = named-fit (f .inside) l (f .faultless) in
     record {
@@ -135,9 +143,12 @@ transaction-fit {l = l} {x} f i =
       inner = i;
     }
 
-pub pass-of : {words blocks : ℕ} {copies : List ℕ} {l : List BodyCommand} {ps : List Entry} {x : Transaction} {s : Inner} → TransactionFit words blocks copies l ps x s → PassFit words blocks l x
+pub pass-of : {words blocks : ℕ} {copies : List ℕ} {l : List BodyCommand} {ps : List Entry} {x : Transaction} {s : Inner}
+    → TransactionFit words blocks copies l ps x s → PassFit words blocks l x
 pass-of f = record { kept = f .kept; begun = f .begun; known = f .known; inside = f .inside; faultless = f .faultless; touched = f .touched }
 
 -- a pass begins with nothing touched
-pub pass-start : {words blocks : ℕ} {l : List BodyCommand} {kept : List ℕ} → BegunFit words blocks l → length kept ≡ 8 → PassFit words blocks l (freshTransaction kept l)
-pass-start {blocks = blocks} {l} f h = record { kept = h; begun = f; known = f .known; inside = f .inside; faultless = f .faultless; touched = blocks-none blocks (namedSoFar l (f .known .body)) }
+pub pass-start : {words blocks : ℕ} {l : List BodyCommand} {kept : List ℕ} → BegunFit words blocks l → length kept ≡ 8
+    → PassFit words blocks l (freshTransaction kept l)
+pass-start {blocks = blocks} {l} f h =
+    record { kept = h; begun = f; known = f .known; inside = f .inside; faultless = f .faultless; touched = blocks-none blocks (namedSoFar l (f .known .body)) }

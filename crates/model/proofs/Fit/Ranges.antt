@@ -6,7 +6,8 @@ use Rattle.model.specs.Lists.{at}
 use Rattle.model.specs.Command.{BodyCommand, LOAD, ADD, outside, inside}
 use Rattle.model.specs.Word.{Word, Memory, cellOf, statusOf, saved, stored, Reading, loading, looking, fetching, Read, reads, gives}
 use Rattle.model.specs.Exchange.{Entry, Step, start, test, load, look, fetch, fail, mark, install, commit, save, clean, cleanMark, Exchange}
-use Rattle.model.specs.Job.{Touched, untouched, remembered, copied, Transaction, Inner, between, first, copying, again, committing, Phase, idle, plain, reading, exchanging, transacting, Task}
+use Rattle.model.specs.Job.{Touched, untouched, remembered, copied, Transaction, Inner, between, first, copying}
+use Rattle.model.specs.Job.{again, committing, Phase, idle, plain, reading, exchanging, transacting, Task}
 use Rattle.model.specs.Transaction.{touchedOf}
 use Rattle.model.specs.Machine.{Machine, taskAt}
 use Rattle.model.proofs.Fit.Exchange.{entryOf}

@@ -6,9 +6,12 @@ use native.Mathlib.Omega.{arith}
 use lib.Dec.{eqb}
 use lib.ListN.{length}
 use Rattle.model.specs.Lists.{at, replace}
-use Rattle.model.specs.Word.{Word, sameWord, Memory, cellOf, statusOf, own, setCell, setStatus, setSave, setStored, Reading, loading, looking, fetching, readTick, freshWord, lookingBy}
-use Rattle.model.specs.Exchange.{Entry, entry, Step, start, test, load, look, fetch, fail, mark, install, commit, save, clean, cleanMark, Exchange, Exchanged, goes, ends, entryAt, changing, installed, cleaned, to, onward, testBy, afterSave, installBy, cleanBy, commitBy, nextBy, next, cleanWordBy, exchangeTick, withInit, initLoaded}
-use Rattle.model.specs.Exchange.{lookBy as lookAtBy}
+use Rattle.model.specs.Word.{Word, sameWord, Memory, cellOf, statusOf, own, setCell, setStatus, setSave}
+use Rattle.model.specs.Word.{setStored, Reading, loading, looking, fetching, readTick, freshWord, lookingBy}
+use Rattle.model.specs.Exchange.{Entry, entry, Step, start, test, load, look, fetch, fail, mark, install, commit}
+use Rattle.model.specs.Exchange.{save, clean, cleanMark, Exchange, Exchanged, goes, ends, entryAt, changing}
+use Rattle.model.specs.Exchange.{installed, cleaned, to, onward, testBy, afterSave, installBy, cleanBy, commitBy}
+use Rattle.model.specs.Exchange.{nextBy, next, cleanWordBy, exchangeTick, withInit, initLoaded, lookBy as lookAtBy}
 use Rattle.model.proofs.Fit.Elements.{replace-all}
 use Rattle.model.proofs.Fit.Exchange.{entryOf, StepFit}
 use Rattle.model.proofs.Fit.Ranges.{Value, WordRange, MemoryRange, ReadingRange, ReadRange, EntryRange, StepRange, ExchangeRange}
@@ -16,14 +19,19 @@ use Rattle.model.proofs.Fit.Ranges.{Value, WordRange, MemoryRange, Read
 -- MEMORY
 module _ {m : Memory} (f : MemoryRange m) where
   pub cell-range : (c : ℕ) (w : Word) → WordRange w → MemoryRange (setCell m c w)
-  cell-range c w h = record { cell = replace-all (freshWord 0) WordRange (m .cells) c w h (f .cell); status = f .status; save = f .save; store = f .store }
+  cell-range c w h =
+      record { cell = replace-all (freshWord 0) WordRange (m .cells) c w h (f .cell); status = f .status; save = f .save; store = f .store }
 
   pub status-range : (p v : ℕ) → v ≤ 2 → MemoryRange (setStatus m p v)
-  status-range p v h = record { cell = f .cell; status = replace-all 0 (λ (n : ℕ). n ≤ 2) (m .status) p v h (f .status); save = f .save; store = f .store }
+  status-range p v h =
+      record { cell = f .cell; status = replace-all 0 (λ (n : ℕ). n ≤ 2) (m .status) p v h (f .status); save = f .save; store = f .store }
 
   -- a row with one value replaced
-  row-range : (rows : List (List ℕ)) → ((p i : ℕ) → Value (at 0 (at [] rows p) i)) → (p i v : ℕ) → Value v → (q j : ℕ) → Value (at 0 (at [] (replace rows p (replace (at [] rows p) i v)) q) j)
-  row-range rows old p i v h = replace-all [] (λ (row : List ℕ). (j : ℕ) → Value (at 0 row j)) rows p (replace (at [] rows p) i v) (replace-all 0 Value (at [] rows p) i v h (old p)) old
+  row-range : (rows : List (List ℕ)) → ((p i : ℕ) → Value (at 0 (at [] rows p) i)) → (p i v : ℕ) → Value v → (q j : ℕ)
+      → Value (at 0 (at [] (replace rows p (replace (at [] rows p) i v)) q) j)
+  row-range rows old p i v h =
+      replace-all [] (λ (row : List ℕ). (j : ℕ) → Value (at 0 row j)) rows p (replace (at [] rows p) i v)
+      (replace-all 0 Value (at [] rows p) i v h (old p)) old
 
   pub save-range : (p i v : ℕ) → Value v → MemoryRange (setSave m p i v)
   save-range p i v h = record { cell = f .cell; status = f .status; save = row-range (m .saves) (f .save) p i v h; store = f .store }
@@ -60,7 +68,13 @@ module _ (p : ℕ) (hp : p < 8) {m : Memory} (f : MemoryRange m) (x : Exchange) 
   noted-range w o h g =
       let e : Entry = entryAt x (x .i) in
       let r = es (x .i) in
-      record { memory = f; exchange = record { entry = replace-all (entry 0 0 0) EntryRange (x .entries) (x .i) (withInit e w o) (record { old = r .old; new = r .new; init = h }) es; step = g } }
+      record {
+        memory = f;
+        exchange = record {
+          entry = replace-all (entry 0 0 0) EntryRange (x .entries) (x .i) (withInit e w o) (record { old = r .old; new = r .new; init = h }) es;
+          step = g;
+        };
+      }
 
   onward-range : {n : Memory} {s : Step} → MemoryRange n → StepRange s → ExchangedRange (goes n (onward x s))
   onward-range g h = record { memory = g; exchange = record { entry = es; step = h } }
@@ -103,9 +117,11 @@ module _ (p : ℕ) (hp : p < 8) {m : Memory} (f : MemoryRange m) (x : Exchange) 
       go true = g
       go false = on g tt
 
-  clean-word-range : (new same overlapped : Bool) (e : Entry) (j : ℕ) (yes? : Bool) → EntryRange e → ExchangedRange (cleanWordBy new same overlapped p m x e j yes?)
+  clean-word-range : (new same overlapped : Bool) (e : Entry) (j : ℕ) (yes? : Bool) → EntryRange e
+      → ExchangedRange (cleanWordBy new same overlapped p m x e j yes?)
   unfolding cleanWordBy
-  clean-word-range true true o e j yes? h = next-range j yes? (cell-range f (e .cell) (cleaned p e) (record { value = h .new; count = omega arith; task = hp }))
+  clean-word-range true true o e j yes? h =
+      next-range j yes? (cell-range f (e .cell) (cleaned p e) (record { value = h .new; count = omega arith; task = hp }))
   clean-word-range true false o e j yes? h = next-range j yes? f
   clean-word-range false true o e j yes? h = next-range j yes? (cell-range f (e .cell) (e .init) (h .init))
   clean-word-range false false true e j yes? h = on f tt
@@ -118,10 +134,14 @@ module _ (p : ℕ) (hp : p < 8) {m : Memory} (f : MemoryRange m) (x : Exchange) 
   exchange-range k most load h r = noted-range (cellOf m (entryAt x (x .i) .cell)) false (f .cell (entryAt x (x .i) .cell)) tt
   exchange-range k most look h r = look-at-range (own (m .status) (entryAt x (x .i) .init)) (entryAt x (x .i)) (es (x .i))
   exchange-range k most fetch h r = on f (f .save (entryAt x (x .i) .init .task) (entryAt x (x .i) .init .count))
-  exchange-range k most (save v) h r = on (save-range f p (x .i) v r) (after-save (eqb v (entryAt x (x .i) .old)) (entryAt x (x .i) .overlapped && changing (entryAt x (x .i))))
+  exchange-range k most (save v) h r =
+      on (save-range f p (x .i) v r) (after-save (eqb v (entryAt x (x .i) .old)) (entryAt x (x .i) .overlapped && changing (entryAt x (x .i))))
   exchange-range k most fail h r = on (status-range f p 1 (omega arith)) tt
   exchange-range k most mark h r = on (status-range f (entryAt x (x .i) .init .task) 1 (omega arith)) tt
-  exchange-range k most install h r = install-range (sameWord (cellOf m (entryAt x (x .i) .cell)) (entryAt x (x .i) .init)) (entryAt x (x .i)) (es (x .i)) (omega arith)
+  exchange-range k most install h r =
+      install-range (sameWord (cellOf m (entryAt x (x .i) .cell)) (entryAt x (x .i) .init)) (entryAt x (x .i)) (es (x .i)) (omega arith)
   exchange-range k most commit h r = commit-range (eqb (statusOf m p) 0)
-  exchange-range k most (clean j yes?) h r = clean-word-range (yes? && changing (entryAt x j)) (sameWord (cellOf m (entryAt x j .cell)) (installed p (entryAt x j) j)) (entryAt x j .overlapped) (entryAt x j) j yes? (es j)
+  exchange-range k most (clean j yes?) h r =
+      clean-word-range (yes? && changing (entryAt x j)) (sameWord (cellOf m (entryAt x j .cell)) (installed p (entryAt x j) j))
+      (entryAt x j .overlapped) (entryAt x j) j yes? (es j)
   exchange-range k most (cleanMark j yes?) h r = next-range j yes? (status-range f (entryAt x j .init .task) 1 (omega arith))

@@ -13,7 +13,8 @@ use Rattle.model.specs.Sheet.{Sheet}
 use Rattle.model.specs.Exchange.{Entry, entry, Exchanged, goes, ends, exchangeOf, start, exchangeTick, Exchange}
 use Rattle.model.specs.Job.{between, Phase, idle, plain, reading, exchanging, transacting, Task, turn, started, counting, ticks, Deed, Turn}
 use Rattle.model.specs.Transaction.{loaded, added, freshTransaction}
-use Rattle.model.specs.Machine.{answer, readBy, swapBy, plainTick, statement, Machine, machine, noTask, taskAt, unfinished, Running, nobody, running, runningOf, releaseBy, arriveBy, move, moveAny, tick, arrive, enter, beginning, outsideTick, recorded}
+use Rattle.model.specs.Machine.{answer, readBy, swapBy, plainTick, statement, Machine, machine, noTask, taskAt, unfinished, Running, nobody}
+use Rattle.model.specs.Machine.{running, runningOf, releaseBy, arriveBy, move, moveAny, tick, arrive, enter, beginning, outsideTick, recorded}
 use Rattle.model.specs.Arguments.{Arguments}
 use Rattle.model.proofs.Fit.Elements.{replace-all, append-all, replicate-every}
 use Rattle.model.proofs.Fit.Sheet.{SheetFit}
@@ -23,13 +24,15 @@ use Rattle.model.proofs.Fit.Tick.{tasks-of, arrive-fit, arrived-fit, de
 use Rattle.model.proofs.History.Steps.{stateAfter}
 use Rattle.model.proofs.Fit.Ranges.{Value, MemoryRange, ReadRange, EntryRange, CommandsRange, PhaseRange, TaskRange, Ranges}
 use Rattle.model.proofs.Fit.RangesExchange.{read-range, ExchangedRange, exchange-range}
-use Rattle.model.proofs.Fit.RangesTransaction.{TurnRange, no-entry, no-entry-range, done-range, in-phase-range, fresh-range, within-range, loaded-range, added-range, transaction-range}
+use Rattle.model.proofs.Fit.RangesTransaction.{TurnRange, no-entry, no-entry-range, done-range, in-phase-range}
+use Rattle.model.proofs.Fit.RangesTransaction.{fresh-range, within-range, loaded-range, added-range, transaction-range}
 
 module _ {m : Memory} (g : MemoryRange m) {t : Task} (f : TaskRange t) where
   read-by-range : (r w : ℕ) (o : Read) → ReadRange o → TurnRange (readBy m t r w o)
   unfolding readBy
   read-by-range r w (reads s) k = record { memory = g; task = in-phase-range f (reading r w s) k }
-  read-by-range r w (gives v) k = record { memory = g; task = done-range f (replace (t .job .registers) r v) (t .job .pairs) (t .copies) (loaded-range f r v k) (f .pair) (f .copy) }
+  read-by-range r w (gives v) k =
+      record { memory = g; task = done-range f (replace (t .job .registers) r v) (t .job .pairs) (t .copies) (loaded-range f r v k) (f .pair) (f .copy) }
 
   answer-range : (yes? : Bool) → Value (answer yes?)
   answer-range true = omega arith
@@ -38,7 +41,12 @@ module _ {m : Memory} (g : MemoryRange m) {t : Task} (f : TaskRange t) where
   swap-by-range : (r : ℕ) (v : Exchange) (o : Exchanged) → ExchangedRange o → TurnRange (swapBy t r v o)
   unfolding swapBy
   swap-by-range r v (goes n x) k = record { memory = k .memory; task = in-phase-range f (exchanging r x) (k .exchange) }
-  swap-by-range r v (ends n yes?) k = record { memory = k; task = done-range f (replace (t .job .registers) r (answer yes?)) [] (t .copies) (loaded-range f r (answer yes?) (answer-range yes?)) no-entry-range (f .copy) }
+  swap-by-range r v (ends n yes?) k = record {
+    memory = k;
+    task =
+        done-range f (replace (t .job .registers) r (answer yes?)) [] (t .copies) (loaded-range f r (answer yes?) (answer-range yes?)) no-entry-range
+        (f .copy);
+  }
 
   -- the same turn as the first of an operation
   first-range : {u : Turn} {a : Arguments} → TurnRange u → TurnRange (beginning a u)
@@ -55,7 +63,9 @@ module _ {m : Memory} (g : MemoryRange m) {t : Task} (f : TaskRange t) where
       let last : EntryRange e = record { old = f .register o; new = f .register n; init = no-entry .init } in
       record {
         memory = g;
-        task = done-range f (t .job .registers) (recorded t w o n) (t .copies) (f .register) (append-all (entry 0 0 0) EntryRange (t .job .pairs) e no-entry last (f .pair)) (f .copy);
+        task =
+            done-range f (t .job .registers) (recorded t w o n) (t .copies) (f .register)
+            (append-all (entry 0 0 0) EntryRange (t .job .pairs) e no-entry last (f .pair)) (f .copy);
       }
   outside-range p hp l k (SWAP r) =
       let x = exchangeOf (t .job .pairs) in
@@ -67,22 +77,29 @@ module _ {m : Memory} (g : MemoryRange m) {t : Task} (f : TaskRange t) where
   plain-range : (p : ℕ) → p < 8 → (l : List BodyCommand) → CommandsRange l → TurnRange (plainTick p m t l)
   unfolding plainTick
   plain-range p hp [] k = same-range
-  plain-range p hp (LOAD r v ∷ l) k = record { memory = g; task = done-range f (loaded (t .job .registers) r v) (t .job .pairs) (t .copies) (loaded-range f r v (k .command)) (f .pair) (f .copy) }
-  plain-range p hp (ADD r q ∷ l) k = record { memory = g; task = done-range f (added (t .job .registers) r q) (t .job .pairs) (t .copies) (added-range f r q) (f .pair) (f .copy) }
+  plain-range p hp (LOAD r v ∷ l) k = record {
+    memory = g;
+    task = done-range f (loaded (t .job .registers) r v) (t .job .pairs) (t .copies) (loaded-range f r v (k .command)) (f .pair) (f .copy);
+  }
+  plain-range p hp (ADD r q ∷ l) k =
+      record { memory = g; task = done-range f (added (t .job .registers) r q) (t .job .pairs) (t .copies) (added-range f r q) (f .pair) (f .copy) }
   plain-range p hp (outside c ∷ l) k = outside-range p hp l (k .others) c
   plain-range p hp (inside c ∷ l) k = same-range
 
-  phase-range : (words blocks p : ℕ) → p < 8 → (s : Phase) → PhaseFit words blocks (t .copies) (t .job .commands) (t .job .pairs) s → PhaseRange s → TurnRange (statement p m t s)
+  phase-range : (words blocks p : ℕ) → p < 8 → (s : Phase) → PhaseFit words blocks (t .copies) (t .job .commands) (t .job .pairs) s → PhaseRange s
+      → TurnRange (statement p m t s)
   unfolding statement
   phase-range words blocks p hp idle h k = same-range
   phase-range words blocks p hp plain h k = plain-range p hp (t .job .commands) (f .commands)
   phase-range words blocks p hp (reading r w s) h k = read-by-range r w (readTick m w s) (read-range g w s k)
   phase-range words blocks p hp (exchanging r x) h k =
       let e = h .exchange in
-      swap-by-range r x (exchangeTick p m x (x .step)) (exchange-range p hp g x (k .entry) (length (x .entries)) (e .entries .most) (x .step) (e .step) (k .step))
+      swap-by-range r x (exchangeTick p m x (x .step))
+      (exchange-range p hp g x (k .entry) (length (x .entries)) (e .entries .most) (x .step) (e .step) (k .step))
   phase-range words blocks p hp (transacting x s) h k = transaction-range p hp g f s h k
 
-  pub statement-range : {words blocks now : ℕ} {text : List BodyCommand} (p : ℕ) → p < 8 → TaskFit words blocks text now t → TurnRange (statement p m t (t .job .phase))
+  pub statement-range : {words blocks now : ℕ} {text : List BodyCommand} (p : ℕ) → p < 8 → TaskFit words blocks text now t
+      → TurnRange (statement p m t (t .job .phase))
   statement-range {words} {blocks} p hp h = phase-range words blocks p hp (t .job .phase) (h .phase) (f .phase)
 
 -- RELEASES
@@ -107,7 +124,8 @@ arrive-range (r ∷ l) m f = go (eqb (r .tick) (m .now)) (arrive-range l)
     released true on = on (machine (m .memory) (m .tasks) (m .releases) (m .now) (suc (m .dropped))) (record { memory = f .memory; task = f .task })
     released false on =
         let t : Task = started (taskAt (m .tasks) p) in
-        on (machine (m .memory) (replace (m .tasks) p t) (m .releases) (m .now) (m .dropped)) (record { memory = f .memory; task = replace-all noTask TaskRange (m .tasks) p t (started-range (f .task p)) (f .task) })
+        on (machine (m .memory) (replace (m .tasks) p t) (m .releases) (m .now) (m .dropped))
+        (record { memory = f .memory; task = replace-all noTask TaskRange (m .tasks) p t (started-range (f .task p)) (f .task) })
 
     go : (b : Bool) → ((m : Machine) → Ranges m → Ranges (arrive l m)) → Ranges (arriveBy b (arrive l) r l m)
     go true on = released (unfinished (taskAt (m .tasks) p .job .phase)) on

@@ -11,13 +11,18 @@ use Rattle.model.specs.Lists.{at, replace}
 use Rattle.model.specs.Command.{Access, GET, PUT, Inside, access, COMMIT, BodyCommand, LOAD, ADD, outside, inside}
 use Rattle.model.specs.Word.{Memory, stored, loading, Read, reads, gives, readTick, setStored}
 use Rattle.model.specs.Exchange.{Entry, entry, Exchanged, goes, ends, exchangeOf, exchangeTick, Exchange}
-use Rattle.model.specs.Job.{Touched, untouched, remembered, copied, Transaction, Inner, between, first, copying, again, committing, Phase, reading, Task, Turn, turn, rest, done, doneBy, inPhase, Deed}
-use Rattle.model.specs.Transaction.{bank, bankValue, versionOf, storeOf, blockOf, rememberedOf, touchedOf, touch, within, stays, goesOn, restarted, loaded, added, firstRead, copyBy, copyTick, accessTick, checkBy, againRead, nothing?, spent?, gather, takenBack, commandTick, transactionTick, freshTransaction, commitCommandBy, committingBy, insideTick}
+use Rattle.model.specs.Job.{Touched, untouched, remembered, copied, Transaction, Inner, between, first, copying}
+use Rattle.model.specs.Job.{again, committing, Phase, reading, Task, Turn, turn, rest, done, doneBy, inPhase, Deed}
+use Rattle.model.specs.Transaction.{bank, bankValue, versionOf, storeOf, blockOf, rememberedOf, touchedOf, touch}
+use Rattle.model.specs.Transaction.{within, stays, goesOn, restarted, loaded, added, firstRead, copyBy, copyTick}
+use Rattle.model.specs.Transaction.{accessTick, checkBy, againRead, nothing?, spent?, gather, takenBack, commandTick}
+use Rattle.model.specs.Transaction.{transactionTick, freshTransaction, commitCommandBy, committingBy, insideTick}
 use Rattle.model.proofs.Fit.Elements.{or-none, or-none-right, replace-all, first-every}
 use Rattle.model.proofs.Fit.Exchange.{entryOf}
 use Rattle.model.proofs.Fit.Transaction.{TransactionFit}
 use Rattle.model.proofs.Fit.Blocks.{at-none}
-use Rattle.model.proofs.Fit.Ranges.{Value, MemoryRange, ReadRange, EntryRange, TouchedRange, CommandsRange, InnerRange, TransactionRange, PhaseRange, TaskRange}
+use Rattle.model.proofs.Fit.Ranges.{Value, MemoryRange, ReadRange, EntryRange, TouchedRange}
+use Rattle.model.proofs.Fit.Ranges.{CommandsRange, InnerRange, TransactionRange, PhaseRange, TaskRange}
 use Rattle.model.proofs.Fit.RangesExchange.{stored-range, read-range, ExchangedRange, exchange-range}
 
 pub record TurnRange (u : Turn) : Type 0 where
@@ -46,14 +51,19 @@ new-bank : (v s : ℕ) → Value v → s < 256 → eqb (versionOf v) 16777215 �
 new-bank v s hv hs e = let d = eqb-false (versionOf v) 16777215 e in omega arith
 
 module _ (copies : List ℕ) (hc : (k : ℕ) → at 0 copies k < 256) where
-  gather-range : (b : ℕ) (ts : List Touched) → ((n : ℕ) → TouchedRange (at untouched ts n)) → spent? ts ≡ false → (i : ℕ) → EntryRange (entryOf (gather copies b ts) i)
+  gather-range : (b : ℕ) (ts : List Touched) → ((n : ℕ) → TouchedRange (at untouched ts n)) → spent? ts ≡ false → (i : ℕ)
+      → EntryRange (entryOf (gather copies b ts) i)
   unfolding gather spent? at
   gather-range b [] h e = no-entry-range
   gather-range b (t ∷ ts) h e = go t (h 0) e (gather-range (suc b) ts (λ n. h (suc n)))
     where
-      go : (t : Touched) → TouchedRange t → spent? (t ∷ ts) ≡ false → (spent? ts ≡ false → (i : ℕ) → EntryRange (entryOf (gather copies (suc b) ts) i)) → (i : ℕ) → EntryRange (entryOf (gather copies b (t ∷ ts)) i)
+      go : (t : Touched) → TouchedRange t → spent? (t ∷ ts) ≡ false
+          → (spent? ts ≡ false → (i : ℕ) → EntryRange (entryOf (gather copies (suc b) ts) i)) → (i : ℕ)
+          → EntryRange (entryOf (gather copies b (t ∷ ts)) i)
       go untouched r e on = on e
-      go (remembered v) r e on = first-every (entry 0 0 0) EntryRange (entry (bank b) v v) (gather copies (suc b) ts) (record { old = r; new = r; init = no-entry .init }) (on e)
+      go (remembered v) r e on =
+          first-every (entry 0 0 0) EntryRange (entry (bank b) v v) (gather copies (suc b) ts) (record { old = r; new = r; init = no-entry .init })
+          (on e)
       go (copied v k) r e on =
           first-every (entry 0 0 0) EntryRange (entry (bank b) v (bankValue (suc (versionOf v)) (at 0 copies k))) (gather copies (suc b) ts)
           (record { old = r; new = new-bank v (at 0 copies k) r (hc k) (or-none (eqb (versionOf v) 16777215) (spent? ts) e); init = no-entry .init })
@@ -64,11 +74,13 @@ unfolding takenBack
 taken-back-range copies [] h = h
 taken-back-range copies (untouched ∷ ts) h = taken-back-range copies ts h
 taken-back-range copies (remembered v ∷ ts) h = taken-back-range copies ts h
-taken-back-range copies (copied v k ∷ ts) h = taken-back-range (replace copies k (storeOf v)) ts (replace-all 0 (λ (n : ℕ). n < 256) copies k (storeOf v) (omega arith) h)
+taken-back-range copies (copied v k ∷ ts) h =
+    taken-back-range (replace copies k (storeOf v)) ts (replace-all 0 (λ (n : ℕ). n < 256) copies k (storeOf v) (omega arith) h)
 
 -- WHAT A STATEMENT LEAVES OF THE TASK
 module _ {t : Task} (f : TaskRange t) where
-  pub done-range : (rs : List ℕ) (ps : List Entry) (cs : List ℕ) → ((r : ℕ) → Value (at 0 rs r)) → ((i : ℕ) → EntryRange (entryOf ps i)) → ((k : ℕ) → at 0 cs k < 256) → TaskRange (done t rs ps cs)
+  pub done-range : (rs : List ℕ) (ps : List Entry) (cs : List ℕ) → ((r : ℕ) → Value (at 0 rs r)) → ((i : ℕ) → EntryRange (entryOf ps i))
+      → ((k : ℕ) → at 0 cs k < 256) → TaskRange (done t rs ps cs)
   unfolding doneBy
   done-range rs ps cs hr hp hc = go (rest (t .job .commands)) (rest-range (t .job .commands) (f .commands))
     where
@@ -79,7 +91,8 @@ module _ {t : Task} (f : TaskRange t) where
   pub in-phase-range : (p : Phase) → PhaseRange p → TaskRange (inPhase t p)
   in-phase-range p h = record { body = f .body; commands = f .commands; register = f .register; pair = f .pair; copy = f .copy; phase = h }
 
-  pub within-range : (l : List BodyCommand) (rs : List ℕ) (x : Transaction) (s : Inner) → CommandsRange l → ((r : ℕ) → Value (at 0 rs r)) → TransactionRange x s → TaskRange (within t l rs x s)
+  pub within-range : (l : List BodyCommand) (rs : List ℕ) (x : Transaction) (s : Inner) → CommandsRange l → ((r : ℕ) → Value (at 0 rs r))
+      → TransactionRange x s → TaskRange (within t l rs x s)
   within-range l rs x s hl hr h = record { body = f .body; commands = hl; register = hr; pair = no-entry-range; copy = f .copy; phase = h }
 
   pub loaded-range : (r v : ℕ) → Value v → (q : ℕ) → Value (at 0 (loaded (t .job .registers) r v) q)
@@ -90,7 +103,8 @@ module _ {t : Task} (f : TaskRange t) where
 
 -- TRANSACTIONS
 -- nothing touched
-pub fresh-range : (kept : List ℕ) (l : List BodyCommand) → ((r : ℕ) → Value (at 0 kept r)) → CommandsRange l → TransactionRange (freshTransaction kept l) between
+pub fresh-range : (kept : List ℕ) (l : List BodyCommand) → ((r : ℕ) → Value (at 0 kept r)) → CommandsRange l
+    → TransactionRange (freshTransaction kept l) between
 fresh-range kept l k h = record { kept = k; commands = h; block = λ b. subst TouchedRange (sym (at-none b)) tt; inner = tt }
 
 module _ {m : Memory} (g : MemoryRange m) {t : Task} (f : TaskRange t) {x : Transaction} {s : Inner} (h : TransactionRange x s) where
@@ -99,21 +113,33 @@ module _ {m : Memory} (g : MemoryRange m) {t : Task} (f : TaskRange t) {x : Tran
   inner-range s′ i = record { kept = h .kept; commands = h .commands; block = h .block; inner = i }
 
   touch-range : (b : ℕ) (u : Touched) (n : ℕ) → TouchedRange u → TransactionRange (touch x b u n) between
-  touch-range b u n r = record { kept = h .kept; commands = h .commands; block = replace-all untouched TouchedRange (x .blocks) b u r (h .block); inner = tt }
+  touch-range b u n r =
+      record { kept = h .kept; commands = h .commands; block = replace-all untouched TouchedRange (x .blocks) b u r (h .block); inner = tt }
 
   stays-range : {n : Memory} {d : Deed} (s′ : Inner) → MemoryRange n → InnerRange s′ → TurnRange (turn n (stays t x s′) d)
-  stays-range s′ k i = record { memory = k; task = within-range f (t .job .commands) (t .job .registers) x s′ (f .commands) (f .register) (inner-range s′ i) }
+  stays-range s′ k i =
+      record { memory = k; task = within-range f (t .job .commands) (t .job .registers) x s′ (f .commands) (f .register) (inner-range s′ i) }
 
   goes-on-range : {n : Memory} {d : Deed} (rs : List ℕ) → MemoryRange n → ((r : ℕ) → Value (at 0 rs r)) → TurnRange (turn n (goesOn t rs x) d)
-  goes-on-range rs k r = record { memory = k; task = within-range f (rest (t .job .commands)) rs x between (rest-range (t .job .commands) (f .commands)) r (inner-range between tt) }
+  goes-on-range rs k r = record {
+    memory = k;
+    task = within-range f (rest (t .job .commands)) rs x between (rest-range (t .job .commands) (f .commands)) r (inner-range between tt);
+  }
 
   restarted-range : TaskRange (restarted t x)
-  restarted-range = within-range f (x .commands) (x .kept) (freshTransaction (x .kept) (x .commands)) between (h .commands) (h .kept) (fresh-range (x .kept) (x .commands) (h .kept) (h .commands))
+  restarted-range =
+      within-range f (x .commands) (x .kept) (freshTransaction (x .kept) (x .commands)) between (h .commands) (h .kept)
+      (fresh-range (x .kept) (x .commands) (h .kept) (h .commands))
 
   first-read-range : (a : Access) (o : Read) → ReadRange o → TurnRange (firstRead m t x a o)
   unfolding firstRead
   first-read-range a (reads r) k = stays-range (first a r) g k
-  first-read-range a (gives v) k = record { memory = g; task = within-range f (t .job .commands) (t .job .registers) _ between (f .commands) (f .register) (touch-range (blockOf a) (remembered v) (x .used) k) }
+  first-read-range a (gives v) k = record {
+    memory = g;
+    task =
+        within-range f (t .job .commands) (t .job .registers) _ between (f .commands) (f .register)
+        (touch-range (blockOf a) (remembered v) (x .used) k);
+  }
 
   copy-range : (a : Access) (n : ℕ) → TurnRange (copyTick m t x a n)
   unfolding copyTick copyBy
@@ -135,18 +161,27 @@ module _ {m : Memory} (g : MemoryRange m) {t : Task} (f : TaskRange t) {x : Tran
   access-range : (a : Access) (u : Touched) → TurnRange (accessTick m t x a u)
   unfolding accessTick
   access-range (GET r b o) untouched = first-read-range (GET r b o) (readTick m (bank b) loading) (read-range g (bank b) loading tt)
-  access-range (GET r b o) (remembered v) = stays-range (again (GET r b o) (stored (m .stores) (storeOf v) o) loading) g (record { value = g .store (storeOf v) o; reading = tt })
-  access-range (GET r b o) (copied v k) = stays-range (again (GET r b o) (stored (m .stores) (at 0 (t .copies) k) o) loading) g (record { value = g .store (at 0 (t .copies) k) o; reading = tt })
+  access-range (GET r b o) (remembered v) =
+      stays-range (again (GET r b o) (stored (m .stores) (storeOf v) o) loading) g (record { value = g .store (storeOf v) o; reading = tt })
+  access-range (GET r b o) (copied v k) =
+      stays-range (again (GET r b o) (stored (m .stores) (at 0 (t .copies) k) o) loading) g
+      (record { value = g .store (at 0 (t .copies) k) o; reading = tt })
   access-range (PUT b o r) untouched = first-read-range (PUT b o r) (readTick m (bank b) loading) (read-range g (bank b) loading tt)
   access-range (PUT b o r) (remembered v) = copy-range (PUT b o r) 0
-  access-range (PUT b o r) (copied v k) = goes-on-range (t .job .registers) (stored-range g (at 0 (t .copies) k) o (at 0 (t .job .registers) r) (f .register r)) (f .register)
+  access-range (PUT b o r) (copied v k) =
+      goes-on-range (t .job .registers) (stored-range g (at 0 (t .copies) k) o (at 0 (t .job .registers) r) (f .register r)) (f .register)
 
   check-range : (b : Bool) (a : Access) (v : ℕ) → Value v → TurnRange (checkBy b m t x a v)
   unfolding checkBy
   check-range true (GET r b o) v k = goes-on-range (loaded (t .job .registers) r v) g (loaded-range f r v k)
   check-range true (PUT b o r) v k =
       let u : Touched = copied (rememberedOf (touchedOf x b)) (x .used) in
-      record { memory = g; task = within-range f (t .job .commands) (t .job .registers) _ between (f .commands) (f .register) (touch-range b u (suc (x .used)) (remembered-range (touchedOf x b) (h .block b))) }
+      record {
+        memory = g;
+        task =
+            within-range f (t .job .commands) (t .job .registers) _ between (f .commands) (f .register)
+            (touch-range b u (suc (x .used)) (remembered-range (touchedOf x b) (h .block b)));
+      }
   check-range false a v k = record { memory = g; task = restarted-range }
 
   again-range : (a : Access) (v : ℕ) → Value v → (o : Read) → ReadRange o → TurnRange (againRead m t x a v o)
@@ -157,14 +192,24 @@ module _ {m : Memory} (g : MemoryRange m) {t : Task} (f : TaskRange t) {x : Tran
   commit-range : (nothing spent : Bool) → spent? (x .blocks) ≡ spent → TurnRange (commitCommandBy nothing spent m t x)
   unfolding commitCommandBy
   commit-range true spent e = record { memory = g; task = done-range f (t .job .registers) [] (t .copies) (f .register) no-entry-range (f .copy) }
-  commit-range false true e = record { memory = g; task = record { body = f .body; commands = tt; register = f .register; pair = no-entry-range; copy = f .copy; phase = tt } }
-  commit-range false false e = stays-range (committing (exchangeOf (gather (t .copies) 0 (x .blocks)))) g (record { entry = gather-range (t .copies) (f .copy) 0 (x .blocks) (h .block) e; step = tt })
+  commit-range false true e =
+      record { memory = g; task = record { body = f .body; commands = tt; register = f .register; pair = no-entry-range; copy = f .copy; phase = tt } }
+  commit-range false false e =
+      stays-range (committing (exchangeOf (gather (t .copies) 0 (x .blocks)))) g
+      (record { entry = gather-range (t .copies) (f .copy) 0 (x .blocks) (h .block) e; step = tt })
 
   committed-range : (v : Exchange) (o : Exchanged) → ExchangedRange o → TurnRange (committingBy t x v o)
   unfolding committingBy
   committed-range v (goes n e) k = stays-range (committing e) (k .memory) (k .exchange)
-  committed-range v (ends n true) k = record { memory = k; task = done-range f (t .job .registers) [] (takenBack (t .copies) (x .blocks)) (f .register) no-entry-range (taken-back-range (t .copies) (x .blocks) (f .copy)) }
-  committed-range v (ends n false) k = let r = restarted-range in record { memory = k; task = record { body = r .body; commands = r .commands; register = r .register; pair = r .pair; copy = r .copy; phase = r .phase } }
+  committed-range v (ends n true) k = record {
+    memory = k;
+    task =
+        done-range f (t .job .registers) [] (takenBack (t .copies) (x .blocks)) (f .register) no-entry-range
+        (taken-back-range (t .copies) (x .blocks) (f .copy));
+  }
+  committed-range v (ends n false) k =
+      let r = restarted-range in
+      record { memory = k; task = record { body = r .body; commands = r .commands; register = r .register; pair = r .pair; copy = r .copy; phase = r .phase } }
 
   same-range : {d : Deed} → TurnRange (turn m t d)
   same-range = record { memory = g; task = f }
@@ -182,12 +227,17 @@ module _ {m : Memory} (g : MemoryRange m) {t : Task} (f : TaskRange t) {x : Tran
   command-range (inside c ∷ l) k = inside-range c
   command-range (outside c ∷ l) k = same-range
 
-pub transaction-range : {words blocks : ℕ} {copies : List ℕ} {l : List BodyCommand} {ps : List Entry} (p : ℕ) → p < 8 → {m : Memory} → MemoryRange m → {t : Task} → TaskRange t → {x : Transaction} (s : Inner) → TransactionFit words blocks copies l ps x s → TransactionRange x s → TurnRange (transactionTick p m t x s)
+pub transaction-range : {words blocks : ℕ} {copies : List ℕ} {l : List BodyCommand} {ps : List Entry} (p : ℕ) → p < 8 → {m : Memory} → MemoryRange m
+    → {t : Task} → TaskRange t → {x : Transaction} (s : Inner) → TransactionFit words blocks copies l ps x s → TransactionRange x s
+    → TurnRange (transactionTick p m t x s)
 unfolding transactionTick
 transaction-range p hp {m} g {t} f between k h = command-range g f h (t .job .commands) (f .commands)
-transaction-range p hp {m} g f (first a r) k h = first-read-range g f h a (readTick m (bank (blockOf a)) r) (read-range g (bank (blockOf a)) r (h .inner))
+transaction-range p hp {m} g f (first a r) k h =
+    first-read-range g f h a (readTick m (bank (blockOf a)) r) (read-range g (bank (blockOf a)) r (h .inner))
 transaction-range p hp {m} g f (copying a n) k h = copy-range g f h a n
-transaction-range p hp {m} g f (again a v r) k h = again-range g f h a v (h .inner .value) (readTick m (bank (blockOf a)) r) (read-range g (bank (blockOf a)) r (h .inner .reading))
+transaction-range p hp {m} g f (again a v r) k h =
+    again-range g f h a v (h .inner .value) (readTick m (bank (blockOf a)) r) (read-range g (bank (blockOf a)) r (h .inner .reading))
 transaction-range p hp {m} g f (committing e) k h =
     let x = k .inner .exchange in
-    committed-range g f h e (exchangeTick p m e (e .step)) (exchange-range p hp g e (h .inner .entry) (length (e .entries)) (x .entries .most) (e .step) (x .step) (h .inner .step))
+    committed-range g f h e (exchangeTick p m e (e .step))
+    (exchange-range p hp g e (h .inner .entry) (length (e .entries)) (x .entries .most) (e .step) (x .step) (h .inner .step))

@@ -9,7 +9,8 @@ use lib.Dec.{ltb, leb}
 use lib.ListN.{length, getD}
 use borrow.Author.Tests.{ltb-false, leb-true, le-ltb}
 use Rattle.model.specs.Refusal.{Refusal}
-use Rattle.model.specs.Command.{Command, END, Row, table, rowOf, total, operand, Found, found, refused, foundWhole, foundRow, foundByte, commandAt}
+use Rattle.model.specs.Command.{Command, END, Row, table, rowOf, total, operand, Found}
+use Rattle.model.specs.Command.{found, refused, foundWhole, foundRow, foundByte, commandAt}
 use Rattle.model.specs.Fault.{Known, nothingKnown, faultOf}
 use Rattle.model.specs.Sheet.{after, accepted, turnedDown, end?, atEnd, judgeEnd, judgeFault, judge, verdictFrom, verdict, commandsFrom}
 use Rattle.model.proofs.Lists.{impossible}
@@ -24,7 +25,8 @@ pub record FoundAt (sheet : List ℕ) (place : ℕ) (c : Command) (next : ℕ) :
   pub whole : next ≤ length sheet
 
 module _ (sheet : List ℕ) (place : ℕ) {c : Command} {next : ℕ} where
-  whole-found : (r : Row) → rowOf (getD sheet place 0) table ≡ some r → (b : Bool) → leb (suc place + total (r .widths)) (length sheet) ≡ b → foundWhole b sheet place r ≡ found c next → FoundAt sheet place c next
+  whole-found : (r : Row) → rowOf (getD sheet place 0) table ≡ some r → (b : Bool) → leb (suc place + total (r .widths)) (length sheet) ≡ b
+      → foundWhole b sheet place r ≡ found c next → FoundAt sheet place c next
   unfolding foundWhole
   whole-found r q true e f =
       let onward : next ≡ suc place + total (r .widths) = cc in
@@ -65,25 +67,32 @@ module _ (sheet : List ℕ) (P : Command → Type 0) (holds : (place : ℕ) (c :
   Onward : ℕ → Type 0
   Onward n = (f place : ℕ) (k : Known) → verdictFrom n sheet place k ≡ accepted → length sheet ≤ place + f → Good P k (commandsFrom f sheet place)
 
-  end-good : (f next : ℕ) (k : Known) → faultOf k END ≡ none → (b : Bool) → ltb next (length sheet) ≡ b → atEnd b next ≡ accepted → Good P k (END ∷ commandsFrom f sheet next)
+  end-good : (f next : ℕ) (k : Known) → faultOf k END ≡ none → (b : Bool) → ltb next (length sheet) ≡ b → atEnd b next ≡ accepted
+      → Good P k (END ∷ commandsFrom f sheet next)
   unfolding atEnd
   end-good f next k q true e a = not-accepted a
-  end-good f next k q false e a = subst (λ (l : List Command). Good P k (END ∷ l)) (sym (none-past sheet next (ltb-false next (length sheet) e) f)) (ending q)
+  end-good f next k q false e a =
+      subst (λ (l : List Command). Good P k (END ∷ l)) (sym (none-past sheet next (ltb-false next (length sheet) e) f)) (ending q)
 
-  end-step : (n : ℕ) → Onward n → (f place next : ℕ) (c : Command) (k : Known) → FoundAt sheet place c next → length sheet ≤ next + f → faultOf k c ≡ none → (b : Bool) → end? c ≡ b → judgeEnd (verdictFrom n sheet) sheet k c next b ≡ accepted → Good P k (c ∷ commandsFrom f sheet next)
+  end-step : (n : ℕ) → Onward n → (f place next : ℕ) (c : Command) (k : Known) → FoundAt sheet place c next → length sheet ≤ next + f
+      → faultOf k c ≡ none → (b : Bool) → end? c ≡ b → judgeEnd (verdictFrom n sheet) sheet k c next b ≡ accepted
+      → Good P k (c ∷ commandsFrom f sheet next)
   unfolding judgeEnd Onward
   end-step n on f place next c k at h q true e a =
       let s = is-end c e in
       subst (λ (z : Command). Good P k (z ∷ commandsFrom f sheet next)) (sym s) (end-good f next k (rw s at q) (ltb next (length sheet)) refl a)
   end-step n on f place next c k at h q false e a = going q e (holds place c next at) (on f next (after k c) a h)
 
-  fault-step : (n : ℕ) → Onward n → (f place next : ℕ) (c : Command) (k : Known) → FoundAt sheet place c next → length sheet ≤ next + f → (o : Option Refusal) → faultOf k c ≡ o → judgeFault (verdictFrom n sheet) sheet place k c next o ≡ accepted → Good P k (c ∷ commandsFrom f sheet next)
+  fault-step : (n : ℕ) → Onward n → (f place next : ℕ) (c : Command) (k : Known) → FoundAt sheet place c next → length sheet ≤ next + f
+      → (o : Option Refusal) → faultOf k c ≡ o → judgeFault (verdictFrom n sheet) sheet place k c next o ≡ accepted
+      → Good P k (c ∷ commandsFrom f sheet next)
   unfolding judgeFault
   fault-step n on f place next c k at h (some r) q a = not-accepted a
   fault-step n on f place next c k at h none q a = end-step n on f place next c k at h q (end? c) refl a
 
   -- a command takes one byte at least
-  found-step : (n : ℕ) → Onward n → (f place : ℕ) (k : Known) → length sheet ≤ place + f → (o : Found) → commandAt sheet place ≡ o → judge (verdictFrom n sheet) sheet place k o ≡ accepted → Good P k (commandsFrom f sheet place)
+  found-step : (n : ℕ) → Onward n → (f place : ℕ) (k : Known) → length sheet ≤ place + f → (o : Found) → commandAt sheet place ≡ o
+      → judge (verdictFrom n sheet) sheet place k o ≡ accepted → Good P k (commandsFrom f sheet place)
   unfolding judge commandsFrom
   found-step n on f place k h (refused r p) e a = not-accepted a
   found-step n on zero place k h (found c next) e a = let w = found-at sheet place e in absurd (omega (arith, w .onward, w .whole))

@@ -34,7 +34,14 @@ module _ {s : Sheet} (c : SheetFit s) where
   own-stores-size : length own-stores ≤ 48
   unfolding own-stores
   own-stores-size =
-      omega (arith, length-append (replicate (4 * length (s .bodies)) (zeros 8)) (map startValues (s .blocks)), length-replicate (4 * length (s .bodies)) (zeros 8), length-map (s .blocks) startValues, c .bodies, c .blocks)
+      omega (
+        arith,
+        length-append (replicate (4 * length (s .bodies)) (zeros 8)) (map startValues (s .blocks)),
+        length-replicate (4 * length (s .bodies)) (zeros 8),
+        length-map (s .blocks) startValues,
+        c .bodies,
+        c .blocks,
+      )
 
   -- every store has eight values
   store-size : (i : ℕ) → i < length (filled 48 (zeros 8) own-stores) → length (at [] (filled 48 (zeros 8) own-stores) i) ≡ 8
@@ -53,7 +60,13 @@ module _ {s : Sheet} (c : SheetFit s) where
       let banks : List Word = filled 16 (freshWord 0) (banksFrom (4 * length (s .bodies)) (s .blocks)) in
       let stores = filled-size 48 (zeros 8) own-stores own-stores-size in
       record {
-        cells = omega (arith, length-append words banks, filled-size 32 (freshWord 0) (map freshWord (s .words)) (rw (length-map (s .words) freshWord) (c .words)), filled-size 16 (freshWord 0) (banksFrom (4 * length (s .bodies)) (s .blocks)) (rw (banks-size (4 * length (s .bodies)) (s .blocks)) (c .blocks)));
+        cells = omega (
+          arith,
+          length-append words banks,
+          filled-size 32 (freshWord 0) (map freshWord (s .words)) (rw (length-map (s .words) freshWord) (c .words)),
+          filled-size 16 (freshWord 0) (banksFrom (4 * length (s .bodies)) (s .blocks))
+              (rw (banks-size (4 * length (s .bodies)) (s .blocks)) (c .blocks)),
+        );
         status = refl;
         saves = refl;
         save = λ p h. ap length (at-replicate [] (zeros 8) 8 p h);
@@ -71,11 +84,13 @@ unfolding tasksFrom
 tasks-size p [] = refl
 tasks-size p (b ∷ bodies) = ap suc (tasks-size (suc p) bodies)
 
-task-from : (p : ℕ) (bodies : List (List BodyCommand)) (i : ℕ) → i < length bodies → taskAt (tasksFrom p bodies) i ≡ startTask (at [] bodies i) (p + i)
+task-from : (p : ℕ) (bodies : List (List BodyCommand)) (i : ℕ) → i < length bodies
+    → taskAt (tasksFrom p bodies) i ≡ startTask (at [] bodies i) (p + i)
 unfolding tasksFrom at
 task-from p [] i h = absurd (omega arith)
 task-from p (b ∷ bodies) zero h = let z : p + 0 ≡ p = omega arith in ap (startTask b) (sym z)
-task-from p (b ∷ bodies) (suc i) h = let z : suc p + i ≡ p + suc i = omega arith in task-from (suc p) bodies i (omega arith) ∙ ap (startTask (at [] bodies i)) z
+task-from p (b ∷ bodies) (suc i) h =
+    let z : suc p + i ≡ p + suc i = omega arith in task-from (suc p) bodies i (omega arith) ∙ ap (startTask (at [] bodies i)) z
 
 pub start-task : (s : Sheet) (p : ℕ) → p < length (s .bodies) → taskAt (startMachine s .tasks) p ≡ startTask (at [] (s .bodies) p) p
 unfolding startMachine filled
@@ -89,7 +104,8 @@ unfolding startMachine filled
 start-undeclared s p h = at-filled noTask (tasksFrom 0 (s .bodies)) (8 - length (tasksFrom 0 (s .bodies))) p (rw (tasks-size 0 (s .bodies)) h)
 
 start-task-fit : (words blocks : ℕ) (body : List BodyCommand) (p : ℕ) → TaskFit words blocks body 0 (startTask body p)
-start-task-fit words blocks body p = record { body = refl; registers = refl; copies = refl; counts = omega arith; ticks = omega arith; phase = record { commands = refl; noPairs = refl } }
+start-task-fit words blocks body p =
+    record { body = refl; registers = refl; copies = refl; counts = omega arith; ticks = omega arith; phase = record { commands = refl; noPairs = refl } }
 
 -- THE MACHINE
 pub start-fit : {s : Sheet} → SheetFit s → Fit s (startMachine s)
@@ -98,7 +114,9 @@ start-fit {s} c =
     record {
       memory = start-memory-fit c;
       tasks = filled-size 8 noTask (tasksFrom 0 (s .bodies)) (rw (tasks-size 0 (s .bodies)) (c .bodies));
-      task = λ p h. subst (λ (t : Task). DeclaredFit s 0 p t) (sym (start-task s p h)) (start-task-fit (length (s .words)) (length (s .blocks)) (at [] (s .bodies) p) p);
+      task = λ p h.
+          subst (λ (t : Task). DeclaredFit s 0 p t) (sym (start-task s p h))
+          (start-task-fit (length (s .words)) (length (s .blocks)) (at [] (s .bodies) p) p);
       undeclared = start-undeclared s;
       releases = c .releases;
       dropped = omega (arith, c .mostReleases);

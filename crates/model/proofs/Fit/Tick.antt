@@ -12,7 +12,8 @@ use Rattle.model.specs.Command.{Release, BodyCommand}
 use Rattle.model.specs.Fault.{Body}
 use Rattle.model.specs.Sheet.{Sheet}
 use Rattle.model.specs.Job.{Task, Turn, started, counting, ticks}
-use Rattle.model.specs.Machine.{noTask, taskAt, Machine, machine, unfinished, releaseBy, arriveBy, Running, nobody, running, runningOf, move, moveAny, tick, run, arrive, enter}
+use Rattle.model.specs.Machine.{noTask, taskAt, Machine, machine, unfinished, releaseBy, arriveBy, Running}
+use Rattle.model.specs.Machine.{nobody, running, runningOf, move, moveAny, tick, run, arrive, enter}
 use Rattle.model.proofs.Lists.{replace-same, replace-other, length-replace, same?}
 use Rattle.model.proofs.Fit.Body.{Faultless}
 use Rattle.model.proofs.Fit.Sheet.{BodyFit, SheetFit, ReleasesFit, releaseAt}
@@ -30,14 +31,23 @@ body-start : {words blocks : ℕ} (l : List BodyCommand) → BodyFit words block
 body-start {words} {blocks} l b = go l (b .faultless)
   where
     outside : {l : List BodyCommand} → Faultless (b .known) l → OutsideFit words blocks l []
-    outside f = record { known = b .known; opened = b .opened; outside = ap (λ (z : Body). z .inside) (b .start); waiting = ap (λ (z : Body). z .pairs) (b .start); faultless = f; pairs = no-entries 0 words; unloaded = no-unloaded }
+    outside f = record {
+      known = b .known;
+      opened = b .opened;
+      outside = ap (λ (z : Body). z .inside) (b .start);
+      waiting = ap (λ (z : Body). z .pairs) (b .start);
+      faultless = f;
+      pairs = no-entries 0 words;
+      unloaded = no-unloaded;
+    }
 
     go : (l : List BodyCommand) → Faultless (b .known) l → PlainFit words blocks l []
     go [] f = absurd (false≢true (rw (b .start) at f))
     go (c ∷ l) f = record { command = c; others = l; commands = refl; outside = outside f }
 
 -- a job starts
-pub started-fit : {words blocks now : ℕ} {text : List BodyCommand} {t : Task} → BodyFit words blocks text → TaskFit words blocks text now t → TaskFit words blocks text now (started t)
+pub started-fit : {words blocks now : ℕ} {text : List BodyCommand} {t : Task} → BodyFit words blocks text → TaskFit words blocks text now t
+    → TaskFit words blocks text now (started t)
 started-fit {words} {blocks} {t = t} b f =
     record {
       body = f .body;
@@ -50,9 +60,11 @@ started-fit {words} {blocks} {t = t} b f =
 
 -- a task that did nothing in a tick, and one that did a statement
 pub waited-fit : {words blocks now : ℕ} {text : List BodyCommand} {t : Task} → TaskFit words blocks text now t → TaskFit words blocks text (suc now) t
-waited-fit f = record { body = f .body; registers = f .registers; copies = f .copies; counts = f .counts; ticks = omega (arith, f .ticks); phase = f .phase }
+waited-fit f =
+    record { body = f .body; registers = f .registers; copies = f .copies; counts = f .counts; ticks = omega (arith, f .ticks); phase = f .phase }
 
-pub turned-fit : {words blocks now : ℕ} {text : List BodyCommand} {t : Task} {u : Turn} → TaskFit words blocks text now t → TurnFit words blocks t u → TaskFit words blocks text (suc now) (counting ticks (u .task))
+pub turned-fit : {words blocks now : ℕ} {text : List BodyCommand} {t : Task} {u : Turn} → TaskFit words blocks text now t → TurnFit words blocks t u
+    → TaskFit words blocks text (suc now) (counting ticks (u .task))
 turned-fit f g =
     record {
       body = g .body ∙ f .body;
@@ -71,20 +83,23 @@ pub record TasksFit (s : Sheet) (now : ℕ) (ts : List Task) : Type 0 where
 
 module _ {s : Sheet} (c : SheetFit s) where
   -- one declared task changes, the others stay at the same tick or come to the next
-  pub changed-fit : {now later : ℕ} {ts : List Task} → TasksFit s now ts → ((p : ℕ) → p < length (s .bodies) → DeclaredFit s later p (taskAt ts p)) → (p : ℕ) → p < length (s .bodies) → {t : Task} → DeclaredFit s later p t → TasksFit s later (replace ts p t)
+  pub changed-fit : {now later : ℕ} {ts : List Task} → TasksFit s now ts → ((p : ℕ) → p < length (s .bodies) → DeclaredFit s later p (taskAt ts p))
+      → (p : ℕ) → p < length (s .bodies) → {t : Task} → DeclaredFit s later p t → TasksFit s later (replace ts p t)
   changed-fit {later = later} {ts} f others p h {t} g =
       let l : p < length ts = omega (arith, f .size, c .bodies) in
       record {
         size = length-replace ts p t ∙ f .size;
         task = λ q k. same? q p
-            (λ e. subst (λ (z : ℕ). DeclaredFit s later z (taskAt (replace ts p t) z)) (sym e) (subst (λ (z : Task). DeclaredFit s later p z) (sym (replace-same noTask ts p t l)) g))
+            (λ e. subst (λ (z : ℕ). DeclaredFit s later z (taskAt (replace ts p t) z)) (sym e)
+            (subst (λ (z : Task). DeclaredFit s later p z) (sym (replace-same noTask ts p t l)) g))
             (λ d. subst (λ (z : Task). DeclaredFit s later q z) (sym (replace-other noTask ts p q t d)) (others q k));
         undeclared = λ q k. replace-other noTask ts p q t (λ e. omega arith) ∙ f .undeclared q k;
       }
 
 -- RELEASES
 no-releases : (n now : ℕ) → ReleasesFit n now []
-no-releases n now = record { task = λ i (h : i < 0). absurd (omega arith); rising = λ i j l (h : j < 0). absurd (omega arith); later = λ i (h : i < 0). absurd (omega arith) }
+no-releases n now =
+    record { task = λ i (h : i < 0). absurd (omega arith); rising = λ i j l (h : j < 0). absurd (omega arith); later = λ i (h : i < 0). absurd (omega arith) }
 
 first-task : {n now : ℕ} {r : Release} {l : List Release} → ReleasesFit n now (r ∷ l) → r .task < n
 unfolding at
@@ -93,7 +108,11 @@ first-task f = f .task 0 (omega arith)
 -- without the first
 others-fit : {n now : ℕ} {r : Release} {l : List Release} → ReleasesFit n now (r ∷ l) → ReleasesFit n now l
 unfolding at
-others-fit f = record { task = λ i h. f .task (suc i) (omega arith); rising = λ i j l h. f .rising (suc i) (suc j) (omega arith) (omega arith); later = λ i h. f .later (suc i) (omega arith) }
+others-fit f = record {
+  task = λ i h. f .task (suc i) (omega arith);
+  rising = λ i j l h. f .rising (suc i) (suc j) (omega arith) (omega arith);
+  later = λ i h. f .later (suc i) (omega arith);
+}
 
 -- where the first is not for this tick, none is
 none-now : {n now : ℕ} {r : Release} {l : List Release} → eqb (r .tick) now ≡ false → ReleasesFit n now (r ∷ l) → ReleasesFit n (suc now) (r ∷ l)
@@ -120,13 +139,16 @@ pub record ArrivedFit (s : Sheet) (now : ℕ) (m : Machine) : Type 0 where
 
 module _ {s : Sheet} (c : SheetFit s) where
   -- over the releases l that are still to be looked at
-  arrive-on : (l : List Release) (m : Machine) → MemoryFit (m .memory) → TasksFit s (m .now) (m .tasks) → ReleasesFit (length (s .bodies)) (m .now) l → m .dropped + length l ≤ 256 → ArrivedFit s (m .now) (arrive l m)
+  arrive-on : (l : List Release) (m : Machine) → MemoryFit (m .memory) → TasksFit s (m .now) (m .tasks) → ReleasesFit (length (s .bodies)) (m .now) l
+      → m .dropped + length l ≤ 256 → ArrivedFit s (m .now) (arrive l m)
   unfolding arrive
   arrive-on [] m g f r d = record { memory = g; tasks = f; time = refl; releases = no-releases (length (s .bodies)) (suc (m .now)); dropped = d }
   arrive-on (r ∷ l) m g f rs d = go (eqb (r .tick) (m .now)) refl (arrive-on l)
     where
       Goes : Type 0
-      Goes = (m : Machine) → MemoryFit (m .memory) → TasksFit s (m .now) (m .tasks) → ReleasesFit (length (s .bodies)) (m .now) l → m .dropped + length l ≤ 256 → ArrivedFit s (m .now) (arrive l m)
+      Goes =
+          (m : Machine) → MemoryFit (m .memory) → TasksFit s (m .now) (m .tasks) → ReleasesFit (length (s .bodies)) (m .now) l
+          → m .dropped + length l ≤ 256 → ArrivedFit s (m .now) (arrive l m)
 
       p : ℕ
       p = r .task
@@ -161,7 +183,8 @@ arrived-fit {s} {now} {m} a =
       tasks = f .size;
       task = f .task;
       undeclared = f .undeclared;
-      releases = record { task = a .releases .task; rising = a .releases .rising; later = λ i h. let l = a .releases .later i h in omega (arith, a .time) };
+      releases =
+          record { task = a .releases .task; rising = a .releases .rising; later = λ i h. let l = a .releases .later i h in omega (arith, a .time) };
       dropped = a .dropped;
     }
 
@@ -201,7 +224,14 @@ module _ {s : Sheet} (c : SheetFit s) where
 
   move-fit : {m : Machine} → ArrivedFit s (m .now) m → (r : Running) → RunningFit m r → Fit s (move m r)
   unfolding move
-  move-fit {m} a nobody r = record { memory = a .memory; tasks = a .tasks .size; task = waited (a .tasks); undeclared = a .tasks .undeclared; releases = a .releases; dropped = a .dropped }
+  move-fit {m} a nobody r = record {
+    memory = a .memory;
+    tasks = a .tasks .size;
+    task = waited (a .tasks);
+    undeclared = a .tasks .undeclared;
+    releases = a .releases;
+    dropped = a .dropped;
+  }
   move-fit {m} a (running p) r =
       let h = declared (a .tasks) p (r .unfinished) in
       let t : Task = taskAt (m .tasks) p in

@@ -9,14 +9,17 @@ use lib.Dec.{eqb, ltb}
 use lib.ListN.{length}
 use borrow.Author.Tests.{ltb-true, leb-true, eqb-true}
 use Rattle.model.specs.Lists.{at}
-use Rattle.model.specs.Command.{Block, Release, BodyCommand, LOAD, ADD, outside, inside, Command, WORD, BLOCK, TASK, RELEASE, END, body, noBlock}
-use Rattle.model.specs.Fault.{Section, Body, Known, words?, blocks?, body?, releases?, mayEnd, bodiesOver, before, inPlace, underCeiling, inRange, rising, faultOf, outsideTransaction, inPlaceOutside, inPlaceBody, underCeilingBody}
+use Rattle.model.specs.Command.{Block, Release, BodyCommand, LOAD, ADD, outside, inside}
+use Rattle.model.specs.Command.{Command, WORD, BLOCK, TASK, RELEASE, END, body, noBlock}
+use Rattle.model.specs.Fault.{Section, Body, Known, words?, blocks?, body?, releases?, mayEnd, bodiesOver, before, inPlace}
+use Rattle.model.specs.Fault.{underCeiling, inRange, rising, faultOf, outsideTransaction, inPlaceOutside, inPlaceBody, underCeilingBody}
 use Rattle.model.specs.Sheet.{Declared, declares, inOpenBody, declare, declared, after, inBody, end?}
 use Rattle.model.proofs.Fit.Elements.{and-left, and-right, or-cases, first-each}
 use Rattle.model.proofs.Fit.Body.{Faultless, passedOf}
 use Rattle.model.proofs.Fit.Sheet.{BodyFit, Rises}
 use Rattle.model.proofs.Fit.Reading.{Good, ending, going}
-use Rattle.model.proofs.Fit.Declared.{EightValues, InSection, BlockFit, DeclaredHere, in-words, in-blocks, in-body, in-releases, rises, no-releases, release-first}
+use Rattle.model.proofs.Fit.Declared.{EightValues, InSection, BlockFit, DeclaredHere, in-words}
+use Rattle.model.proofs.Fit.Declared.{in-blocks, in-body, in-releases, rises, no-releases, release-first}
 
 -- where the section is known
 at-section : (k : Known) (d : Declared) {s : Section} → k .section ≡ s → InSection s k d → InSection (k .section) k d
@@ -42,7 +45,8 @@ word-step k v d q f =
       section = at-section k (declare (WORD v) d) (in-words (k .section) (p .inPlace)) (record { someBody = f .section .someBody });
     }
 
-block-step : (k : Known) (b : Block) (d : Declared) → faultOf k (BLOCK b) ≡ none → length (b .values) ≡ 8 → DeclaredHere (after k (BLOCK b)) d → DeclaredHere k (declare (BLOCK b) d)
+block-step : (k : Known) (b : Block) (d : Declared) → faultOf k (BLOCK b) ≡ none → length (b .values) ≡ 8 → DeclaredHere (after k (BLOCK b)) d
+    → DeclaredHere k (declare (BLOCK b) d)
 unfolding after declare inPlace underCeiling inRange
 block-step k b d q v f =
     let p = passedOf k (BLOCK b) q in
@@ -56,12 +60,14 @@ block-step k b d q v f =
       bodies = f .bodies;
       commands = λ h. omega (arith, f .commands h);
       releases = f .releases;
-      block = first-each noBlock BlockFit b (d .sheet .blocks) (record { version = leb-true (b .version) 16777215 (p .inRange); values = v }) (f .block);
+      block =
+          first-each noBlock BlockFit b (d .sheet .blocks) (record { version = leb-true (b .version) 16777215 (p .inRange); values = v }) (f .block);
       body = λ i h. rw same at (f .body i h);
       released = f .released;
       section = or-cases (words? (k .section)) (blocks? (k .section)) (p .inPlace)
           (λ e. at-section k (declare (BLOCK b) d) (in-words (k .section) e) (record { someBody = f .section .someBody }))
-          (λ e. at-section k (declare (BLOCK b) d) (in-blocks (k .section) e) (record { noWords = f .section .noWords; someBody = f .section .someBody }));
+          (λ e. at-section k (declare (BLOCK b) d) (in-blocks (k .section) e)
+          (record { noWords = f .section .noWords; someBody = f .section .someBody }));
     }
 
 -- BODIES
@@ -73,7 +79,8 @@ body-section k (ADD r q) e = e
 body-section k (outside c) e = and-left (body? (k .section)) (not (k .body .inside)) (and-left (outsideTransaction k) (inPlaceOutside (k .body) c) e)
 body-section k (inside c) e = and-left (body? (k .section)) (k .body .inside) e
 
-body-step : (k : Known) (c : BodyCommand) (d : Declared) → faultOf k (body c) ≡ none → DeclaredHere (after k (body c)) d → DeclaredHere k (declare (body c) d)
+body-step : (k : Known) (c : BodyCommand) (d : Declared) → faultOf k (body c) ≡ none → DeclaredHere (after k (body c)) d
+    → DeclaredHere k (declare (body c) d)
 unfolding after declare inPlace underCeiling
 body-step k c d q f =
     let p = passedOf k (body c) q in
@@ -89,7 +96,9 @@ body-step k c d q f =
       block = f .block;
       body = f .body;
       released = f .released;
-      section = at-section k (inOpenBody c d) here (record { noWords = g .noWords; noBlocks = g .noBlocks; others = record { faultless = q; others = g .others } });
+      section =
+          at-section k (inOpenBody c d) here
+          (record { noWords = g .noWords; noBlocks = g .noBlocks; others = record { faultless = q; others = g .others } });
     }
 
 task-step : (k : Known) (d : Declared) → faultOf k TASK ≡ none → DeclaredHere (after k TASK) d → DeclaredHere k (declare TASK d)
@@ -109,7 +118,15 @@ task-step k d q f =
       commands = λ h. omega (arith, f .commands h);
       releases = f .releases;
       block = f .block;
-      body = first-each [] (λ (l : List BodyCommand). BodyFit (k .counts .words + length (d .sheet .words)) (k .counts .blocks + length (d .sheet .blocks)) l) (d .body) (d .sheet .bodies) (record { known = after k TASK; opened = record { section = refl; wordCount = omega arith; blockCount = omega arith }; start = refl; faultless = g .others }) (f .body);
+      body =
+          first-each []
+          (λ (l : List BodyCommand). BodyFit (k .counts .words + length (d .sheet .words)) (k .counts .blocks + length (d .sheet .blocks)) l)
+          (d .body) (d .sheet .bodies) (record {
+            known = after k TASK;
+            opened = record { section = refl; wordCount = omega arith; blockCount = omega arith };
+            start = refl;
+            faultless = g .others;
+          }) (f .body);
       released = rw same at (f .released);
       section = or-cases (words? (k .section) || blocks? (k .section)) (body? (k .section) && mayEnd (k .body)) (p .inPlace)
           (λ o. or-cases (words? (k .section)) (blocks? (k .section)) o
@@ -120,7 +137,8 @@ task-step k d q f =
     }
 
 -- RELEASE AND END: the bodies are over, or the open one may end
-over-section : (k : Known) (d : Declared) → bodiesOver k ≡ true → d .body ≡ [] → d .sheet .words ≡ [] → d .sheet .blocks ≡ [] → d .sheet .bodies ≡ [] → InSection (k .section) k d
+over-section : (k : Known) (d : Declared) → bodiesOver k ≡ true → d .body ≡ [] → d .sheet .words ≡ [] → d .sheet .blocks ≡ [] → d .sheet .bodies ≡ []
+    → InSection (k .section) k d
 over-section k d e o w b t =
     or-cases (releases? (k .section)) (body? (k .section) && mayEnd (k .body)) e
     (λ r. at-section k d (in-releases (k .section) r) (record { noWords = w; noBlocks = b; noBodies = t }))
@@ -135,7 +153,8 @@ after-last k r e h =
     (λ z. let n = eqb-true (k .counts .releases) 0 z in absurd (omega arith))
     (λ b. rises (k .last) r b)
 
-release-step : (k : Known) (r : Release) (d : Declared) → faultOf k (RELEASE r) ≡ none → DeclaredHere (after k (RELEASE r)) d → DeclaredHere k (declare (RELEASE r) d)
+release-step : (k : Known) (r : Release) (d : Declared) → faultOf k (RELEASE r) ≡ none → DeclaredHere (after k (RELEASE r)) d
+    → DeclaredHere k (declare (RELEASE r) d)
 unfolding after declare inPlace underCeiling inRange
 release-step k r d q f =
     let p = passedOf k (RELEASE r) q in
@@ -171,7 +190,8 @@ end-step k d q =
     }
 
 -- ALL COMMANDS
-step : (k : Known) (c : Command) (d : Declared) → end? c ≡ false → EightValues c → faultOf k c ≡ none → DeclaredHere (after k c) d → DeclaredHere k (declare c d)
+step : (k : Known) (c : Command) (d : Declared) → end? c ≡ false → EightValues c → faultOf k c ≡ none → DeclaredHere (after k c) d
+    → DeclaredHere k (declare c d)
 unfolding after declare inPlace underCeiling
 step k (WORD v) d e w q f = word-step k v d q f
 step k (BLOCK b) d e w q f = block-step k b d q w f

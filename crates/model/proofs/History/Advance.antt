@@ -90,7 +90,8 @@ module _ {u : ℕ} {h h′ : History} (step : Advance u h h′) where
   pub interfered-kept : {a : ℕ} {o : Operation} → Interfered h a o → Interfered h′ a o
   interfered-kept {a} {o} i = go (carried (i .by) (i .began))
     where
-      with-other : (other : Operation) → operationAt h′ (i .by) ≡ some other → other .task ≡ i .other .task → other .arguments ≡ i .other .arguments → Interfered h′ a o
+      with-other : (other : Operation) → operationAt h′ (i .by) ≡ some other → other .task ≡ i .other .task → other .arguments ≡ i .other .arguments
+          → Interfered h′ a o
       with-other other is t g = record {
         pairs = i .pairs;
         is = i .is;

@@ -65,9 +65,11 @@ one-starts ts p q e = same? q p
 release-arrives : (b : Bool) (p : ℕ) (m : Machine) → unfinished (taskAt (m .tasks) p .job .phase) ≡ b → Arrived m (releaseBy b p m)
 unfolding releaseBy
 release-arrives true p m e = record { memory = refl; now = refl; size = refl; task = λ q. same-task refl }
-release-arrives false p m e = record { memory = refl; now = refl; size = length-replace (m .tasks) p _; task = λ q. one-starts (m .tasks) p q (idle-phase _ e) }
+release-arrives false p m e =
+    record { memory = refl; now = refl; size = length-replace (m .tasks) p _; task = λ q. one-starts (m .tasks) p q (idle-phase _ e) }
 
-arrive-by : (b : Bool) (go : Machine → Machine) (r : Release) (l : List Release) (m : Machine) → ((n : Machine) → Arrived n (go n)) → Arrived m (arriveBy b go r l m)
+arrive-by : (b : Bool) (go : Machine → Machine) (r : Release) (l : List Release) (m : Machine) → ((n : Machine) → Arrived n (go n))
+    → Arrived m (arriveBy b go r l m)
 unfolding arriveBy
 arrive-by true go r l m f =
     let a = release-arrives (unfinished (taskAt (m .tasks) (r .task) .job .phase)) (r .task) m refl in

@@ -79,7 +79,8 @@ abbrev upperP4 : Operation
 upperP4 = record { task = 1; arguments = swapOf (pairOf 0 12 7 ∷ []); last = some 21; committed = false; spent = false; answers = 0 ∷ [] }
 
 abbrev historyP4 : History
-historyP4 = record { began = replicate 3 none ++ some lowerP4 ∷ replicate 10 none ++ some upperP4 ∷ replicate 8 none; latest = 3 ∷ 14 ∷ replicate 6 0 }
+historyP4 =
+    record { began = replicate 3 none ++ some lowerP4 ∷ replicate 10 none ++ some upperP4 ∷ replicate 8 none; latest = 3 ∷ 14 ∷ replicate 6 0 }
 
 abbrev pub P4 : List ℕ → Bool → Stated
 P4 l b = record { history = historyP4; first = wordsAre (12 ∷ []); last = wordsAre (5 ∷ []); order = l; holds = b }

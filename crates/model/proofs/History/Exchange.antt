@@ -10,7 +10,9 @@ use lib.Seq.{map-set-same}
 use borrow.Author.Tests.{eqb-true, eqb-false}
 use Rattle.model.specs.Lists.{at, replace}
 use Rattle.model.specs.Word.{Word, sameWord, Memory, cellOf, statusOf, setCell, setStatus, own}
-use Rattle.model.specs.Exchange.{Entry, entry, Step, start, test, load, look, fetch, save, fail, mark, install, commit, clean, cleanMark, Exchange, Exchanged, goes, ends, saidYes, commitSaidYes, entryAt, changing, installed, cleaned, testBy, lookBy, afterSave, installBy, cleanBy, commitBy, nextBy, next, cleanWordBy, exchangeTick, withInit}
+use Rattle.model.specs.Exchange.{Entry, entry, Step, start, test, load, look, fetch, save, fail, mark, install, commit, clean, cleanMark}
+use Rattle.model.specs.Exchange.{Exchange, Exchanged, goes, ends, saidYes, commitSaidYes, entryAt, changing, installed, cleaned, testBy}
+use Rattle.model.specs.Exchange.{lookBy, afterSave, installBy, cleanBy, commitBy, nextBy, next, cleanWordBy, exchangeTick, withInit}
 use Rattle.model.specs.Arguments.{Pair}
 use Rattle.model.specs.Machine.{pairOf}
 
@@ -145,10 +147,13 @@ module _ (p : ℕ) (m : Memory) (x : Exchange) where
   follows load = record { pairs = pairs-noted x (cellOf m (entryAt x (x .i) .cell)) false; yes = refl }
   follows look = look-follows (own (m .status) (entryAt x (x .i) .init))
   follows fetch = record { pairs = refl; yes = refl }
-  follows (save v) = record { pairs = refl; yes = after-save (eqb v (entryAt x (x .i) .old)) (entryAt x (x .i) .overlapped && changing (entryAt x (x .i))) }
+  follows (save v) =
+      record { pairs = refl; yes = after-save (eqb v (entryAt x (x .i) .old)) (entryAt x (x .i) .overlapped && changing (entryAt x (x .i))) }
   follows fail = record { pairs = refl; yes = refl }
   follows mark = record { pairs = refl; yes = refl }
   follows install = install-follows (sameWord (cellOf m (entryAt x (x .i) .cell)) (entryAt x (x .i) .init)) (entryAt x (x .i))
   follows commit = commit-follows (eqb (statusOf m p) 0) refl
-  follows (clean j yes?) = clean-follows (yes? && changing (entryAt x j)) (sameWord (cellOf m (entryAt x j .cell)) (installed p (entryAt x j) j)) (entryAt x j .overlapped) (entryAt x j) j yes?
+  follows (clean j yes?) =
+      clean-follows (yes? && changing (entryAt x j)) (sameWord (cellOf m (entryAt x j .cell)) (installed p (entryAt x j) j)) (entryAt x j .overlapped)
+      (entryAt x j) j yes?
   follows (cleanMark j yes?) = next-follows (setStatus m (entryAt x j .init .task) 1) j yes? (cleanMark j yes?) (sym (or-same yes?))

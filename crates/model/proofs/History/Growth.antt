@@ -47,7 +47,8 @@ module _ (contents : ℕ → Contents) where
       replays = replays-kept step a (log .only a i) (r .replays);
     }
       where
-        at-last : (o : Operation) → operationAt h a ≡ some o → Carried u h′ a o → (o′ : Operation) (l : ℕ) → operationAt h′ a ≡ some o′ → o′ .last ≡ some l → s ≤ l
+        at-last : (o : Operation) → operationAt h a ≡ some o → Carried u h′ a o → (o′ : Operation) (l : ℕ) → operationAt h′ a ≡ some o′
+            → o′ .last ≡ some l → s ≤ l
         at-last o is (kept e) o′ l is′ lasts = let same-operation : o ≡ o′ = cc in r .unended (rw same-operation at is) lasts
         at-last o is (amended o″ e m) o′ l is′ lasts = go (m .last)
           where
@@ -69,7 +70,8 @@ module _ (contents : ℕ → Contents) where
     }
 
     -- operation a is one more that counts
-    one-more : (a : ℕ) {l : List ℕ} → countedBy (operationAt h a) ≡ false → Counted h′ a → ((b : ℕ) → b ≢ a → operationAt h′ b ≡ operationAt h b) → More a (log .order) l → Log contents h′ (suc u) 0 l → Logged (suc u) h′
+    one-more : (a : ℕ) {l : List ℕ} → countedBy (operationAt h a) ≡ false → Counted h′ a → ((b : ℕ) → b ≢ a → operationAt h′ b ≡ operationAt h b)
+        → More a (log .order) l → Log contents h′ (suc u) 0 l → Logged (suc u) h′
     one-more a {l} was now else m g = record {
       order = l;
       log = g;
@@ -83,11 +85,14 @@ module _ (contents : ℕ → Contents) where
         only b (inr i) = same? b a (λ e. rw e now) (λ ne. rw (else b ne) (log .only b i))
 
     -- it is open, or this is its last tick
-    settle : (a : ℕ) → countedBy (operationAt h a) ≡ false → Counted h′ a → ((b : ℕ) → b ≢ a → operationAt h′ b ≡ operationAt h b) → a ≤ u → ((o : Operation) (l : ℕ) → operationAt h′ a ≡ some o → o .last ≡ some l → u ≤ l) → Settled u h′ a → Logged (suc u) h′
+    settle : (a : ℕ) → countedBy (operationAt h a) ≡ false → Counted h′ a → ((b : ℕ) → b ≢ a → operationAt h′ b ≡ operationAt h b) → a ≤ u
+        → ((o : Operation) (l : ℕ) → operationAt h′ a ≡ some o → o .last ≡ some l → u ≤ l) → Settled u h′ a → Logged (suc u) h′
     settle a was now else begun unended (commits r) =
-        one-more a was now else (more-last a (log .order)) (log-commits contents (record { begun = begun; unended = λ is lasts. unended _ _ is lasts; replays = r }) old-log)
+        one-more a was now else (more-last a (log .order))
+        (log-commits contents (record { begun = begun; unended = λ is lasts. unended _ _ is lasts; replays = r }) old-log)
     settle a was now else begun unended (finds s from to r q) =
-        let stands : Stands h′ s a (contents s) (contents s) = record { begun = from; unended = λ is lasts. omega (arith, unended _ _ is lasts); replays = r } in
+        let stands : Stands h′ s a (contents s) (contents s) =
+        record { begun = from; unended = λ is lasts. omega (arith, unended _ _ is lasts); replays = r } in
         let p = place contents s a (omega arith) to stands old-log in
         one-more a was now else (p .more) (log-passes contents q (p .log))
 
@@ -104,11 +109,14 @@ module _ (contents : ℕ → Contents) where
       where
         go : Advance u h h′ → Logged (suc u) h′
         go (same e) = unchanged (λ a. ap countedBy (e a))
-        go (begins n) = unchanged (λ a. same? a u (λ e. rw (e, n .changed .here, n .free) (n .uncounted)) (λ ne. ap countedBy (n .changed .else a ne)))
+        go (begins n) =
+            unchanged (λ a. same? a u (λ e. rw (e, n .changed .here, n .free) (n .uncounted)) (λ ne. ap countedBy (n .changed .else a ne)))
         go (amends m) = test? (countedBy (some (m .before)))
-            (λ t. unchanged (λ a. same? a (m .number) (λ e. rw (e, m .changed .here, m .was) (m .amended .counts t ∙ sym t)) (λ ne. ap countedBy (m .changed .else a ne))))
+            (λ t. unchanged (λ a. same? a (m .number) (λ e. rw (e, m .changed .here, m .was) (m .amended .counts t ∙ sym t))
+            (λ ne. ap countedBy (m .changed .else a ne))))
             (λ f. test? (countedBy (some (m .after)))
-            (λ t. settle (m .number) (rw (m .was) f) (rw (m .changed .here) t) (m .changed .else) (omega (arith, m .earlier)) (ends-now m) (tick .settled (m .number) (rw (m .was) f) (rw (m .changed .here) t)))
+            (λ t. settle (m .number) (rw (m .was) f) (rw (m .changed .here) t) (m .changed .else) (omega (arith, m .earlier)) (ends-now m)
+            (tick .settled (m .number) (rw (m .was) f) (rw (m .changed .here) t)))
             (λ g. unchanged (λ a. same? a (m .number) (λ e. rw (e, m .changed .here, m .was) (g ∙ sym f)) (λ ne. ap countedBy (m .changed .else a ne)))))
 
   -- THE ABSTRACT THEOREM: a run with its histories, from one without operations on

@@ -32,7 +32,8 @@ pub record Hit (h : History) (p word : ℕ) : Type 0 where
 pub hit-kept : {u : ℕ} {h h′ : History} {p word : ℕ} → Advance u h h′ → latestOf h′ p ≡ latestOf h p → Hit h p word → Hit h′ p word
 hit-kept {u} {h} {h′} {p} {word} step e i = go (carried step (i .by) (i .began))
   where
-    with-other : (other : Operation) → operationAt h′ (i .by) ≡ some other → other .task ≡ i .other .task → other .arguments ≡ i .other .arguments → Hit h′ p word
+    with-other : (other : Operation) → operationAt h′ (i .by) ≡ some other → other .task ≡ i .other .task → other .arguments ≡ i .other .arguments
+        → Hit h′ p word
     with-other other is t g = record {
       by = i .by;
       other = other;
@@ -51,7 +52,8 @@ hit-kept {u} {h} {h′} {p} {word} step e i = go (carried step (i .by) (i .began
     go (kept is) = with-other (i .other) is refl refl
     go (amended other is m) = with-other other is (m .task) (m .arguments)
 
-module _ {u : ℕ} {ts : List Task} {h : History} (l : Linked u ts h) (p q : ℕ) (later : latestOf h p < latestOf h q) (inside : InOperation (givenTo ts p)) (above : InOperation (givenTo ts q)) where
+module _ {u : ℕ} {ts : List Task} {h : History} (l : Linked u ts h) (p q : ℕ) (later : latestOf h p < latestOf h q)
+    (inside : InOperation (givenTo ts p)) (above : InOperation (givenTo ts q)) where
   -- what hits a task's operation hits an open one that began before it
   pub hit-lower : (word : ℕ) → Hit h q word → Hit h p word
   hit-lower word i = record {
@@ -69,7 +71,8 @@ module _ {u : ℕ} {ts : List Task} {h : History} (l : Linked u ts h) (p q : ℕ
   }
 
   -- an open exchange hits the open operations that began before it, on the words that it changes
-  pub hit-by : {ps : List Pair} {yes? : Bool} → Open h q (swapOf ps) yes? → (changing : Pair) → In changing ps → changing .old ≢ changing .new → Hit h p (changing .word)
+  pub hit-by : {ps : List Pair} {yes? : Bool} → Open h q (swapOf ps) yes? → (changing : Pair) → In changing ps → changing .old ≢ changing .new
+      → Hit h p (changing .word)
   hit-by {ps} o changing i ne = record {
     by = latestOf h q;
     other = o .operation;

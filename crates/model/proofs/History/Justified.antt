@@ -17,7 +17,9 @@ use Rattle.model.specs.Arguments.{Pair, Arguments, readOf, swapOf, trans
 use Rattle.model.proofs.Lists.{same?}
 use Rattle.model.proofs.History.Advance.{Changed}
 use Rattle.model.proofs.History.Growth.{Settled, commits, finds, Settles}
-use Rattle.model.proofs.History.Moves.{Settling, settlesNothing, settlesRead, settlesYes, settlesNo, settlesTransaction, Moves, staysOutside, begun, goesOn, answers, readEnds, swapCommits, swapEnds, swapCommitsAndEnds, swapRejected, transactionCommits, transactionEnds, transactionCommitsAndEnds, nothingTouched, endsSpent}
+use Rattle.model.proofs.History.Moves.{Settling, settlesNothing, settlesRead, settlesYes, settlesNo, settlesTransaction, Moves, staysOutside}
+use Rattle.model.proofs.History.Moves.{begun, goesOn, answers, readEnds, swapCommits, swapEnds, swapCommitsAndEnds, swapRejected}
+use Rattle.model.proofs.History.Moves.{transactionCommits, transactionEnds, transactionCommitsAndEnds, nothingTouched, endsSpent}
 use Rattle.model.proofs.History.Noted.{latestOf, number-below, noted-nothing, noted-begins, noted-amends}
 use Rattle.model.proofs.History.Linked.{Open, OpenBy, open-uncounted, open-counted}
 use Rattle.model.proofs.History.Hit.{Hit}
@@ -49,7 +51,8 @@ module _ (contents : ℕ → Contents) where
   Justified u p h (settlesRead w v) = JustifiedRead u p h w v
   Justified u p h (settlesYes ps) = plainly (swapOf ps) (contents u) ≡ result (contents (suc u)) (1 ∷ [])
   Justified u p h (settlesNo ps) = JustifiedNo u p h ps
-  Justified u p h (settlesTransaction rs l) = (o : Operation) → operationAt h (latestOf h p) ≡ some o → plainly (transactionOf rs l) (contents u) ≡ result (contents (suc u)) (o .answers)
+  Justified u p h (settlesTransaction rs l) =
+      (o : Operation) → operationAt h (latestOf h p) ≡ some o → plainly (transactionOf rs l) (contents u) ≡ result (contents (suc u)) (o .answers)
 
   -- a named word that differs makes the exactly machine say no
   not-old : (words : List ℕ) (ps : List Pair) (named : Pair) → In named ps → at 0 words (named .word) ≢ named .old → allOld words ps ≡ false
@@ -62,7 +65,8 @@ module _ (contents : ℕ → Contents) where
       and-false true e = e
       and-false false e = refl
 
-  says-no : (c : Contents) (ps : List Pair) (named : Pair) → In named ps → at 0 (c .words) (named .word) ≢ named .old → plainly (swapOf ps) c ≡ result c (0 ∷ [])
+  says-no : (c : Contents) (ps : List Pair) (named : Pair) → In named ps → at 0 (c .words) (named .word) ≢ named .old
+      → plainly (swapOf ps) c ≡ result c (0 ∷ [])
   unfolding plainly plainSwapBy
   says-no c ps named i ne = rw (not-old (c .words) ps named i ne) refl
 
@@ -75,7 +79,8 @@ module _ (contents : ℕ → Contents) where
   quiet f e = record { settled = λ a was now. absurd (true≢false (sym (f a now) ∙ was)); still = λ s. e }
 
   -- ONE OPERATION IS SETTLED
-  one : {u a : ℕ} {h h′ : History} {o o′ : Operation} → operationAt h a ≡ some o → countedBy (some o) ≡ false → Changed h h′ a o′ → countedBy (some o′) ≡ true → Settled contents u h′ a → Settles contents u h h′
+  one : {u a : ℕ} {h h′ : History} {o o′ : Operation} → operationAt h a ≡ some o → countedBy (some o) ≡ false → Changed h h′ a o′
+      → countedBy (some o′) ≡ true → Settled contents u h′ a → Settles contents u h h′
   one {u} {a} {h} {h′} is was c now s = record {
     settled = λ b wasb nowb. same? b a (λ e. rw e s) (λ ne. absurd (true≢false (sym (rw (c .else b ne) at nowb) ∙ wasb)));
     still = λ e. absurd (true≢false (sym now ∙ (rw (c .here, is) at (e a)) ∙ was));
@@ -91,13 +96,15 @@ module _ (contents : ℕ → Contents) where
 
     module _ {a : Arguments} {yes? : Bool} (o : Open h p a yes?) where
       -- an amendment that settles nothing: the operation does not count after it, or counted before
-      quiet-amends : (f : Operation → Operation) → (countedBy (some (f (o .operation))) ≡ false) ⊎ (countedBy (some (o .operation)) ≡ true) → contents u ≡ contents (suc u) → Settles contents u h (noted u p (amends f) h)
+      quiet-amends : (f : Operation → Operation) → (countedBy (some (f (o .operation))) ≡ false) ⊎ (countedBy (some (o .operation)) ≡ true)
+          → contents u ≡ contents (suc u) → Settles contents u h (noted u p (amends f) h)
       quiet-amends f k e = quiet (λ b n. same? b (latestOf h p) (λ z. rw (z, o .is) (go k (rw (z, c .here) at n))) (λ ne. rw (c .else b ne) at n)) e
         where
           c : Changed h (noted u p (amends f) h) (latestOf h p) (f (o .operation))
           c = noted-amends u p h size f (o .is)
 
-          go : (countedBy (some (f (o .operation))) ≡ false) ⊎ (countedBy (some (o .operation)) ≡ true) → countedBy (some (f (o .operation))) ≡ true → countedBy (some (o .operation)) ≡ true
+          go : (countedBy (some (f (o .operation))) ≡ false) ⊎ (countedBy (some (o .operation)) ≡ true) → countedBy (some (f (o .operation))) ≡ true
+              → countedBy (some (o .operation)) ≡ true
           go (inl z) n = absurd (true≢false (sym n ∙ z))
           go (inr z) n = z
 
@@ -106,23 +113,28 @@ module _ (contents : ℕ → Contents) where
       latest-before = omega (arith, number-below h (latestOf h p) (o .is))
 
     module _ {a : Arguments} (o : Open h p a false) where
-      settles-now : (f : Operation → Operation) → countedBy (some (f (o .operation))) ≡ true → f (o .operation) .arguments ≡ o .operation .arguments → plainly a (contents u) ≡ result (contents (suc u)) (f (o .operation) .answers) → Settles contents u h (noted u p (amends f) h)
+      settles-now : (f : Operation → Operation) → countedBy (some (f (o .operation))) ≡ true → f (o .operation) .arguments ≡ o .operation .arguments
+          → plainly a (contents u) ≡ result (contents (suc u)) (f (o .operation) .answers) → Settles contents u h (noted u p (amends f) h)
       settles-now f n g e = let c = noted-amends u p h size f (o .is) in
           one (o .is) (open-uncounted o) c n (commits (exactly (f (o .operation)) (c .here) (rw (g ∙ o .arguments) e)))
 
-      settles-read : (w v : ℕ) → a ≡ readOf w → JustifiedRead u p h w v → Settles contents u h (noted u p (amends (λ o. ending u (answering (v ∷ []) o))) h)
+      settles-read : (w v : ℕ) → a ≡ readOf w → JustifiedRead u p h w v
+          → Settles contents u h (noted u p (amends (λ o. ending u (answering (v ∷ []) o))) h)
       settles-read w v is w′ = let c = noted-amends u p h size (λ o. ending u (answering (v ∷ []) o)) (o .is) in
           let f = w′ .found in
           one (o .is) (open-uncounted o) c (rw (o .unspent) refl)
-          (finds (f .tick) (f .from) (f .to) (exactly _ (c .here) (rw (o .arguments, is) (gives-value (contents (f .tick)) w v (f .value)))) (w′ .still))
+          (finds (f .tick) (f .from) (f .to) (exactly _ (c .here) (rw (o .arguments, is) (gives-value (contents (f .tick)) w v (f .value))))
+          (w′ .still))
 
-      settles-no : (ps : List Pair) → a ≡ swapOf ps → JustifiedNo u p h ps → Settles contents u h (noted u p (amends (λ o. ending u (answering (0 ∷ []) o))) h)
+      settles-no : (ps : List Pair) → a ≡ swapOf ps → JustifiedNo u p h ps
+          → Settles contents u h (noted u p (amends (λ o. ending u (answering (0 ∷ []) o))) h)
       settles-no ps is w = one (o .is) (open-uncounted o) c (rw (o .unspent) refl) (go (w .ground))
         where
           c : Changed h (noted u p (amends (λ o. ending u (answering (0 ∷ []) o))) h) (latestOf h p) (ending u (answering (0 ∷ []) (o .operation)))
           c = noted-amends u p h size (λ o. ending u (answering (0 ∷ []) o)) (o .is)
 
-          interfered : (named : Pair) → In named ps → Hit h p (named .word) → Interfered (noted u p (amends (λ o. ending u (answering (0 ∷ []) o))) h) (latestOf h p) (ending u (answering (0 ∷ []) (o .operation)))
+          interfered : (named : Pair) → In named ps → Hit h p (named .word)
+              → Interfered (noted u p (amends (λ o. ending u (answering (0 ∷ []) o))) h) (latestOf h p) (ending u (answering (0 ∷ []) (o .operation)))
           interfered named i k = record {
             pairs = ps;
             is = o .arguments ∙ is;
@@ -145,11 +157,15 @@ module _ (contents : ℕ → Contents) where
           }
 
           go : Ground u p h ps → Settled contents u (noted u p (amends (λ o. ending u (answering (0 ∷ []) o))) h) (latestOf h p)
-          go (differed named i f ne) = finds (f .tick) (f .from) (f .to) (exactly _ (c .here) (rw (o .arguments, is) (says-no (contents (f .tick)) ps named i (rw (f .value) ne)))) (w .still)
-          go (hit named i k) = let b = latest-before o in finds u (omega arith) (omega arith) (freely _ (c .here) refl (interfered named i k) refl) (w .still)
+          go (differed named i f ne) =
+              finds (f .tick) (f .from) (f .to)
+              (exactly _ (c .here) (rw (o .arguments, is) (says-no (contents (f .tick)) ps named i (rw (f .value) ne)))) (w .still)
+          go (hit named i k) =
+              let b = latest-before o in finds u (omega arith) (omega arith) (freely _ (c .here) refl (interfered named i k) refl) (w .still)
 
     -- EVERY TICK SETTLES WHAT IT OWES
-    pub settles : {g g′ : Option Arguments} {b b′ : Bool} {e : Event} {s : Settling} → Moves u g b e s g′ b′ → OpenBy h p g b → Justified u p h s → Settles contents u h (noted u p e h)
+    pub settles : {g g′ : Option Arguments} {b b′ : Bool} {e : Event} {s : Settling} → Moves u g b e s g′ b′ → OpenBy h p g b → Justified u p h s
+        → Settles contents u h (noted u p e h)
     settles staysOutside o w = nothing-settles w
     settles (begun {a = a}) o w = begins-settles a w
     settles goesOn o w = nothing-settles w

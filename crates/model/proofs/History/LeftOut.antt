@@ -27,5 +27,8 @@ spent-left-out o s = rw s (test? (ended? (o .last) || o .committed) (λ e. rw e 
 -- A tick changes the contents only by an operation that counts from then on. So one that is left out has changed nothing, and one that
 -- counts nothing but in the tick where it began to count.
 module _ (s : Sheet) {m : Machine} (start : Started m) (just : JustifiedRun s m) (t : ℕ) where
-  pub left-out-still : ((a : ℕ) → countedBy (operationAt (historyAfter m t) a) ≡ false → countedBy (operationAt (historyAfter m (suc t)) a) ≡ false) → contentsAfter s m t ≡ contentsAfter s m (suc t)
-  left-out-still f = tick-settles s start just t .still (λ a. test? (countedBy (operationAt (historyAfter m t) a)) (λ e. counts-kept (advance start t) a e ∙ sym e) (λ e. f a e ∙ sym e))
+  pub left-out-still : ((a : ℕ) → countedBy (operationAt (historyAfter m t) a) ≡ false → countedBy (operationAt (historyAfter m (suc t)) a) ≡ false)
+      → contentsAfter s m t ≡ contentsAfter s m (suc t)
+  left-out-still f =
+      tick-settles s start just t .still
+      (λ a. test? (countedBy (operationAt (historyAfter m t) a)) (λ e. counts-kept (advance start t) a e ∙ sym e) (λ e. f a e ∙ sym e))

@@ -16,8 +16,11 @@ use Rattle.model.specs.Arguments.{Pair, Arguments, swapOf}
 use Rattle.model.proofs.Lists.{at-past, impossible}
 use Rattle.model.proofs.History.Advance.{Amended, Changed, Advance}
 use Rattle.model.proofs.History.Advance.{same as advanceSame, begins as advanceBegins, amends as advanceAmends}
-use Rattle.model.proofs.History.Moves.{given, hasCommitted, Settling, Moves, staysOutside, begun, goesOn, answers, readEnds, swapCommits, swapEnds, swapCommitsAndEnds, swapRejected, transactionCommits, transactionEnds, transactionCommitsAndEnds, nothingTouched, endsSpent}
-use Rattle.model.proofs.History.Noted.{latestOf, newOperation, number-below, noted-nothing, size-nothing, latest-nothing, noted-begins, size-begins, latest-begins, latest-begins-else, noted-amends, size-amends, latest-amends, latest-size}
+use Rattle.model.proofs.History.Moves.{given, hasCommitted, Settling, Moves, staysOutside, begun, goesOn, answers, readEnds}
+use Rattle.model.proofs.History.Moves.{swapCommits, swapEnds, swapCommitsAndEnds, swapRejected, transactionCommits}
+use Rattle.model.proofs.History.Moves.{transactionEnds, transactionCommitsAndEnds, nothingTouched, endsSpent}
+use Rattle.model.proofs.History.Noted.{latestOf, newOperation, number-below, noted-nothing, size-nothing, latest-nothing, noted-begins}
+use Rattle.model.proofs.History.Noted.{size-begins, latest-begins, latest-begins-else, noted-amends, size-amends, latest-amends, latest-size}
 
 -- task p's latest operation is open, has these arguments, and has committed or not
 pub record Open (h : History) (p : ℕ) (a : Arguments) (yes? : Bool) : Type 0 where
@@ -60,7 +63,8 @@ module _ {h : History} {p : ℕ} {a : Arguments} where
   open-counted o = rw (o .unended, o .committed, o .unspent) refl
 
   -- one that does not count yet
-  uncommitted : (u : ℕ) (o : Open h p a false) (o′ : Operation) → o′ .task ≡ o .operation .task → o′ .arguments ≡ o .operation .arguments → (o′ .last ≡ none) ⊎ (o′ .last ≡ some u) → Amended u (o .operation) o′
+  uncommitted : (u : ℕ) (o : Open h p a false) (o′ : Operation) → o′ .task ≡ o .operation .task → o′ .arguments ≡ o .operation .arguments
+      → (o′ .last ≡ none) ⊎ (o′ .last ≡ some u) → Amended u (o .operation) o′
   uncommitted u o o′ t g l = record {
     unended = o .unended;
     task = t;
@@ -71,8 +75,10 @@ module _ {h : History} {p : ℕ} {a : Arguments} where
   }
 
   -- one that counts ends
-  committed-ends : (u : ℕ) (o : Open h p a true) (vs : List ℕ) → vs ≡ o .operation .answers → Amended u (o .operation) (ending u (answering vs (o .operation)))
-  committed-ends u o vs e = record { unended = o .unended; task = refl; arguments = refl; last = inr refl; counts = λ c. rw (o .unspent) refl; answers = λ c. e }
+  committed-ends : (u : ℕ) (o : Open h p a true) (vs : List ℕ) → vs ≡ o .operation .answers
+      → Amended u (o .operation) (ending u (answering vs (o .operation)))
+  committed-ends u o vs e =
+      record { unended = o .unended; task = refl; arguments = refl; last = inr refl; counts = λ c. rw (o .unspent) refl; answers = λ c. e }
 
 -- WHAT A TICK OF TASK p LEAVES, the task being given g before and g′ after it
 pub record Next (u p : ℕ) (h h′ : History) (g g′ : Option Arguments) (yes? : Bool) : Type 0 where
@@ -123,10 +129,20 @@ module _ (u p : ℕ) (h : History) (size : length (h .began) ≡ u) (latest : le
       let l : p < length (h .latest) = omega arith in
       let since = latest-begins u p h size a l in
       record {
-        advance = advanceBegins (record { operation = newOperation p a; free = at-past none (h .began) u (omega arith); changed = c; uncounted = refl });
+        advance =
+            advanceBegins (record { operation = newOperation p a; free = at-past none (h .began) u (omega arith); changed = c; uncounted = refl });
         size = size-begins u p h size a;
         latest = latest-size u p h size (begins a) ∙ latest;
-        mine = record { operation = newOperation p a; is = rw since (c .here); task = refl; arguments = refl; unended = refl; committed = refl; unspent = refl; said = λ ps e y. absurd (true≢false (sym y)) };
+        mine = record {
+          operation = newOperation p a;
+          is = rw since (c .here);
+          task = refl;
+          arguments = refl;
+          unended = refl;
+          committed = refl;
+          unspent = refl;
+          said = λ ps e y. absurd (true≢false (sym y));
+        };
         other = latest-begins-else u p h size a;
         own = inr since;
         stays = λ i. absurd i;
@@ -137,11 +153,21 @@ module _ (u p : ℕ) (h : History) (size : length (h .began) ≡ u) (latest : le
 
   -- the open operation is amended
   module _ {a : Arguments} {yes? : Bool} (o : Open h p a yes?) where
-    amends-next : (f : Operation → Operation) (g′ : Option Arguments) (yes?′ : Bool) → Amended u (o .operation) (f (o .operation)) → (Changed h (noted u p (amends f) h) (latestOf h p) (f (o .operation)) → OpenBy (noted u p (amends f) h) p g′ yes?′) → Next u p h (noted u p (amends f) h) (some a) g′ yes?′
+    amends-next : (f : Operation → Operation) (g′ : Option Arguments) (yes?′ : Bool) → Amended u (o .operation) (f (o .operation))
+        → (Changed h (noted u p (amends f) h) (latestOf h p) (f (o .operation)) → OpenBy (noted u p (amends f) h) p g′ yes?′)
+        → Next u p h (noted u p (amends f) h) (some a) g′ yes?′
     amends-next f g′ yes?′ m mine =
         let c = noted-amends u p h size f (o .is) in
         record {
-          advance = advanceAmends (record { number = latestOf h p; before = o .operation; after = f (o .operation); earlier = omega (arith, number-below h (latestOf h p) (o .is)); was = o .is; changed = c; amended = m });
+          advance = advanceAmends (record {
+            number = latestOf h p;
+            before = o .operation;
+            after = f (o .operation);
+            earlier = omega (arith, number-below h (latestOf h p) (o .is));
+            was = o .is;
+            changed = c;
+            amended = m;
+          });
           size = size-amends u p h size f;
           latest = latest-size u p h size (amends f) ∙ latest;
           mine = mine c;
@@ -154,7 +180,9 @@ module _ (u p : ℕ) (h : History) (size : length (h .began) ≡ u) (latest : le
         }
 
     -- it stays open, by what it is then
-    stays : (f : Operation → Operation) (yes?′ : Bool) → Changed h (noted u p (amends f) h) (latestOf h p) (f (o .operation)) → f (o .operation) .task ≡ o .operation .task → f (o .operation) .arguments ≡ o .operation .arguments → f (o .operation) .last ≡ none → f (o .operation) .committed ≡ yes?′ → f (o .operation) .spent ≡ o .operation .spent
+    stays : (f : Operation → Operation) (yes?′ : Bool) → Changed h (noted u p (amends f) h) (latestOf h p) (f (o .operation))
+        → f (o .operation) .task ≡ o .operation .task → f (o .operation) .arguments ≡ o .operation .arguments → f (o .operation) .last ≡ none
+        → f (o .operation) .committed ≡ yes?′ → f (o .operation) .spent ≡ o .operation .spent
         → ((ps : List Pair) → a ≡ swapOf ps → yes?′ ≡ true → f (o .operation) .answers ≡ 1 ∷ []) → Open (noted u p (amends f) h) p a yes?′
     stays f yes?′ c t g l y s said = record {
       operation = f (o .operation);
@@ -167,17 +195,23 @@ module _ (u p : ℕ) (h : History) (size : length (h .began) ≡ u) (latest : le
       said = said;
     }
 
-  pub next : {g g′ : Option Arguments} {b b′ : Bool} {e : Event} {s : Settling} → Moves u g b e s g′ b′ → OpenBy h p g b → Next u p h (noted u p e h) g g′ b′
+  pub next : {g g′ : Option Arguments} {b b′ : Bool} {e : Event} {s : Settling} → Moves u g b e s g′ b′ → OpenBy h p g b
+      → Next u p h (noted u p e h) g g′ b′
   next {b = b} staysOutside o = nothing-next none _ tt
   next (begun {a = a}) o = begins-next a
   next (goesOn {b} {a}) o = nothing-next (some a) b o
-  next (answers f) o = amends-next o _ _ _ (uncommitted u o _ refl refl (inl (o .unended))) (λ c. stays o _ false c refl refl (o .unended) (o .committed) refl (λ ps e y. absurd (true≢false (sym y))))
+  next (answers f) o =
+      amends-next o _ _ _ (uncommitted u o _ refl refl (inl (o .unended)))
+      (λ c. stays o _ false c refl refl (o .unended) (o .committed) refl (λ ps e y. absurd (true≢false (sym y))))
   next (readEnds v) o = amends-next o _ none _ (uncommitted u o _ refl refl (inr refl)) (λ c. tt)
-  next swapCommits o = amends-next o _ _ _ (uncommitted u o _ refl refl (inl (o .unended))) (λ c. stays o _ true c refl refl (o .unended) refl refl (λ ps e y. refl))
+  next swapCommits o =
+      amends-next o _ _ _ (uncommitted u o _ refl refl (inl (o .unended))) (λ c. stays o _ true c refl refl (o .unended) refl refl (λ ps e y. refl))
   next (swapEnds {ps}) o = amends-next o _ none _ (committed-ends u o _ (sym (o .said ps refl refl))) (λ c. tt)
   next swapCommitsAndEnds o = amends-next o _ none _ (uncommitted u o _ refl refl (inr refl)) (λ c. tt)
   next swapRejected o = amends-next o _ none _ (uncommitted u o _ refl refl (inr refl)) (λ c. tt)
-  next transactionCommits o = amends-next o _ _ _ (uncommitted u o _ refl refl (inl (o .unended))) (λ c. stays o _ true c refl refl (o .unended) refl refl (λ ps e y. impossible (cc)))
+  next transactionCommits o =
+      amends-next o _ _ _ (uncommitted u o _ refl refl (inl (o .unended)))
+      (λ c. stays o _ true c refl refl (o .unended) refl refl (λ ps e y. impossible (cc)))
   next transactionEnds o = amends-next o _ none _ (committed-ends u o _ refl) (λ c. tt)
   next transactionCommitsAndEnds o = amends-next o _ none _ (uncommitted u o _ refl refl (inr refl)) (λ c. tt)
   next nothingTouched o = amends-next o _ none _ (uncommitted u o _ refl refl (inr refl)) (λ c. tt)

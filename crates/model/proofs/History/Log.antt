@@ -70,7 +70,8 @@ module _ (contents : ℕ → Contents) where
   until (commits s g) = omega (arith, until g)
 
   -- the history may be another, as far as the operations of the log stand in it
-  pub log-in : {h h′ : History} {u t : ℕ} {l : List ℕ} → ((s a : ℕ) (c c′ : Contents) → s ≤ u → In a l → Stands h s a c c′ → Stands h′ s a c c′) → Log h u t l → Log h′ u t l
+  pub log-in : {h h′ : History} {u t : ℕ} {l : List ℕ} → ((s a : ℕ) (c c′ : Contents) → s ≤ u → In a l → Stands h s a c c′ → Stands h′ s a c c′)
+      → Log h u t l → Log h′ u t l
   log-in f (stop e) = stop e
   log-in f (passes e g) = passes e (log-in f g)
   log-in f (finds s g) = finds (f _ _ _ _ (until g) (inl refl) s) (log-in (λ s a c c′ l i. f s a c c′ l (inr i)) g)
@@ -84,7 +85,8 @@ module _ (contents : ℕ → Contents) where
   log-passes q (commits s g) = commits s (log-passes q g)
 
   -- one tick more, in which operation a commits
-  pub log-commits : {h : History} {u t a : ℕ} {l : List ℕ} → Stands h u a (contents u) (contents (suc u)) → Log h u t l → Log h (suc u) t (l ++ (a ∷ []))
+  pub log-commits : {h : History} {u t a : ℕ} {l : List ℕ} → Stands h u a (contents u) (contents (suc u)) → Log h u t l
+      → Log h (suc u) t (l ++ (a ∷ []))
   log-commits {h} {u} {a = a} s (stop e) = subst (λ (z : ℕ). Log h (suc u) z (a ∷ [])) (sym e) (commits s (stop refl))
   log-commits s (passes e g) = passes e (log-commits s g)
   log-commits s (finds r g) = finds r (log-commits s g)
@@ -97,7 +99,8 @@ module _ (contents : ℕ → Contents) where
 
   -- an operation that changes nothing, at a tick of the past
   pub place : {h : History} {u t : ℕ} {l : List ℕ} (s a : ℕ) → t ≤ s → s ≤ u → Stands h s a (contents s) (contents s) → Log h u t l → Placed h u t a l
-  place {u = u} {t} s a ts su r (stop e) = let q : s ≡ t = omega arith in record { order = a ∷ []; log = finds (rw q at r) (stop e); more = more-first a [] }
+  place {u = u} {t} s a ts su r (stop e) =
+      let q : s ≡ t = omega arith in record { order = a ∷ []; log = finds (rw q at r) (stop e); more = more-first a [] }
   place {t = t} s a ts su r (passes e g) = same? s t
       (λ k. record { order = _; log = finds (rw k at r) (passes e g); more = more-first a _ })
       (λ ne. let p = place s a (omega arith) su r g in record { order = p .order; log = passes e (p .log); more = p .more })
@@ -114,7 +117,8 @@ module _ (contents : ℕ → Contents) where
   replayed (commits s g) = then (s .replays) (replayed g)
 
   -- what stands from tick t on does not end before it
-  ends-from : {h : History} {u t : ℕ} {l : List ℕ} {o : Operation} {last : ℕ} → Log h u t l → (b : ℕ) → In b l → operationAt h b ≡ some o → o .last ≡ some last → t ≤ last
+  ends-from : {h : History} {u t : ℕ} {l : List ℕ} {o : Operation} {last : ℕ} → Log h u t l → (b : ℕ) → In b l → operationAt h b ≡ some o
+      → o .last ≡ some last → t ≤ last
   ends-from (stop e) b i is lasts = absurd i
   ends-from (passes e g) b i is lasts = omega (arith, ends-from g b i is lasts)
   ends-from (finds s g) b (inl e) is lasts = s .unended (rw e at is) lasts

@@ -6,7 +6,8 @@ use mathlib.Core.Option.{Option, none, some}
 use Rattle.model.specs.Command.{access, COMMIT, BodyCommand, LOAD, ADD, outside, inside}
 use Rattle.model.specs.Word.{Memory, Read, reads, gives, readTick}
 use Rattle.model.specs.Exchange.{Exchanged, goes, ends, exchangeTick, saidYes}
-use Rattle.model.specs.Job.{Transaction, Inner, between, first, copying, again, committing, Phase, idle, plain, reading, exchanging, transacting}
+use Rattle.model.specs.Job.{Transaction, Inner, between, first, copying, again, committing}
+use Rattle.model.specs.Job.{Phase, idle, plain, reading, exchanging, transacting}
 use Rattle.model.specs.Transaction.{nothing?}
 use Rattle.model.specs.History.{Event, nothing, begins, amends, answering, ending, asCommitted, asSpent}
 use Rattle.model.specs.Arguments.{Pair, Arguments, readOf, swapOf, transactionOf, untilCommit}
@@ -87,17 +88,25 @@ pub data Moves (u : ℕ) : Option Arguments → Bool → Event → Settling → 
   staysOutside : {b c : Bool} → Moves u none b nothing settlesNothing none c
   begun : {b : Bool} {a : Arguments} → Moves u none b (begins a) settlesNothing (some a) false
   goesOn : {b : Bool} {a : Arguments} → Moves u (some a) b nothing settlesNothing (some a) b
-  answers : {rs : List ℕ} {l : List BodyCommand} (f : List ℕ → List ℕ) → Moves u (some (transactionOf rs l)) false (amends (λ o. answering (f (o .answers)) o)) settlesNothing (some (transactionOf rs l)) false
+  answers : {rs : List ℕ} {l : List BodyCommand} (f : List ℕ → List ℕ)
+      → Moves u (some (transactionOf rs l)) false (amends (λ o. answering (f (o .answers)) o)) settlesNothing (some (transactionOf rs l)) false
   readEnds : {w : ℕ} {c : Bool} (v : ℕ) → Moves u (some (readOf w)) false (amends (λ o. ending u (answering (v ∷ []) o))) (settlesRead w v) none c
-  swapCommits : {ps : List Pair} → Moves u (some (swapOf ps)) false (amends (λ o. asCommitted (answering (1 ∷ []) o))) (settlesYes ps) (some (swapOf ps)) true
+  swapCommits : {ps : List Pair}
+      → Moves u (some (swapOf ps)) false (amends (λ o. asCommitted (answering (1 ∷ []) o))) (settlesYes ps) (some (swapOf ps)) true
   swapEnds : {ps : List Pair} {c : Bool} → Moves u (some (swapOf ps)) true (amends (λ o. ending u (answering (1 ∷ []) o))) settlesNothing none c
-  swapCommitsAndEnds : {ps : List Pair} {c : Bool} → Moves u (some (swapOf ps)) false (amends (λ o. ending u (answering (1 ∷ []) o))) (settlesYes ps) none c
+  swapCommitsAndEnds : {ps : List Pair} {c : Bool}
+      → Moves u (some (swapOf ps)) false (amends (λ o. ending u (answering (1 ∷ []) o))) (settlesYes ps) none c
   swapRejected : {ps : List Pair} {c : Bool} → Moves u (some (swapOf ps)) false (amends (λ o. ending u (answering (0 ∷ []) o))) (settlesNo ps) none c
-  transactionCommits : {rs : List ℕ} {l : List BodyCommand} → Moves u (some (transactionOf rs l)) false (amends (λ o. asCommitted o)) (settlesTransaction rs l) (some (transactionOf rs l)) true
-  transactionEnds : {rs : List ℕ} {l : List BodyCommand} {c : Bool} → Moves u (some (transactionOf rs l)) true (amends (λ o. ending u o)) settlesNothing none c
-  transactionCommitsAndEnds : {rs : List ℕ} {l : List BodyCommand} {c : Bool} → Moves u (some (transactionOf rs l)) false (amends (λ o. ending u o)) (settlesTransaction rs l) none c
-  nothingTouched : {rs : List ℕ} {l : List BodyCommand} {c : Bool} → Moves u (some (transactionOf rs l)) false (amends (λ o. ending u (asCommitted o))) (settlesTransaction rs l) none c
-  endsSpent : {rs : List ℕ} {l : List BodyCommand} {c : Bool} → Moves u (some (transactionOf rs l)) false (amends (λ o. ending u (asSpent o))) settlesNothing none c
+  transactionCommits : {rs : List ℕ} {l : List BodyCommand}
+      → Moves u (some (transactionOf rs l)) false (amends (λ o. asCommitted o)) (settlesTransaction rs l) (some (transactionOf rs l)) true
+  transactionEnds : {rs : List ℕ} {l : List BodyCommand} {c : Bool}
+      → Moves u (some (transactionOf rs l)) true (amends (λ o. ending u o)) settlesNothing none c
+  transactionCommitsAndEnds : {rs : List ℕ} {l : List BodyCommand} {c : Bool}
+      → Moves u (some (transactionOf rs l)) false (amends (λ o. ending u o)) (settlesTransaction rs l) none c
+  nothingTouched : {rs : List ℕ} {l : List BodyCommand} {c : Bool}
+      → Moves u (some (transactionOf rs l)) false (amends (λ o. ending u (asCommitted o))) (settlesTransaction rs l) none c
+  endsSpent : {rs : List ℕ} {l : List BodyCommand} {c : Bool}
+      → Moves u (some (transactionOf rs l)) false (amends (λ o. ending u (asSpent o))) settlesNothing none c
 
 abbrev pub MovesBy : ℕ → Phase → Event → Settling → Phase → Type 0
 MovesBy u f e s f′ = Moves u (given f) (hasCommitted f) e s (given f′) (hasCommitted f′)

@@ -79,16 +79,23 @@ module _ (u p : ℕ) (h : History) (size : length (h .began) ≡ u) where
   latest-begins-else a q ne = replace-other 0 (h .latest) p q u ne
 
   -- the latest operation is amended
-  pub noted-amends : (f : Operation → Operation) {o : Operation} → operationAt h (latestOf h p) ≡ some o → Changed h (noted u p (amends f) h) (latestOf h p) (f o)
+  pub noted-amends : (f : Operation → Operation) {o : Operation} → operationAt h (latestOf h p) ≡ some o
+      → Changed h (noted u p (amends f) h) (latestOf h p) (f o)
   unfolding noted
   noted-amends f {o} is = record {
-    here = at-default-end none (replace (h .began) (latestOf h p) (amendBy f (operationAt h (latestOf h p)))) (latestOf h p) ∙ replace-same none (h .began) (latestOf h p) _ (number-below h (latestOf h p) is) ∙ rw is refl;
-    else = λ b ne. at-default-end none (replace (h .began) (latestOf h p) (amendBy f (operationAt h (latestOf h p)))) b ∙ replace-other none (h .began) (latestOf h p) b _ ne;
+    here =
+        at-default-end none (replace (h .began) (latestOf h p) (amendBy f (operationAt h (latestOf h p)))) (latestOf h p)
+        ∙ replace-same none (h .began) (latestOf h p) _ (number-below h (latestOf h p) is) ∙ rw is refl;
+    else = λ b ne.
+        at-default-end none (replace (h .began) (latestOf h p) (amendBy f (operationAt h (latestOf h p)))) b
+        ∙ replace-other none (h .began) (latestOf h p) b _ ne;
   }
 
   pub size-amends : (f : Operation → Operation) → length (noted u p (amends f) h .began) ≡ suc u
   unfolding noted
-  size-amends f = one-longer (replace (h .began) (latestOf h p) (amendBy f (operationAt h (latestOf h p)))) none (length-replace (h .began) (latestOf h p) _ ∙ size)
+  size-amends f =
+      one-longer (replace (h .began) (latestOf h p) (amendBy f (operationAt h (latestOf h p)))) none
+      (length-replace (h .began) (latestOf h p) _ ∙ size)
 
   pub latest-amends : (f : Operation → Operation) (q : ℕ) → latestOf (noted u p (amends f) h) q ≡ latestOf h q
   unfolding noted

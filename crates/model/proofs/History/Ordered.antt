@@ -18,7 +18,8 @@ pub record Ordered (h : History) (c c′ : Contents) : Type 0 where
   pub timely : RespectsTime h order
   pub replay : Sequence h order c c′
 
-pub whole-operations : (sheet : List ℕ) (limit : ℕ) {h : History} {c c′ : Contents} → historyOf limit (startMachine (sheetOf sheet)) ≡ h → declaredContents (sheetOf sheet) ≡ c → contentsOf (sheetOf sheet) (run limit (startMachine (sheetOf sheet)) .memory) ≡ c′ → Ordered h c c′
+pub whole-operations : (sheet : List ℕ) (limit : ℕ) {h : History} {c c′ : Contents} → historyOf limit (startMachine (sheetOf sheet)) ≡ h
+    → declaredContents (sheetOf sheet) ≡ c → contentsOf (sheetOf sheet) (run limit (startMachine (sheetOf sheet)) .memory) ≡ c′ → Ordered h c c′
     → WholeOperations sheet limit
 whole-operations sheet limit eh e e′ w = record {
   order = w .order;

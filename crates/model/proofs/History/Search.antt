@@ -15,7 +15,8 @@ use Rattle.model.proofs.Fit.Elements.{and-left, and-right, or-cases, or
 use Rattle.model.proofs.WholeCases.{sameNumbers, counted, timely, interfered, fed, next, ordered, orderedAll, whole}
 use Rattle.model.proofs.History.Ordered.{Ordered, whole-operations}
 use Rattle.model.proofs.History.Counted.{counted-once, in-counted, counted-counts}
-use Rattle.model.proofs.History.Tests.{both, numbers-equal, numbers-same, contents-equal, contents-same, timely-told, timely-found, interfered-told, interfered-found}
+use Rattle.model.proofs.History.Tests.{both, numbers-equal, numbers-same, contents-equal, contents-same}
+use Rattle.model.proofs.History.Tests.{timely-told, timely-found, interfered-told, interfered-found}
 
 -- A LIST WITH AN ELEMENT PUT IN
 module _ (a : ℕ) (l : List ℕ) where
@@ -58,17 +59,24 @@ module _ (go : Contents → Bool) (h : History) (a : ℕ) (c : Contents) where
   unfolding fed
   fed-told none e t = absurd (false≢true t)
   fed-told (some o) e t =
-      or-cases (sameNumbers (plainly (o .arguments) c .answers) (o .answers) && go (plainly (o .arguments) c .contents)) (sameNumbers (o .answers) (0 ∷ []) && interfered h a o (o .last) && go c) t
+      or-cases (sameNumbers (plainly (o .arguments) c .answers) (o .answers) && go (plainly (o .arguments) c .contents))
+      (sameNumbers (o .answers) (0 ∷ []) && interfered h a o (o .last) && go c) t
       (λ u. record {
         leaves = plainly (o .arguments) c .contents;
-        replays = exactly o e (ap (λ (vs : List ℕ). result (plainly (o .arguments) c .contents) vs) (numbers-equal _ _ (and-left (sameNumbers (plainly (o .arguments) c .answers) (o .answers)) (go (plainly (o .arguments) c .contents)) u)));
+        replays =
+            exactly o e (ap (λ (vs : List ℕ). result (plainly (o .arguments) c .contents) vs)
+            (numbers-equal _ _
+            (and-left (sameNumbers (plainly (o .arguments) c .answers) (o .answers)) (go (plainly (o .arguments) c .contents)) u)));
         follow = and-right (sameNumbers (plainly (o .arguments) c .answers) (o .answers)) _ u;
       })
       (λ u.
-      let v : (sameNumbers (o .answers) (0 ∷ []) && interfered h a o (o .last)) ≡ true = and-left (sameNumbers (o .answers) (0 ∷ []) && interfered h a o (o .last)) (go c) u in
+      let v : (sameNumbers (o .answers) (0 ∷ []) && interfered h a o (o .last)) ≡ true =
+      and-left (sameNumbers (o .answers) (0 ∷ []) && interfered h a o (o .last)) (go c) u in
       record {
         leaves = c;
-        replays = freely o e (numbers-equal _ _ (and-left _ (interfered h a o (o .last)) v)) (interfered-told h a o (o .last) refl (and-right (sameNumbers (o .answers) (0 ∷ [])) _ v)) refl;
+        replays =
+            freely o e (numbers-equal _ _ (and-left _ (interfered h a o (o .last)) v))
+            (interfered-told h a o (o .last) refl (and-right (sameNumbers (o .answers) (0 ∷ [])) _ v)) refl;
         follow = and-right (sameNumbers (o .answers) (0 ∷ []) && interfered h a o (o .last)) _ u;
       })
 
@@ -81,7 +89,8 @@ module _ (go : Contents → Bool) (h : History) (a : ℕ) (c : Contents) where
   fed-found c′ (freely o e f i g) t =
       rw e
       (or-right (sameNumbers (plainly (o .arguments) c .answers) (o .answers) && go (plainly (o .arguments) c .contents)) _
-      (both (sameNumbers (o .answers) (0 ∷ []) && interfered h a o (o .last)) _ (both (sameNumbers (o .answers) (0 ∷ [])) _ (rw f refl) (interfered-found h a o i)) (rw g t)))
+      (both (sameNumbers (o .answers) (0 ∷ []) && interfered h a o (o .last)) _
+      (both (sameNumbers (o .answers) (0 ∷ [])) _ (rw f refl) (interfered-found h a o i)) (rw g t)))
 
 -- THE SEARCH: an order of the operations l that takes the contents c to d
 module _ (h : History) (d : Contents) where
@@ -99,7 +108,8 @@ module _ (h : History) (d : Contents) where
     next-told r [] c k e = absurd (false≢true e)
     next-told r (a ∷ l) c k e =
         or-cases (timely h a (r ++ l) && fed (go (r ++ l)) h a (operationAt h a) c) (next go h (r ++ (a ∷ [])) l c) e
-        (λ t. first (timely-told h a (r ++ l) (and-left (timely h a (r ++ l)) (fed (go (r ++ l)) h a (operationAt h a) c) t)) (fed-told (go (r ++ l)) h a c (operationAt h a) refl (and-right (timely h a (r ++ l)) _ t)))
+        (λ t. first (timely-told h a (r ++ l) (and-left (timely h a (r ++ l)) (fed (go (r ++ l)) h a (operationAt h a) c) t))
+        (fed-told (go (r ++ l)) h a c (operationAt h a) refl (and-right (timely h a (r ++ l)) _ t)))
         (λ t. subst (λ (x : List ℕ). Found x c) (append-assoc r (a ∷ []) l) (next-told (r ++ (a ∷ [])) l c (rw (append-assoc r (a ∷ []) l) k) t))
       where
         shorter : length (r ++ l) ≡ n
@@ -127,16 +137,22 @@ module _ (h : History) (d : Contents) where
 
   ordered-told : (n : ℕ) (l : List ℕ) (c : Contents) → length l ≡ n → ordered n h d l c ≡ true → Found l c
   unfolding ordered
-  ordered-told zero [] c k e = record { order = []; once = λ o. tt; all = λ b i. i; only = λ b i. i; timely = tt; replay = rw (contents-equal c d e) noMore }
+  ordered-told zero [] c k e =
+      record { order = []; once = λ o. tt; all = λ b i. i; only = λ b i. i; timely = tt; replay = rw (contents-equal c d e) noMore }
   ordered-told zero (a ∷ l) c k e = absurd (omega arith)
   ordered-told (suc n) l c k e = next-told n (ordered n h d) (ordered-told n) [] l c k e
 
-  next-found : (go : List ℕ → Contents → Bool) (a : ℕ) (c : Contents) (r l : List ℕ) → In a l → ((x y : List ℕ) → x ++ (a ∷ y) ≡ r ++ l → (timely h a (x ++ y) && fed (go (x ++ y)) h a (operationAt h a) c) ≡ true) → next go h r l c ≡ true
+  next-found : (go : List ℕ → Contents → Bool) (a : ℕ) (c : Contents) (r l : List ℕ) → In a l
+      → ((x y : List ℕ) → x ++ (a ∷ y) ≡ r ++ l → (timely h a (x ++ y) && fed (go (x ++ y)) h a (operationAt h a) c) ≡ true) → next go h r l c ≡ true
   unfolding next
-  next-found go a c r (b ∷ l) (inl e) k = rw (sym e) (or-left (timely h a (r ++ l) && fed (go (r ++ l)) h a (operationAt h a) c) _ (k r l (rw e refl)))
-  next-found go a c r (b ∷ l) (inr i) k = or-right (timely h b (r ++ l) && fed (go (r ++ l)) h b (operationAt h b) c) _ (next-found go a c (r ++ (b ∷ [])) l i (λ x y q. k x y (q ∙ append-assoc r (b ∷ []) l)))
+  next-found go a c r (b ∷ l) (inl e) k =
+      rw (sym e) (or-left (timely h a (r ++ l) && fed (go (r ++ l)) h a (operationAt h a) c) _ (k r l (rw e refl)))
+  next-found go a c r (b ∷ l) (inr i) k =
+      or-right (timely h b (r ++ l) && fed (go (r ++ l)) h b (operationAt h b) c) _
+      (next-found go a c (r ++ (b ∷ [])) l i (λ x y q. k x y (q ∙ append-assoc r (b ∷ []) l)))
 
-  ordered-found : (n : ℕ) (l s : List ℕ) (c : Contents) → length l ≡ n → Once l → Once s → ((b : ℕ) → In b l → In b s) → ((b : ℕ) → In b s → In b l) → RespectsTime h s → Sequence h s c d → ordered n h d l c ≡ true
+  ordered-found : (n : ℕ) (l s : List ℕ) (c : Contents) → length l ≡ n → Once l → Once s → ((b : ℕ) → In b l → In b s) → ((b : ℕ) → In b s → In b l)
+      → RespectsTime h s → Sequence h s c d → ordered n h d l c ≡ true
   unfolding ordered
   ordered-found zero l [] c k ol os into from t noMore = contents-same c
   ordered-found zero [] (a ∷ s) c k ol os into from t q = absurd (from a (inl refl))
@@ -150,7 +166,11 @@ module _ (h : History) (d : Contents) where
       (ordered-found n (x ++ y) s c′ (shorter x y e) (once-without a y x (subst Once (sym e) ol)) os (left x y e) (right x y e) t q)))
     where
       shorter : (x y : List ℕ) → x ++ (a ∷ y) ≡ l → length (x ++ y) ≡ n
-      shorter x y e = let u = length-append x y in let v = length-append x (a ∷ y) in let w : length (x ++ (a ∷ y)) ≡ length l = ap (λ (z : List ℕ). length z) e in omega arith
+      shorter x y e =
+          let u = length-append x y in
+          let v = length-append x (a ∷ y) in
+          let w : length (x ++ (a ∷ y)) ≡ length l = ap (λ (z : List ℕ). length z) e in
+          omega arith
 
       left : (x y : List ℕ) → x ++ (a ∷ y) ≡ l → (b : ℕ) → In b (x ++ y) → In b s
       left x y e b i = go (into b (subst (λ (z : List ℕ). In b z) e (in-with a y x b i)))
@@ -183,7 +203,10 @@ module _ (h : History) (c d : Contents) where
 
   pub search-found : Ordered h c d → orderedAll h d (counted 0 (h .began)) c ≡ true
   unfolding orderedAll
-  search-found w = ordered-found h d (length (counted 0 (h .began))) (counted 0 (h .began)) (w .order) c refl (counted-once 0 (h .began)) (w .once) (λ b i. w .all b (counted-counts 0 (h .began) b b (omega arith) i)) (λ b i. in-counted 0 (h .began) b b (omega arith) (w .only b i)) (w .timely) (w .replay)
+  search-found w =
+      ordered-found h d (length (counted 0 (h .began))) (counted 0 (h .began)) (w .order) c refl (counted-once 0 (h .began)) (w .once)
+      (λ b i. w .all b (counted-counts 0 (h .began) b b (omega arith) i)) (λ b i. in-counted 0 (h .began) b b (omega arith) (w .only b i)) (w .timely)
+      (w .replay)
 
 -- a run that passes the test has the claim, and a run that has the claim passes the test
 module _ (sheet : List ℕ) (limit : ℕ) where
@@ -193,4 +216,5 @@ module _ (sheet : List ℕ) (limit : ℕ) where
 
   pub claimed-passed : WholeOperations sheet limit → whole sheet limit ≡ true
   unfolding whole
-  claimed-passed w = search-found _ _ _ (record { order = w .order; once = w .once; all = w .all; only = w .only; timely = w .timely; replay = w .replay })
+  claimed-passed w =
+      search-found _ _ _ (record { order = w .order; once = w .once; all = w .all; only = w .only; timely = w .timely; replay = w .replay })

@@ -57,7 +57,8 @@ current-fresh : (status : List ℕ) (saves : List (List ℕ)) (v : ℕ) → curr
 unfolding current own currentBy
 current-fresh status saves v = refl
 
-bank-from : (store : ℕ) (l : List Block) (b : ℕ) → b < length l → at (freshWord 0) (banksFrom store l) b ≡ freshWord (bankValue (at noBlock l b .version) (store + b))
+bank-from : (store : ℕ) (l : List Block) (b : ℕ) → b < length l
+    → at (freshWord 0) (banksFrom store l) b ≡ freshWord (bankValue (at noBlock l b .version) (store + b))
 unfolding at banksFrom
 bank-from store [] b h = absurd (omega arith)
 bank-from store (x ∷ l) zero h = let z : store + 0 ≡ store = omega arith in rw z refl
@@ -96,29 +97,40 @@ module _ {s : Sheet} (c : SheetFit s) where
       let n = c .words in
       let k : w < length (wordCells s) = omega (arith, words-size) in
       let l : w < length (map freshWord (s .words)) = rw (length-map (s .words) freshWord) h in
-      rw (start-cells s) (at-append (freshWord 0) (wordCells s) (bankCells s) w k ∙ at-filled (freshWord 0) 32 (freshWord 0) (map freshWord (s .words)) w l ∙ at-map freshWord 0 (s .words) w)
+      rw (start-cells s)
+      (at-append (freshWord 0) (wordCells s) (bankCells s) w k ∙ at-filled (freshWord 0) 32 (freshWord 0) (map freshWord (s .words)) w l
+      ∙ at-map freshWord 0 (s .words) w)
 
-  bank-cell : (b : ℕ) → b < length (s .blocks) → cellOf (startMemory s) (bank b) ≡ freshWord (bankValue (at noBlock (s .blocks) b .version) (firstStore s + b))
+  bank-cell : (b : ℕ) → b < length (s .blocks)
+      → cellOf (startMemory s) (bank b) ≡ freshWord (bankValue (at noBlock (s .blocks) b .version) (firstStore s + b))
   bank-cell b h =
       let l : b < length (banksFrom (firstStore s) (s .blocks)) = rw (banks-size (firstStore s) (s .blocks)) h in
-      rw (start-cells s) (at-behind (freshWord 0) (wordCells s) (bankCells s) 32 b words-size ∙ at-filled (freshWord 0) 16 (freshWord 0) (banksFrom (firstStore s) (s .blocks)) b l ∙ bank-from (firstStore s) (s .blocks) b h)
+      rw (start-cells s)
+      (at-behind (freshWord 0) (wordCells s) (bankCells s) 32 b words-size
+      ∙ at-filled (freshWord 0) 16 (freshWord 0) (banksFrom (firstStore s) (s .blocks)) b l ∙ bank-from (firstStore s) (s .blocks) b h)
 
   block-store : (b : ℕ) → b < length (s .blocks) → at [] (startMemory s .stores) (firstStore s + b) ≡ at noBlock (s .blocks) b .values
   block-store b h =
       let n = length-append (replicate (firstStore s) (zeros 8)) (map startValues (s .blocks)) in
       let k = length-replicate (firstStore s) (zeros 8) in
       let l : firstStore s + b < length (ownStores s) = omega (arith, length-map (s .blocks) startValues) in
-      rw (start-stores s) (at-filled [] 48 (zeros 8) (ownStores s) (firstStore s + b) l ∙ at-behind [] (replicate (firstStore s) (zeros 8)) (map startValues (s .blocks)) (firstStore s) b k ∙ at-map startValues noBlock (s .blocks) b)
+      rw (start-stores s)
+      (at-filled [] 48 (zeros 8) (ownStores s) (firstStore s + b) l
+      ∙ at-behind [] (replicate (firstStore s) (zeros 8)) (map startValues (s .blocks)) (firstStore s) b k ∙ at-map startValues noBlock (s .blocks) b)
 
   word-start : (w : ℕ) → w < length (s .words) → currentOf (startMemory s) w ≡ at 0 (s .words) w
   word-start w h = rw (word-cell w h) (current-fresh (startMemory s .status) (startMemory s .saves) (at 0 (s .words) w))
 
-  pub bank-start : (b : ℕ) → b < length (s .blocks) → currentOf (startMemory s) (bank b) ≡ bankValue (at noBlock (s .blocks) b .version) (firstStore s + b)
-  bank-start b h = rw (bank-cell b h) (current-fresh (startMemory s .status) (startMemory s .saves) (bankValue (at noBlock (s .blocks) b .version) (firstStore s + b)))
+  pub bank-start : (b : ℕ) → b < length (s .blocks)
+      → currentOf (startMemory s) (bank b) ≡ bankValue (at noBlock (s .blocks) b .version) (firstStore s + b)
+  bank-start b h =
+      rw (bank-cell b h)
+      (current-fresh (startMemory s .status) (startMemory s .saves) (bankValue (at noBlock (s .blocks) b .version) (firstStore s + b)))
 
   block-start : (b : ℕ) → b < length (s .blocks) → blockIn (startMemory s) b ≡ at noBlock (s .blocks) b
   block-start b h =
-      let v : versionOf (bankValue (at noBlock (s .blocks) b .version) (firstStore s + b)) ≡ at noBlock (s .blocks) b .version = omega (arith, c .blocks, c .bodies) in
+      let v : versionOf (bankValue (at noBlock (s .blocks) b .version) (firstStore s + b)) ≡ at noBlock (s .blocks) b .version =
+      omega (arith, c .blocks, c .bodies) in
       let i : storeOf (bankValue (at noBlock (s .blocks) b .version) (firstStore s + b)) ≡ firstStore s + b = omega (arith, c .blocks, c .bodies) in
       rw (bank-start b h, v, i, block-store b h) refl
 

@@ -9,13 +9,19 @@ use Rattle.model.specs.Lists.{replace}
 use Rattle.model.specs.Command.{Access, GET, PUT, READ, PAIR, SWAP, BEGIN, access, COMMIT, BodyCommand, LOAD, ADD, outside, inside}
 use Rattle.model.specs.Word.{Memory, Reading, Read, reads, gives, readTick}
 use Rattle.model.specs.Exchange.{Entry, Exchange, Exchanged, goes, ends, exchangeTick, saidYes}
-use Rattle.model.specs.Job.{Touched, untouched, remembered, copied, Transaction, Inner, between, first, copying, again, committing, Phase, idle, plain, reading, exchanging, transacting, Task, rest, doneBy, Turn, swapAnswered, turn}
-use Rattle.model.specs.Transaction.{bank, blockOf, versionOf, rememberedOf, touchedOf, nothing?, spent?, firstRead, copyBy, copyTick, accessTick, checkBy, againRead, commandTick, transactionTick, commitCommandBy, committingBy, stays, committedIf}
+use Rattle.model.specs.Job.{Touched, untouched, remembered, copied, Transaction, Inner, between, first, copying, again, committing}
+use Rattle.model.specs.Job.{Phase, idle, plain, reading, exchanging, transacting, Task, rest, doneBy, Turn, swapAnswered, turn}
+use Rattle.model.specs.Transaction.{bank, blockOf, versionOf, rememberedOf, touchedOf, nothing?, spent?}
+use Rattle.model.specs.Transaction.{firstRead, copyBy, copyTick, accessTick, checkBy, againRead, commandTick}
+use Rattle.model.specs.Transaction.{transactionTick, commitCommandBy, committingBy, stays, committedIf}
 use Rattle.model.specs.Machine.{answer, readBy, swapBy, plainTick, statement, swapCommittedIf}
 use Rattle.model.specs.History.{eventOf}
 use Rattle.model.specs.Arguments.{Pair, swapOf}
 use Rattle.model.proofs.History.Exchange.{saysYes, said-now, yes-once, pairsOf, Follows, follows}
-use Rattle.model.proofs.History.Moves.{given, innerCommitted, hasCommitted, Settling, settlesNothing, readSettles, swapSettles, transactionSettles, commandSettles, innerSettles, settling, Moves, staysOutside, begun, goesOn, answers, readEnds, swapCommits, swapEnds, swapCommitsAndEnds, swapRejected, transactionCommits, transactionEnds, transactionCommitsAndEnds, nothingTouched, endsSpent, MovesBy}
+use Rattle.model.proofs.History.Moves.{given, innerCommitted, hasCommitted, Settling, settlesNothing, readSettles, swapSettles}
+use Rattle.model.proofs.History.Moves.{transactionSettles, commandSettles, innerSettles, settling, Moves, staysOutside, begun, goesOn}
+use Rattle.model.proofs.History.Moves.{answers, readEnds, swapCommits, swapEnds, swapCommitsAndEnds, swapRejected, transactionCommits}
+use Rattle.model.proofs.History.Moves.{transactionEnds, transactionCommitsAndEnds, nothingTouched, endsSpent, MovesBy}
 
 -- a command is done: its task is outside
 done-outside : (l : List BodyCommand) (t : Task) (rs : List ℕ) (ps : List Entry) (cs : List ℕ) → given (doneBy l t rs ps cs .job .phase) ≡ none
@@ -25,15 +31,20 @@ done-outside (c ∷ l) t rs ps cs = refl
 
 module _ (u p : ℕ) (m : Memory) (t : Task) where
   -- OUTSIDE
-  read-moves : (r w : ℕ) (s : Reading) (o : Read) → MovesBy u (reading r w s) (eventOf u (readBy m t r w o .did)) (readSettles w o) (readBy m t r w o .task .job .phase)
+  read-moves : (r w : ℕ) (s : Reading) (o : Read)
+      → MovesBy u (reading r w s) (eventOf u (readBy m t r w o .did)) (readSettles w o) (readBy m t r w o .task .job .phase)
   unfolding readBy eventOf
   read-moves r w s (reads s′) = goesOn
-  read-moves r w s (gives v) = rw (done-outside (rest (t .job .commands)) t (replace (t .job .registers) r v) (t .job .pairs) (t .copies)) (readEnds v)
+  read-moves r w s (gives v) =
+      rw (done-outside (rest (t .job .commands)) t (replace (t .job .registers) r v) (t .job .pairs) (t .copies)) (readEnds v)
 
-  plain-moves : t .job .phase ≡ plain → (l : List BodyCommand) → Moves u none false (eventOf u (plainTick p m t l .did)) settlesNothing (given (plainTick p m t l .task .job .phase)) (hasCommitted (plainTick p m t l .task .job .phase))
+  plain-moves : t .job .phase ≡ plain → (l : List BodyCommand)
+      → Moves u none false (eventOf u (plainTick p m t l .did)) settlesNothing (given (plainTick p m t l .task .job .phase))
+      (hasCommitted (plainTick p m t l .task .job .phase))
   unfolding plainTick eventOf readTick readBy exchangeTick swapBy
   plain-moves e [] = rw e staysOutside
-  plain-moves e (LOAD r v ∷ l) = rw (done-outside (rest (t .job .commands)) t (replace (t .job .registers) r v) (t .job .pairs) (t .copies)) staysOutside
+  plain-moves e (LOAD r v ∷ l) =
+      rw (done-outside (rest (t .job .commands)) t (replace (t .job .registers) r v) (t .job .pairs) (t .copies)) staysOutside
   plain-moves e (ADD r q ∷ l) = rw (done-outside (rest (t .job .commands)) t) staysOutside
   plain-moves e (outside (READ r w) ∷ l) = begun
   plain-moves e (outside (PAIR w o n) ∷ l) = rw (done-outside (rest (t .job .commands)) t) staysOutside
@@ -42,8 +53,10 @@ module _ (u p : ℕ) (m : Memory) (t : Task) where
   plain-moves e (inside c ∷ l) = rw e staysOutside
 
   -- IN AN EXCHANGE, by what it has said before and what it says now
-  swap-goes : (ps : List Pair) (m′ : Memory) (x′ : Exchange) (said says : Bool) → pairsOf x′ ≡ ps → saidYes (x′ .step) ≡ (said || says) → (says ≡ true → said ≡ false)
-      → Moves u (some (swapOf ps)) said (eventOf u (swapCommittedIf says)) (swapSettles says ps (goes m′ x′)) (some (swapOf (pairsOf x′))) (saidYes (x′ .step))
+  swap-goes : (ps : List Pair) (m′ : Memory) (x′ : Exchange) (said says : Bool) → pairsOf x′ ≡ ps → saidYes (x′ .step) ≡ (said || says)
+      → (says ≡ true → said ≡ false)
+      → Moves u (some (swapOf ps)) said (eventOf u (swapCommittedIf says)) (swapSettles says ps (goes m′ x′)) (some (swapOf (pairsOf x′)))
+      (saidYes (x′ .step))
   unfolding eventOf
   swap-goes ps m′ x′ false false e y n = rw (e, y) goesOn
   swap-goes ps m′ x′ true false e y n = rw (e, y) goesOn
@@ -58,9 +71,12 @@ module _ (u p : ℕ) (m : Memory) (t : Task) where
   swap-ends ps m′ c false true yes? y n = rw y swapCommitsAndEnds
   swap-ends ps m′ c true true yes? y n = absurd (true≢false (n refl))
 
-  swap-moves : (r : ℕ) (x : Exchange) (o : Exchanged) → Follows p m x (x .step) o → MovesBy u (exchanging r x) (eventOf u (swapBy t r x o .did)) (swapSettles (saysYes p m (x .step)) (pairsOf x) o) (swapBy t r x o .task .job .phase)
+  swap-moves : (r : ℕ) (x : Exchange) (o : Exchanged) → Follows p m x (x .step) o
+      → MovesBy u (exchanging r x) (eventOf u (swapBy t r x o .did)) (swapSettles (saysYes p m (x .step)) (pairsOf x) o)
+      (swapBy t r x o .task .job .phase)
   unfolding swapBy
-  swap-moves r x (goes m′ x′) g = rw (said-now p m x x′ g) (swap-goes (pairsOf x) m′ x′ (saidYes (x .step)) (saysYes p m (x .step)) (g .pairs) (g .yes) (yes-once p m (x .step)))
+  swap-moves r x (goes m′ x′) g =
+      rw (said-now p m x x′ g) (swap-goes (pairsOf x) m′ x′ (saidYes (x .step)) (saysYes p m (x .step)) (g .pairs) (g .yes) (yes-once p m (x .step)))
   swap-moves r x (ends m′ yes?) y =
       rw (done-outside (rest (t .job .commands)) t (replace (t .job .registers) r (answer yes?)) [] (t .copies))
       (swap-ends (pairsOf x) m′ _ (saidYes (x .step)) (saysYes p m (x .step)) yes? y (yes-once p m (x .step)))
@@ -131,12 +147,15 @@ module _ (u p : ℕ) (m : Memory) (t : Task) where
     committing-ends e m′ false true yes? y n = rw (y, done-outside (rest (t .job .commands)) t) transactionCommitsAndEnds
     committing-ends e m′ true true yes? y n = absurd (true≢false (n refl))
 
-    committing-moves : (e : Exchange) (o : Exchanged) → Follows p m e (e .step) o → Within (saidYes (e .step)) (transactionSettles (saysYes p m (e .step)) x) (committingBy t x e o)
+    committing-moves : (e : Exchange) (o : Exchanged) → Follows p m e (e .step) o
+        → Within (saidYes (e .step)) (transactionSettles (saysYes p m (e .step)) x) (committingBy t x e o)
     unfolding eventOf committingBy
-    committing-moves e (goes m′ e′) g = rw (said-now p m e e′ g) (committing-goes e′ (saidYes (e .step)) (saysYes p m (e .step)) (g .yes) (yes-once p m (e .step)))
+    committing-moves e (goes m′ e′) g =
+        rw (said-now p m e e′ g) (committing-goes e′ (saidYes (e .step)) (saysYes p m (e .step)) (g .yes) (yes-once p m (e .step)))
     committing-moves e (ends m′ yes?) y = committing-ends e m′ (saidYes (e .step)) (saysYes p m (e .step)) yes? y (yes-once p m (e .step))
 
-    inner-moves : (s : Inner) → t .job .phase ≡ transacting x s → Within (innerCommitted s) (innerSettles p m (t .job .commands) x s) (transactionTick p m t x s)
+    inner-moves : (s : Inner) → t .job .phase ≡ transacting x s
+        → Within (innerCommitted s) (innerSettles p m (t .job .commands) x s) (transactionTick p m t x s)
     unfolding eventOf transactionTick copyTick
     inner-moves between e = command-moves e (t .job .commands)
     inner-moves (first a r) e = first-moves a (readTick m (bank (blockOf a)) r)
@@ -144,7 +163,8 @@ module _ (u p : ℕ) (m : Memory) (t : Task) where
     inner-moves (again a v r) e = again-moves a v (readTick m (bank (blockOf a)) r)
     inner-moves (committing c) e = committing-moves c (exchangeTick p m c (c .step)) (follows p m c (c .step))
 
-  pub moves : (f : Phase) → t .job .phase ≡ f → MovesBy u f (eventOf u (statement p m t f .did)) (settling p m (t .job .commands) f) (statement p m t f .task .job .phase)
+  pub moves : (f : Phase) → t .job .phase ≡ f
+      → MovesBy u f (eventOf u (statement p m t f .did)) (settling p m (t .job .commands) f) (statement p m t f .task .job .phase)
   unfolding eventOf settling statement
   moves idle e = rw e staysOutside
   moves plain e = plain-moves e (t .job .commands)

@@ -15,7 +15,8 @@ use Rattle.model.specs.History.{Operation, History, operationAt}
 use Rattle.model.specs.Claim.{Interfered, EndedBefore}
 use Rattle.model.specs.Arguments.{Pair, Arguments, swapOf}
 use Rattle.model.proofs.Fit.Elements.{and-left, and-right, or-cases, or-left, or-right}
-use Rattle.model.proofs.WholeCases.{sameNumbers, sameBlocks, sameContents, lastBefore, endedBefore, timely, names, changesNamed, pairsOf, interferes, interferedFrom, interfered}
+use Rattle.model.proofs.WholeCases.{sameNumbers, sameBlocks, sameContents, lastBefore, endedBefore, timely}
+use Rattle.model.proofs.WholeCases.{names, changesNamed, pairsOf, interferes, interferedFrom, interfered}
 
 pub both : (a b : Bool) → a ≡ true → b ≡ true → (a && b) ≡ true
 both a b e f = rw (e, f) refl
@@ -34,7 +35,8 @@ numbers-same [] = refl
 numbers-same (a ∷ l) = both _ _ (eq-eqb a a refl) (numbers-same l)
 
 block-equal : (a b : Block) → a .version ≡ b .version → a .values ≡ b .values → a ≡ b
-block-equal a b e f = ap (λ (v : ℕ). record { version = v; values = a .values }) e ∙ ap (λ (l : List ℕ). record { version = b .version; values = l }) f
+block-equal a b e f =
+    ap (λ (v : ℕ). record { version = v; values = a .values }) e ∙ ap (λ (l : List ℕ). record { version = b .version; values = l }) f
 
 blocks-equal : (l m : List Block) → sameBlocks l m ≡ true → l ≡ m
 unfolding sameBlocks
@@ -56,7 +58,8 @@ pub contents-equal : (c d : Contents) → sameContents c d ≡ true → c ≡ d
 unfolding sameContents
 contents-equal c d e =
     ap (λ (w : List ℕ). record { words = w; blocks = c .blocks }) (numbers-equal (c .words) (d .words) (and-left _ _ e))
-    ∙ ap (λ (b : List Block). record { words = d .words; blocks = b }) (blocks-equal (c .blocks) (d .blocks) (and-right (sameNumbers (c .words) (d .words)) _ e))
+    ∙ ap (λ (b : List Block). record { words = d .words; blocks = b })
+    (blocks-equal (c .blocks) (d .blocks) (and-right (sameNumbers (c .words) (d .words)) _ e))
 
 pub contents-same : (c : Contents) → sameContents c c ≡ true
 unfolding sameContents
@@ -79,7 +82,9 @@ module _ (h : History) (a : ℕ) where
 
   pub timely-told : (l : List ℕ) → timely h a l ≡ true → (b : ℕ) → In b l → EndedBefore h b a → ⊥
   unfolding timely
-  timely-told (c ∷ l) t b (inl e) f = true≢false (sym (ended-seen b f) ∙ ap (λ (x : ℕ). endedBefore a (operationAt h x)) e ∙ not-true _ (and-left (not (endedBefore a (operationAt h c))) (timely h a l) t))
+  timely-told (c ∷ l) t b (inl e) f =
+      true≢false (sym (ended-seen b f) ∙ ap (λ (x : ℕ). endedBefore a (operationAt h x)) e
+      ∙ not-true _ (and-left (not (endedBefore a (operationAt h c))) (timely h a l) t))
   timely-told (c ∷ l) t b (inr i) f = timely-told l (and-right (not (endedBefore a (operationAt h c))) _ t) b i f
 
   pub timely-found : (l : List ℕ) → ((b : ℕ) → In b l → EndedBefore h b a → ⊥) → timely h a l ≡ true
@@ -100,7 +105,9 @@ record Named (w : ℕ) (l : List Pair) : Type 0 where
 names-told : (w : ℕ) (l : List Pair) → names w l ≡ true → Named w l
 unfolding names
 names-told w [] e = absurd (false≢true e)
-names-told w (p ∷ l) e = or-cases (eqb w (p .word)) (names w l) e (λ t. record { named = p; among = inl refl; on = eqb-true w (p .word) t }) (λ t. let n = names-told w l t in record { named = n .named; among = inr (n .among); on = n .on })
+names-told w (p ∷ l) e =
+    or-cases (eqb w (p .word)) (names w l) e (λ t. record { named = p; among = inl refl; on = eqb-true w (p .word) t })
+    (λ t. let n = names-told w l t in record { named = n .named; among = inr (n .among); on = n .on })
 
 names-found : (w : ℕ) (l : List Pair) (p : Pair) → In p l → w ≡ p .word → names w l ≡ true
 unfolding names
@@ -118,12 +125,18 @@ unfolding changesNamed
 changes-told ps [] e = absurd (false≢true e)
 changes-told ps (q ∷ l) e =
     or-cases (not (eqb (q .old) (q .new)) && names (q .word) ps) (changesNamed ps l) e
-    (λ t. record { changing = q; among = inl refl; differs = eqb-false _ _ (not-true _ (and-left _ _ t)); on = names-told (q .word) ps (and-right (not (eqb (q .old) (q .new))) _ t) })
+    (λ t. record {
+      changing = q;
+      among = inl refl;
+      differs = eqb-false _ _ (not-true _ (and-left _ _ t));
+      on = names-told (q .word) ps (and-right (not (eqb (q .old) (q .new))) _ t);
+    })
     (λ t. let c = changes-told ps l t in record { changing = c .changing; among = inr (c .among); differs = c .differs; on = c .on })
 
 changes-found : (ps qs : List Pair) (q : Pair) → In q qs → q .old ≢ q .new → names (q .word) ps ≡ true → changesNamed ps qs ≡ true
 unfolding changesNamed
-changes-found ps (c ∷ l) q (inl e) n t = rw (sym e) (or-left (not (eqb (q .old) (q .new)) && names (q .word) ps) _ (rw (ne-eqb (q .old) (q .new) n) t))
+changes-found ps (c ∷ l) q (inl e) n t =
+    rw (sym e) (or-left (not (eqb (q .old) (q .new)) && names (q .word) ps) _ (rw (ne-eqb (q .old) (q .new) n) t))
 changes-found ps (c ∷ l) q (inr i) n t = or-right (not (eqb (c .old) (c .new)) && names (c .word) ps) _ (changes-found ps l q i n t)
 
 swap-pairs : (g : Arguments) (p : Pair) → In p (pairsOf g) → g ≡ swapOf (pairsOf g)
@@ -135,7 +148,8 @@ module _ (h : History) (a : ℕ) (o : Operation) (z : ℕ) where
   interferes-told f b none e t = absurd (false≢true t)
   interferes-told f b (some q) e t =
       let c = changes-told (pairsOf (o .arguments)) (pairsOf (q .arguments)) (and-right (ltb a b && ltb b z && ltb (o .task) (q .task)) _ t) in
-      let u : (ltb a b && ltb b z && ltb (o .task) (q .task)) ≡ true = and-left _ (changesNamed (pairsOf (o .arguments)) (pairsOf (q .arguments))) t in
+      let u : (ltb a b && ltb b z && ltb (o .task) (q .task)) ≡ true =
+      and-left _ (changesNamed (pairsOf (o .arguments)) (pairsOf (q .arguments))) t in
       record {
         pairs = pairsOf (o .arguments);
         is = swap-pairs (o .arguments) (c .on .named) (c .on .among);
@@ -157,7 +171,8 @@ module _ (h : History) (a : ℕ) (o : Operation) (z : ℕ) where
         differs = c .differs;
       }
 
-  interfered-from : o .last ≡ some z → (b : ℕ) (l : List (Option Operation)) → ((i j : ℕ) → b + i ≡ j → operationAt h j ≡ at none l i) → interferedFrom a z o b l ≡ true → Interfered h a o
+  interfered-from : o .last ≡ some z → (b : ℕ) (l : List (Option Operation)) → ((i j : ℕ) → b + i ≡ j → operationAt h j ≡ at none l i)
+      → interferedFrom a z o b l ≡ true → Interfered h a o
   unfolding interferedFrom at
   interfered-from f b [] s e = absurd (false≢true e)
   interfered-from f b (q ∷ l) s e =
@@ -183,7 +198,8 @@ interfered-found h a o i =
     (from-found h a o (i .last) 0 (h .began) (i .by) (i .by) (omega arith)
     (rw (i .began)
     (both (ltb a (i .by) && ltb (i .by) (i .last) && ltb (o .task) (i .other .task)) _
-    (both (ltb a (i .by) && ltb (i .by) (i .last)) _ (both _ _ (lt-ltb a (i .by) (i .after)) (lt-ltb (i .by) (i .last) (i .before))) (lt-ltb (o .task) (i .other .task) (i .higher)))
+    (both (ltb a (i .by) && ltb (i .by) (i .last)) _ (both _ _ (lt-ltb a (i .by) (i .after)) (lt-ltb (i .by) (i .last) (i .before)))
+    (lt-ltb (o .task) (i .other .task) (i .higher)))
     (changes-found (pairsOf (o .arguments)) (pairsOf (i .other .arguments)) (i .changing)
     (rw (i .otherIs) (i .changes)) (i .differs)
     (names-found (i .changing .word) (pairsOf (o .arguments)) (i .named) (rw (i .is) (i .names)) (i .on))))))

@@ -51,7 +51,8 @@ linked-arrived a l = record {
 }
 
 -- an operation that stays as it is stays open
-open-kept : (h h′ : History) (p : ℕ) (g : Option Arguments) (b : Bool) → latestOf h′ p ≡ latestOf h p → (InOperation g → operationAt h′ (latestOf h p) ≡ operationAt h (latestOf h p)) → OpenBy h p g b → OpenBy h′ p g b
+open-kept : (h h′ : History) (p : ℕ) (g : Option Arguments) (b : Bool) → latestOf h′ p ≡ latestOf h p
+    → (InOperation g → operationAt h′ (latestOf h p) ≡ operationAt h (latestOf h p)) → OpenBy h p g b → OpenBy h′ p g b
 open-kept h h′ p none b l e o = tt
 open-kept h h′ p (some a) b l e o = record {
   operation = o .operation;
@@ -72,7 +73,8 @@ latest-below {u} {ts} {h} l p i = go (givenTo ts p) (hasCommitted (taskAt ts p .
     go (some a) b i o = omega (arith, number-below h (latestOf h p) (o .is), l .size)
 
 -- task p runs, and is t′ afterwards
-module _ {u p : ℕ} {m : Machine} {h h′ : History} (r : Foremost m p) (l : Linked u (m .tasks) h) (t′ : Task) (n : Next u p h h′ (givenTo (m .tasks) p) (given (t′ .job .phase)) (hasCommitted (t′ .job .phase))) where
+module _ {u p : ℕ} {m : Machine} {h h′ : History} (r : Foremost m p) (l : Linked u (m .tasks) h) (t′ : Task)
+    (n : Next u p h h′ (givenTo (m .tasks) p) (given (t′ .job .phase)) (hasCommitted (t′ .job .phase))) where
   abbrev ts : List Task
   ts = m .tasks
 
@@ -154,14 +156,19 @@ pub record MachineLinked (m : Machine) (h : History) : Type 0 where
   pub linked : Linked (m .now) (m .tasks) h
 
 pub arrive-linked : {m m′ : Machine} {h : History} → Arrived m m′ → MachineLinked m h → MachineLinked m′ h
-arrive-linked {m} {m′} {h} a g = record { size = a .size ∙ g .size; linked = subst (λ (z : ℕ). Linked z (m′ .tasks) h) (sym (a .now)) (linked-arrived a (g .linked)) }
+arrive-linked {m} {m′} {h} a g =
+    record { size = a .size ∙ g .size; linked = subst (λ (z : ℕ). Linked z (m′ .tasks) h) (sym (a .now)) (linked-arrived a (g .linked)) }
 
 -- what the running task p's tick does to the history
 module _ {m : Machine} {h : History} (g : MachineLinked m h) where
-  pub next-of : (p : ℕ) → Foremost m p → Next (m .now) p h (observed m (running p) h) (givenTo (m .tasks) p) (given (statement p (m .memory) (taskAt (m .tasks) p) (taskAt (m .tasks) p .job .phase) .task .job .phase)) (hasCommitted (statement p (m .memory) (taskAt (m .tasks) p) (taskAt (m .tasks) p .job .phase) .task .job .phase))
+  pub next-of : (p : ℕ) → Foremost m p
+      → Next (m .now) p h (observed m (running p) h) (givenTo (m .tasks) p)
+      (given (statement p (m .memory) (taskAt (m .tasks) p) (taskAt (m .tasks) p .job .phase) .task .job .phase))
+      (hasCommitted (statement p (m .memory) (taskAt (m .tasks) p) (taskAt (m .tasks) p .job .phase) .task .job .phase))
   unfolding observed
   next-of p r = let below : p < 8 = omega (arith, r .below, g .size) in
-      next (m .now) p h (g .linked .size) (g .linked .latest) below (moves (m .now) p (m .memory) (taskAt (m .tasks) p) (taskAt (m .tasks) p .job .phase) refl) (g .linked .opened p)
+      next (m .now) p h (g .linked .size) (g .linked .latest) below
+      (moves (m .now) p (m .memory) (taskAt (m .tasks) p) (taskAt (m .tasks) p .job .phase) refl) (g .linked .opened p)
 
   pub move-advances : (r : Running) → runningOf m ≡ r → Advance (m .now) h (observed m r h)
   unfolding observed
@@ -208,7 +215,8 @@ module _ {m : Machine} (s : Started m) where
   pub now-is : (t : ℕ) → stateAfter m t .now ≡ t
   unfolding stateAfter
   now-is zero = s .now
-  now-is (suc t) = ap (λ (n : Machine). n .now) (state-next m t) ∙ move-now (arrivedAt m t) (runningOf (arrivedAt m t)) ∙ ap suc (arrived-at m t .now ∙ now-is t)
+  now-is (suc t) =
+      ap (λ (n : Machine). n .now) (state-next m t) ∙ move-now (arrivedAt m t) (runningOf (arrivedAt m t)) ∙ ap suc (arrived-at m t .now ∙ now-is t)
 
   pub arrived-now : (t : ℕ) → arrivedAt m t .now ≡ t
   arrived-now t = arrived-at m t .now ∙ now-is t
@@ -226,11 +234,15 @@ module _ {m : Machine} (s : Started m) where
       rising = λ p q i j lt. absurd (rw (s .idle p) at i);
     };
   }
-  machine-linked (suc t) = rw (state-next m t, history-next m t) (move-linked (arrive-linked (arrived-at m t) (machine-linked t)) (runningOf (arrivedAt m t)) refl)
+  machine-linked (suc t) =
+      rw (state-next m t, history-next m t) (move-linked (arrive-linked (arrived-at m t) (machine-linked t)) (runningOf (arrivedAt m t)) refl)
 
   -- the same, tick t's releases having arrived
   pub arrived-linked : (t : ℕ) → MachineLinked (arrivedAt m t) (historyAfter m t)
   arrived-linked t = arrive-linked (arrived-at m t) (machine-linked t)
 
   pub advance : (t : ℕ) → Advance t (historyAfter m t) (historyAfter m (suc t))
-  advance t = rw (history-next m t) (subst (λ (z : ℕ). Advance z (historyAfter m t) (observed (arrivedAt m t) (runningOf (arrivedAt m t)) (historyAfter m t))) (arrived-now t) (move-advances (arrived-linked t) (runningOf (arrivedAt m t)) refl))
+  advance t =
+      rw (history-next m t)
+      (subst (λ (z : ℕ). Advance z (historyAfter m t) (observed (arrivedAt m t) (runningOf (arrivedAt m t)) (historyAfter m t))) (arrived-now t)
+      (move-advances (arrived-linked t) (runningOf (arrivedAt m t)) refl))

@@ -133,7 +133,8 @@ reads-not-gives : {A : Type 0} {s : Reading} {v : ℕ} → reads s ≡ gives v �
 reads-not-gives e = impossible (cc)
 
 -- FROM ITS LOAD in tick u
-module _ {s : Sheet} (c : SheetFit s) (p u : ℕ) {a : Access} (runs-first : who c u ≡ running p) (first-in : In (arrivedAt (startMachine s) u) p a loading) where
+module _ {s : Sheet} (c : SheetFit s) (p u : ℕ) {a : Access} (runs-first : who c u ≡ running p)
+    (first-in : In (arrivedAt (startMachine s) u) p a loading) where
   abbrev own : ℕ → ℕ
   own n = ownBefore (who c) p u n
 
@@ -154,7 +155,8 @@ module _ {s : Sheet} (c : SheetFit s) (p u : ℕ) {a : Access} (runs-first : who
   started =
       let m = arrivedAt (startMachine s) u in
       let b = bank (blockOf a) in
-      let k : Underway p a 1 (move m (running p)) = read-goes m runs-first first-in at-first (looking (cellOf (m .memory) b)) (load-goes (m .memory) b) in
+      let k : Underway p a 1 (move m (running p)) =
+      read-goes m runs-first first-in at-first (looking (cellOf (m .memory) b)) (load-goes (m .memory) b) in
       rw (own-runs (who c) p u u (omega arith) runs-first, own-none (who c) p u u (omega arith), state-next (startMachine s) u, runs-first) k
 
   step : (n : ℕ) → u ≤ n → Going n → Going (suc n) ⊎ GivingIn n

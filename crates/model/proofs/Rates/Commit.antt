@@ -50,9 +50,11 @@ not-idle e = impossible (cc)
 module _ {p : ℕ} {es : List Entry} {t : ℕ} where
   -- RELEASES ARRIVE
   underway-arrived : {m m′ : Machine} → Arrived m m′ → Underway p es t m → Underway p es t m′
-  underway-arrived {m} {m′} a k = record { exchange = k .exchange; inside = record { transaction = k .inside .transaction; phase = go (a .task p .job) }; ran = rw (a .memory) (k .ran) }
+  underway-arrived {m} {m′} a k =
+      record { exchange = k .exchange; inside = record { transaction = k .inside .transaction; phase = go (a .task p .job) }; ran = rw (a .memory) (k .ran) }
     where
-      go : JobArrived (taskAt (m .tasks) p) (taskAt (m′ .tasks) p .job) → taskAt (m′ .tasks) p .job .phase ≡ transacting (k .inside .transaction) (committing (k .exchange))
+      go : JobArrived (taskAt (m .tasks) p) (taskAt (m′ .tasks) p .job)
+          → taskAt (m′ .tasks) p .job .phase ≡ transacting (k .inside .transaction) (committing (k .exchange))
       go (waits e) = rw e (k .inside .phase)
       go (starts i e) = not-idle (sym i ∙ k .inside .phase)
 
@@ -62,26 +64,44 @@ module _ {p : ℕ} {es : List Entry} {t : ℕ} where
     unfolding move
     underway-others q ne k = record {
       exchange = k .exchange;
-      inside = record { transaction = k .inside .transaction; phase = rw (replace-other noTask (m .tasks) q p (counting ticks (statement q (m .memory) (taskAt (m .tasks) q) (taskAt (m .tasks) q .job .phase) .task)) ne) (k .inside .phase) };
+      inside = record {
+        transaction = k .inside .transaction;
+        phase =
+            rw
+            (replace-other noTask (m .tasks) q p
+            (counting ticks (statement q (m .memory) (taskAt (m .tasks) q) (taskAt (m .tasks) q .job .phase) .task)) ne)
+            (k .inside .phase);
+      };
       ran = others (k .ran) (status-stays q p ne (m .memory) (taskAt (m .tasks) q));
     }
 
     -- TASK p RUNS, in exchange x
     module _ (r : runningOf m ≡ running p) {x : Exchange} (i : In m p x) where
-      committed-goes : {m′ : Memory} {x′ : Exchange} → exchangeTick p (m .memory) x (x .step) ≡ goes m′ x′ → Ran p es (suc t) m′ x′ → Underway p es (suc t) (move m (running p))
+      committed-goes : {m′ : Memory} {x′ : Exchange} → exchangeTick p (m .memory) x (x .step) ≡ goes m′ x′ → Ran p es (suc t) m′ x′
+          → Underway p es (suc t) (move m (running p))
       unfolding move statement transactionTick committingBy
       committed-goes {m′} {x′} e n = record {
         exchange = x′;
-        inside = record { transaction = i .transaction; phase = rw (replace-same noTask (m .tasks) p (counting ticks (statement p (m .memory) (taskAt (m .tasks) p) (taskAt (m .tasks) p .job .phase) .task)) (running-foremost r .below), i .phase, e) refl };
+        inside = record {
+          transaction = i .transaction;
+          phase = rw (
+            replace-same noTask (m .tasks) p (counting ticks (statement p (m .memory) (taskAt (m .tasks) p) (taskAt (m .tasks) p .job .phase) .task))
+                (running-foremost r .below),
+            i .phase,
+            e,
+          ) refl;
+        };
         ran = rw (i .phase, e) n;
       }
 
-      committing-next : (o : Exchanged) → exchangeTick p (m .memory) x (x .step) ≡ o → ((m′ : Memory) (x′ : Exchange) → o ≡ goes m′ x′ → Ran p es (suc t) m′ x′) → Underway p es (suc t) (move m (running p)) ⊎ Ending p m
+      committing-next : (o : Exchanged) → exchangeTick p (m .memory) x (x .step) ≡ o
+          → ((m′ : Memory) (x′ : Exchange) → o ≡ goes m′ x′ → Ran p es (suc t) m′ x′) → Underway p es (suc t) (move m (running p)) ⊎ Ending p m
       committing-next (goes m′ x′) e n = inl (committed-goes e (n m′ x′ refl))
       committing-next (ends m′ yes?) e n = inr (record { runs = r; exchange = x; inside = i; memory = m′; yes? = yes?; ends = e })
 
 -- Start goes on
-start-goes : (p : ℕ) (m : Memory) (x : Exchange) → x .step ≡ start → exchangeTick p m x (x .step) ≡ goes (setStatus m p 0) (record { entries = x .entries; i = 0; step = test })
+start-goes : (p : ℕ) (m : Memory) (x : Exchange) → x .step ≡ start
+    → exchangeTick p m x (x .step) ≡ goes (setStatus m p 0) (record { entries = x .entries; i = 0; step = test })
 unfolding exchangeTick
 start-goes p m x e = rw e refl
 
@@ -92,7 +112,8 @@ goes-not-ends : {A : Type 0} {m m′ : Memory} {x : Exchange} {yes? : Bool} → 
 goes-not-ends e = impossible (cc)
 
 -- FROM ITS START in tick a
-module _ {s : Sheet} (c : SheetFit s) (p a : ℕ) {x : Exchange} (runs-first : who c a ≡ running p) (first : In (arrivedAt (startMachine s) a) p x) (at-start : x .step ≡ start) where
+module _ {s : Sheet} (c : SheetFit s) (p a : ℕ) {x : Exchange} (runs-first : who c a ≡ running p) (first : In (arrivedAt (startMachine s) a) p x)
+    (at-start : x .step ≡ start) where
   abbrev own : ℕ → ℕ
   own n = ownBefore (who c) p a n
 
@@ -106,10 +127,13 @@ module _ {s : Sheet} (c : SheetFit s) (p a : ℕ) {x : Exchange} (runs-first : w
   started : Underway p (x .entries) (own (suc a)) (stateAfter (startMachine s) (suc a))
   started =
       let m = arrivedAt (startMachine s) a in
-      let k : Underway p (x .entries) 1 (move m (running p)) = committed-goes runs-first first (start-goes p (m .memory) x at-start) (own-tick (before-start (m .memory)) (below-status c a p (running-foremost runs-first)) (start-goes p (m .memory) (exchangeOf (x .entries)) refl)) in
+      let k : Underway p (x .entries) 1 (move m (running p)) = committed-goes runs-first first (start-goes p (m .memory) x at-start)
+      (own-tick (before-start (m .memory)) (below-status c a p (running-foremost runs-first))
+      (start-goes p (m .memory) (exchangeOf (x .entries)) refl)) in
       rw (own-runs (who c) p a a (omega arith) runs-first, own-none (who c) p a a (omega arith), state-next (startMachine s) a, runs-first) k
 
-  step : (n : ℕ) → a ≤ n → Underway p (x .entries) (own n) (stateAfter (startMachine s) n) → Underway p (x .entries) (own (suc n)) (stateAfter (startMachine s) (suc n)) ⊎ Ending p (arrivedAt (startMachine s) n)
+  step : (n : ℕ) → a ≤ n → Underway p (x .entries) (own n) (stateAfter (startMachine s) n)
+      → Underway p (x .entries) (own (suc n)) (stateAfter (startMachine s) (suc n)) ⊎ Ending p (arrivedAt (startMachine s) n)
   step n l k = rw (state-next (startMachine s) n) (go (who c n) refl)
     where
       m : Machine
@@ -121,17 +145,22 @@ module _ {s : Sheet} (c : SheetFit s) (p a : ℕ) {x : Exchange} (runs-first : w
       go : (r : Running) → who c n ≡ r → Underway p (x .entries) (own (suc n)) (move m r) ⊎ Ending p m
       go nobody e = not-idle (sym (none-runs m e p) ∙ now .inside .phase)
       go (running q) e = same? p q
-          (λ z. rw (← z, own-runs (who c) p a n l (rw (← z) at e)) (let r : who c n ≡ running p = rw (← z) at e in committing-next r (now .inside) (exchangeTick p (m .memory) (now .exchange) (now .exchange .step)) refl (λ m′ x′ f. own-tick (now .ran) (below-status c n p (running-foremost r)) f)))
+          (λ z. rw (← z, own-runs (who c) p a n l (rw (← z) at e))
+          (let r : who c n ≡ running p = rw (← z) at e in
+          committing-next r (now .inside) (exchangeTick p (m .memory) (now .exchange) (now .exchange .step)) refl
+          (λ m′ x′ f. own-tick (now .ran) (below-status c n p (running-foremost r)) f)))
           (λ ne. rw (own-waits (who c) p a n (other-task (who c n) ne e)) (inl (underway-others q ne now)))
 
   underway : (n : ℕ) → a < n → Underway p (x .entries) (own n) (stateAfter (startMachine s) n) ⊎ Ended n
   underway zero l = absurd (omega arith)
   underway (suc n) l = same? a n (λ e. inl (rw (← e) started)) (λ ne. go (underway n (omega arith)))
     where
-      go : Underway p (x .entries) (own n) (stateAfter (startMachine s) n) ⊎ Ended n → Underway p (x .entries) (own (suc n)) (stateAfter (startMachine s) (suc n)) ⊎ Ended (suc n)
+      go : Underway p (x .entries) (own n) (stateAfter (startMachine s) n) ⊎ Ended n
+          → Underway p (x .entries) (own (suc n)) (stateAfter (startMachine s) (suc n)) ⊎ Ended (suc n)
       go (inl k) = next (step n (omega arith) k)
         where
-          next : Underway p (x .entries) (own (suc n)) (stateAfter (startMachine s) (suc n)) ⊎ Ending p (arrivedAt (startMachine s) n) → Underway p (x .entries) (own (suc n)) (stateAfter (startMachine s) (suc n)) ⊎ Ended (suc n)
+          next : Underway p (x .entries) (own (suc n)) (stateAfter (startMachine s) (suc n)) ⊎ Ending p (arrivedAt (startMachine s) n)
+              → Underway p (x .entries) (own (suc n)) (stateAfter (startMachine s) (suc n)) ⊎ Ended (suc n)
           next (inl k) = inl k
           next (inr e) = inr (record { tick = n; after = omega arith; before = omega arith; ending = e })
       go (inr k) = inr (record { tick = k .tick; after = k .after; before = omega (arith, k .before); ending = k .ending })
@@ -146,14 +175,17 @@ module _ {s : Sheet} (c : SheetFit s) (p a : ℕ) {x : Exchange} (runs-first : w
 
   -- it does not end with its Start
   start-only : {A : Type 0} → Ending p (arrivedAt (startMachine s) a) → A
-  start-only k = goes-not-ends (sym (start-goes p (arrivedAt (startMachine s) a .memory) x at-start) ∙ (rw (one-exchange (k .inside) first) at (k .ends)))
+  start-only k =
+      goes-not-ends (sym (start-goes p (arrivedAt (startMachine s) a .memory) x at-start) ∙ (rw (one-exchange (k .inside) first) at (k .ends)))
 
   -- to the first tick that ends an exchange of task p
-  pub commit-rate : (l : ℕ) → a ≤ l → Ending p (arrivedAt (startMachine s) l) → ((u : ℕ) → a ≤ u → u < l → Ending p (arrivedAt (startMachine s) u) → ⊥) → own (suc l) ≤ 9 * length (x .entries) + 4
+  pub commit-rate : (l : ℕ) → a ≤ l → Ending p (arrivedAt (startMachine s) l)
+      → ((u : ℕ) → a ≤ u → u < l → Ending p (arrivedAt (startMachine s) u) → ⊥) → own (suc l) ≤ 9 * length (x .entries) + 4
   commit-rate l h k none = same? a l (λ z. start-only (rw (← z) at k)) (λ ne. go (underway l (omega arith)))
     where
       go : Underway p (x .entries) (own l) (stateAfter (startMachine s) l) ⊎ Ended l → own (suc l) ≤ 9 * length (x .entries) + 4
       go (inl w) =
           let now : Underway p (x .entries) (own l) (arrivedAt (startMachine s) l) = underway-arrived (arrived-at (startMachine s) l) w in
-          rw (own-runs (who c) p a l h (k .runs)) (exchange-rate (now .ran) (below-status c l p (running-foremost (k .runs))) (rw (one-exchange (k .inside) (now .inside)) at (k .ends)))
+          rw (own-runs (who c) p a l h (k .runs))
+          (exchange-rate (now .ran) (below-status c l p (running-foremost (k .runs))) (rw (one-exchange (k .inside) (now .inside)) at (k .ends)))
       go (inr d) = absurd (none (d .tick) (d .after) (d .before) (d .ending))

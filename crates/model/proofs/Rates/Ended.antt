@@ -10,7 +10,9 @@ use Rattle.model.specs.Rates.{ownBefore}
 use Rattle.model.specs.Arguments.{Arguments}
 use Rattle.model.proofs.Lists.{same?, impossible}
 use Rattle.model.proofs.History.Advance.{Changed}
-use Rattle.model.proofs.History.Moves.{Settling, Moves, staysOutside, begun, goesOn, answers, readEnds, swapCommits, swapEnds, swapCommitsAndEnds, swapRejected, transactionCommits, transactionEnds, transactionCommitsAndEnds, nothingTouched, endsSpent}
+use Rattle.model.proofs.History.Moves.{Settling, Moves, staysOutside, begun, goesOn, answers, readEnds}
+use Rattle.model.proofs.History.Moves.{swapCommits, swapEnds, swapCommitsAndEnds, swapRejected, transactionCommits}
+use Rattle.model.proofs.History.Moves.{transactionEnds, transactionCommitsAndEnds, nothingTouched, endsSpent}
 use Rattle.model.proofs.History.Noted.{latestOf, noted-nothing, noted-begins, noted-amends}
 use Rattle.model.proofs.History.Linked.{Open, OpenBy}
 use Rattle.model.proofs.Rates.Timely.{Rate, RateBy}
@@ -31,7 +33,8 @@ module _ (who : ℕ → Running) (u p : ℕ) (h : History) (size : length (h .be
   same-in-time h′ e = record { ended = λ a l o is z. k .ended a l o (sym (e a) ∙ is) z }
 
   -- operation n is o afterwards
-  changed-in-time : {h′ : History} {n : ℕ} {o : Operation} → Changed h h′ n o → ((l : ℕ) → o .last ≡ some l → Rate (o .arguments) (ownBefore who (o .task) n (suc l))) → InTime who h′
+  changed-in-time : {h′ : History} {n : ℕ} {o : Operation} → Changed h h′ n o
+      → ((l : ℕ) → o .last ≡ some l → Rate (o .arguments) (ownBefore who (o .task) n (suc l))) → InTime who h′
   changed-in-time {n = n} {o} c f = record {
     ended = λ a l q is z. same? a n
         (λ e. let same : o ≡ q = the-same (sym (c .here) ∙ (rw e at is)) in rw (e, ← same) (f l (rw (← same) at z)))
@@ -48,11 +51,15 @@ module _ (who : ℕ → Running) (u p : ℕ) (h : History) (size : length (h .be
     stays-in-time : f (o .operation) .last ≡ none → InTime who (noted u p (amends f) h)
     stays-in-time n = changed-in-time (noted-amends u p h size f (o .is)) (λ l z. not-some (sym n ∙ z))
 
-    ends-in-time : f (o .operation) .task ≡ o .operation .task → f (o .operation) .arguments ≡ o .operation .arguments → f (o .operation) .last ≡ some u → Rate a (ownBefore who p (latestOf h p) (suc u)) → InTime who (noted u p (amends f) h)
-    ends-in-time t g e r = changed-in-time (noted-amends u p h size f (o .is)) (λ l z. let same : u ≡ l = the-same (sym e ∙ z) in rw (g ∙ o .arguments, t ∙ o .task, ← same) r)
+    ends-in-time : f (o .operation) .task ≡ o .operation .task → f (o .operation) .arguments ≡ o .operation .arguments
+        → f (o .operation) .last ≡ some u → Rate a (ownBefore who p (latestOf h p) (suc u)) → InTime who (noted u p (amends f) h)
+    ends-in-time t g e r =
+        changed-in-time (noted-amends u p h size f (o .is))
+        (λ l z. let same : u ≡ l = the-same (sym e ∙ z) in rw (g ∙ o .arguments, t ∙ o .task, ← same) r)
 
   -- `rate` of the operation that this tick ends
-  pub in-time : {g g′ : Option Arguments} {b b′ : Bool} {e : Event} {s : Settling} → Moves u g b e s g′ b′ → OpenBy h p g b → (g′ ≡ none → RateBy g (ownBefore who p (latestOf h p) (suc u))) → InTime who (noted u p e h)
+  pub in-time : {g g′ : Option Arguments} {b b′ : Bool} {e : Event} {s : Settling} → Moves u g b e s g′ b′ → OpenBy h p g b
+      → (g′ ≡ none → RateBy g (ownBefore who p (latestOf h p) (suc u))) → InTime who (noted u p e h)
   in-time staysOutside o rate = nothing-in-time
   in-time (begun {a = a}) o rate = begins-in-time a
   in-time goesOn o rate = nothing-in-time

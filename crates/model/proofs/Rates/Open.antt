@@ -9,8 +9,11 @@ use Rattle.model.specs.History.{Operation, History, operationAt, Event, 
 use Rattle.model.specs.Arguments.{Arguments}
 use Rattle.model.proofs.Lists.{same?}
 use Rattle.model.proofs.History.Advance.{Changed}
-use Rattle.model.proofs.History.Moves.{Settling, Moves, staysOutside, begun, goesOn, answers, readEnds, swapCommits, swapEnds, swapCommitsAndEnds, swapRejected, transactionCommits, transactionEnds, transactionCommitsAndEnds, nothingTouched, endsSpent}
-use Rattle.model.proofs.History.Noted.{latestOf, newOperation, noted-nothing, latest-nothing, noted-begins, latest-begins, latest-begins-else, noted-amends, latest-amends}
+use Rattle.model.proofs.History.Moves.{Settling, Moves, staysOutside, begun, goesOn, answers, readEnds}
+use Rattle.model.proofs.History.Moves.{swapCommits, swapEnds, swapCommitsAndEnds, swapRejected, transactionCommits}
+use Rattle.model.proofs.History.Moves.{transactionEnds, transactionCommitsAndEnds, nothingTouched, endsSpent}
+use Rattle.model.proofs.History.Noted.{latestOf, newOperation, noted-nothing, latest-nothing, noted-begins}
+use Rattle.model.proofs.History.Noted.{latest-begins, latest-begins-else, noted-amends, latest-amends}
 use Rattle.model.proofs.History.Linked.{Open, OpenBy}
 use Rattle.model.proofs.Rates.Ended.{not-some, the-same}
 
@@ -23,10 +26,13 @@ pub record Unended (h : History) (inside : ℕ → Option Arguments) : Type 0 wh
   pub stands : (a : ℕ) (o : Operation) → operationAt h a ≡ some o → o .last ≡ none → Stands h inside a o
 
 -- tick u of task p
-module _ (u p : ℕ) (h : History) (size : length (h .began) ≡ u) (below : p < length (h .latest)) (inside inside′ : ℕ → Option Arguments) (else : (q : ℕ) → q ≢ p → inside′ q ≡ inside q) (k : Unended h inside) where
+module _ (u p : ℕ) (h : History) (size : length (h .began) ≡ u) (below : p < length (h .latest)) (inside inside′ : ℕ → Option Arguments)
+    (else : (q : ℕ) → q ≢ p → inside′ q ≡ inside q) (k : Unended h inside) where
   -- an operation of another task
-  other-stands : {h′ : History} {a : ℕ} {o : Operation} → ((q : ℕ) → q ≢ p → latestOf h′ q ≡ latestOf h q) → operationAt h a ≡ some o → o .last ≡ none → o .task ≢ p → Stands h′ inside′ a o
-  other-stands {a = a} {o} l is n ne = let s = k .stands a o is n in record { latest = l (o .task) ne ∙ s .latest; arguments = else (o .task) ne ∙ s .arguments }
+  other-stands : {h′ : History} {a : ℕ} {o : Operation} → ((q : ℕ) → q ≢ p → latestOf h′ q ≡ latestOf h q) → operationAt h a ≡ some o → o .last ≡ none
+      → o .task ≢ p → Stands h′ inside′ a o
+  other-stands {a = a} {o} l is n ne =
+      let s = k .stands a o is n in record { latest = l (o .task) ne ∙ s .latest; arguments = else (o .task) ne ∙ s .arguments }
 
   -- task p is outside, so that it has none
   outside-none : (a : ℕ) {o : Operation} → inside p ≡ none → operationAt h a ≡ some o → o .last ≡ none → o .task ≢ p
@@ -43,13 +49,17 @@ module _ (u p : ℕ) (h : History) (size : length (h .began) ≡ u) (below : p <
   nothing-inside g = record {
     stands = λ a o is n.
         let s = k .stands a o (sym (noted-nothing u p h size a) ∙ is) n in
-        record { latest = latest-nothing u p h size (o .task) ∙ s .latest; arguments = same? (o .task) p (λ e. rw e (g ∙ (rw e at (s .arguments)))) (λ ne. else (o .task) ne ∙ s .arguments) };
+        record {
+          latest = latest-nothing u p h size (o .task) ∙ s .latest;
+          arguments = same? (o .task) p (λ e. rw e (g ∙ (rw e at (s .arguments)))) (λ ne. else (o .task) ne ∙ s .arguments);
+        };
   }
 
   begins-unended : (a : Arguments) → inside p ≡ none → inside′ p ≡ some a → Unended (noted u p (begins a) h) inside′
   begins-unended a g g′ = record {
     stands = λ b o is n. same? b u
-        (λ e. let same : newOperation p a ≡ o = the-same (sym (c .here) ∙ (rw e at is)) in rw (← same, e) (record { latest = latest-begins u p h size a below; arguments = g′ }))
+        (λ e. let same : newOperation p a ≡ o = the-same (sym (c .here) ∙ (rw e at is)) in
+        rw (← same, e) (record { latest = latest-begins u p h size a below; arguments = g′ }))
         (λ ne. let was = sym (c .else b ne) ∙ is in other-stands (latest-begins-else u p h size a) was n (outside-none b g was n));
   }
     where
@@ -69,11 +79,15 @@ module _ (u p : ℕ) (h : History) (size : length (h .began) ≡ u) (below : p <
         let was = sym (changed .else b ne) ∙ is in
         other-stands (λ r d. latest-amends u p h size f r) was n (λ e. ne (sym (k .stands b q was n .latest) ∙ ap (latestOf h) e))
 
-    stays-unended : f (o .operation) .task ≡ o .operation .task → f (o .operation) .arguments ≡ o .operation .arguments → inside′ p ≡ some a → Unended h′ inside′
+    stays-unended : f (o .operation) .task ≡ o .operation .task → f (o .operation) .arguments ≡ o .operation .arguments → inside′ p ≡ some a
+        → Unended h′ inside′
     stays-unended t g i = record {
       stands = λ b q is n. same? b (latestOf h p)
           (λ e. let same : f (o .operation) ≡ q = the-same (sym (changed .here) ∙ (rw e at is)) in
-          rw (← same) (record { latest = ap (latestOf h′) (t ∙ o .task) ∙ latest-amends u p h size f p ∙ sym e; arguments = ap inside′ (t ∙ o .task) ∙ i ∙ ap some (sym (g ∙ o .arguments)) }))
+          rw (← same) (record {
+            latest = ap (latestOf h′) (t ∙ o .task) ∙ latest-amends u p h size f p ∙ sym e;
+            arguments = ap inside′ (t ∙ o .task) ∙ i ∙ ap some (sym (g ∙ o .arguments));
+          }))
           (λ ne. else-stands b q ne is n);
     }
 
@@ -84,7 +98,8 @@ module _ (u p : ℕ) (h : History) (size : length (h .began) ≡ u) (below : p <
           (λ ne. else-stands b q ne is n);
     }
 
-  pub unended : {g g′ : Option Arguments} {b b′ : Bool} {e : Event} {s : Settling} → Moves u g b e s g′ b′ → OpenBy h p g b → inside p ≡ g → inside′ p ≡ g′ → Unended (noted u p e h) inside′
+  pub unended : {g g′ : Option Arguments} {b b′ : Bool} {e : Event} {s : Settling} → Moves u g b e s g′ b′ → OpenBy h p g b → inside p ≡ g
+      → inside′ p ≡ g′ → Unended (noted u p e h) inside′
   unended staysOutside o i i′ = nothing-outside i
   unended (begun {a = a}) o i i′ = begins-unended a i i′
   unended goesOn o i i′ = nothing-inside (i′ ∙ sym i)

@@ -9,7 +9,8 @@ use lib.Dec.{leb}
 use borrow.Author.Tests.{le-leb, lt-leb, eq-eqb, ne-eqb}
 use Rattle.model.specs.Command.{Release}
 use Rattle.model.specs.Job.{Task}
-use Rattle.model.specs.Machine.{Machine, Running, nobody, running, runningOf, moveAny, move, tick, over, noneToCome, nobody?, runBy, run, arrive, enter}
+use Rattle.model.specs.Machine.{Machine, Running, nobody, running, runningOf, moveAny, move}
+use Rattle.model.specs.Machine.{tick, over, noneToCome, nobody?, runBy, run, arrive, enter}
 use Rattle.model.specs.Rates.{inTick, runningIn, isTask, oneIf, onlyIf, sumBefore, ownBefore}
 use Rattle.model.proofs.Lists.{test?}
 use Rattle.model.proofs.Fit.Elements.{and-left, and-right}
@@ -125,7 +126,8 @@ after m (suc u) = test? (over (run u m)) (λ e. inr (stays e (alike (after m u))
     stays : over (run u m) ≡ true → Alike (run u m) (stateAfter m u) → (over (run (suc u) m) ≡ true) × Alike (run (suc u) m) (stateAfter m (suc u))
     stays e k =
         let idle = over-tick (stateAfter m u) (sym (over-alike k) ∙ e) in
-        rw (run-last u m, e) (e, record { memory = k .memory ∙ sym (idle .memory); tasks = k .tasks ∙ sym (idle .tasks); releases = k .releases ∙ sym (idle .releases) })
+        rw (run-last u m, e)
+        (e, record { memory = k .memory ∙ sym (idle .memory); tasks = k .tasks ∙ sym (idle .tasks); releases = k .releases ∙ sym (idle .releases) })
 
     goes : over (run u m) ≡ false → After m u → After m (suc u)
     goes e (inl k) = inl (rw (run-last u m, e) (ap tick k))

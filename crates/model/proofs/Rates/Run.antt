@@ -66,7 +66,8 @@ module _ {who : ℕ → Running} {h : History} where
     unended = subst (λ (g : ℕ → Option Arguments). Unended h g) (sym (fun-ext (λ p. given-arrived (a .task p)))) (k .unended);
   }
     where
-      go : (p : ℕ) → JobArrived (taskAt (m .tasks) p) (taskAt (m′ .tasks) p .job) → Timely (ownBefore who p (latestOf h p) n) p (m .memory) (taskAt (m′ .tasks) p .job .phase)
+      go : (p : ℕ) → JobArrived (taskAt (m .tasks) p) (taskAt (m′ .tasks) p .job)
+          → Timely (ownBefore who p (latestOf h p) n) p (m .memory) (taskAt (m′ .tasks) p .job .phase)
       go p (waits e) = rw e (k .timely p)
       go p (starts i e) = rw e tt
 
@@ -78,7 +79,8 @@ module _ {who : ℕ → Running} {h : History} where
       timely = λ p. rw (none-runs m e p) tt;
       ended = nothing-in-time who (m .now) 0 h (linked .linked .size) (k .ended);
       unended =
-          unended (m .now) 0 h (linked .linked .size) (omega (arith, linked .linked .latest)) (givenTo (m .tasks)) (givenTo (m .tasks)) (λ q ne. refl) (k .unended)
+          unended (m .now) 0 h (linked .linked .size) (omega (arith, linked .linked .latest)) (givenTo (m .tasks)) (givenTo (m .tasks)) (λ q ne. refl)
+          (k .unended)
           (staysOutside {b = false} {c = false}) tt none-inside none-inside;
     }
       where
@@ -103,13 +105,18 @@ module _ {who : ℕ → Running} {h : History} where
       own-timely =
           let n = next-of linked p r in
           inside? (task .job .phase)
-          (λ i. timely-inside p (after .memory) (after .task .job .phase) (λ j. on (n .stays i)) (timely-next p (m .memory) task below _ (task .job .phase) refl (k .timely p) i .inside))
-          (λ o. timely-inside p (after .memory) (after .task .job .phase) (λ j. go o (n .since j)) (timely-first p (m .memory) task below (task .job .phase) refl o))
+          (λ i. timely-inside p (after .memory) (after .task .job .phase) (λ j. on (n .stays i))
+          (timely-next p (m .memory) task below _ (task .job .phase) refl (k .timely p) i .inside))
+          (λ o. timely-inside p (after .memory) (after .task .job .phase) (λ j. go o (n .since j))
+          (timely-first p (m .memory) task below (task .job .phase) refl o))
         where
-          on : latestOf (observed m (running p) h) p ≡ latestOf h p → ownBefore who p (latestOf (observed m (running p) h) p) (suc (m .now)) ≡ suc (ownBefore who p (latestOf h p) (m .now))
+          on : latestOf (observed m (running p) h) p ≡ latestOf h p
+              → ownBefore who p (latestOf (observed m (running p) h) p) (suc (m .now)) ≡ suc (ownBefore who p (latestOf h p) (m .now))
           on e = rw e one-more
 
-          go : (InOperation (given (task .job .phase)) → ⊥) → InOperation (given (task .job .phase)) ⊎ (latestOf (observed m (running p) h) p ≡ m .now) → ownBefore who p (latestOf (observed m (running p) h) p) (suc (m .now)) ≡ 1
+          go : (InOperation (given (task .job .phase)) → ⊥)
+              → InOperation (given (task .job .phase)) ⊎ (latestOf (observed m (running p) h) p ≡ m .now)
+              → ownBefore who p (latestOf (observed m (running p) h) p) (suc (m .now)) ≡ 1
           go o (inl i) = absurd (o i)
           go o (inr e) = rw e first-one
 
@@ -120,7 +127,9 @@ module _ {who : ℕ → Running} {h : History} where
 
       ended-runs : InTime who (observed m (running p) h)
       unfolding observed
-      ended-runs = in-time who (m .now) p h (linked .linked .size) (k .ended) (moves (m .now) p (m .memory) task (task .job .phase) refl) (linked .linked .opened p) rate
+      ended-runs =
+          in-time who (m .now) p h (linked .linked .size) (k .ended) (moves (m .now) p (m .memory) task (task .job .phase) refl)
+          (linked .linked .opened p) rate
 
       abbrev next : List Task
       next = replace (m .tasks) p (counting ticks (after .task))
@@ -128,18 +137,26 @@ module _ {who : ℕ → Running} {h : History} where
       open-runs : Unended (observed m (running p) h) (givenTo next)
       unfolding observed
       open-runs =
-          unended (m .now) p h (linked .linked .size) (omega (arith, linked .linked .latest, linked .size, r .below)) (givenTo (m .tasks)) (givenTo next)
+          unended (m .now) p h (linked .linked .size) (omega (arith, linked .linked .latest, linked .size, r .below)) (givenTo (m .tasks))
+          (givenTo next)
           (λ q ne. rw (replace-other noTask (m .tasks) p q (counting ticks (after .task)) ne) refl) (k .unended)
-          (moves (m .now) p (m .memory) task (task .job .phase) refl) (linked .linked .opened p) refl (rw (replace-same noTask (m .tasks) p (counting ticks (after .task)) (r .below)) refl)
+          (moves (m .now) p (m .memory) task (task .job .phase) refl) (linked .linked .opened p) refl
+          (rw (replace-same noTask (m .tasks) p (counting ticks (after .task)) (r .below)) refl)
 
       rated-runs : Rated who (suc (m .now)) (move m (running p)) (observed m (running p) h)
       unfolding move
       rated-runs = record { timely = timely; ended = ended-runs; unended = open-runs }
         where
-          timely : (q : ℕ) → Timely (ownBefore who q (latestOf (observed m (running p) h) q) (suc (m .now))) q (move m (running p) .memory) (taskAt (move m (running p) .tasks) q .job .phase)
+          timely : (q : ℕ)
+              → Timely (ownBefore who q (latestOf (observed m (running p) h) q) (suc (m .now))) q (move m (running p) .memory)
+              (taskAt (move m (running p) .tasks) q .job .phase)
           timely q = same? q p
               (λ e. rw (e, replace-same noTask (m .tasks) p (counting ticks (after .task)) (r .below)) own-timely)
-              (λ ne. rw (replace-other noTask (m .tasks) p q (counting ticks (after .task)) ne, next-of linked p r .other q ne, own-waits who q (latestOf h q) (m .now) (other-task (who (m .now)) ne w))
+              (λ ne. rw (
+                replace-other noTask (m .tasks) p q (counting ticks (after .task)) ne,
+                next-of linked p r .other q ne,
+                own-waits who q (latestOf h q) (m .now) (other-task (who (m .now)) ne w),
+              )
               (timely-others _ q (m .memory) _ (taskAt (m .tasks) q .job .phase) (status-stays p q ne (m .memory) task) (k .timely q)))
 
 -- EVERY TICK
@@ -156,7 +173,9 @@ module _ {s : Sheet} (c : SheetFit s) where
     now = arrivedAt (startMachine s) t
 
     rated-at : Rated who (now .now) now (historyAfter (startMachine s) t)
-    rated-at = subst (λ (u : ℕ). Rated who u now (historyAfter (startMachine s) t)) (sym (arrived-now (started c) t)) (rated-arrived (arrived-at (startMachine s) t) k)
+    rated-at =
+        subst (λ (u : ℕ). Rated who u now (historyAfter (startMachine s) t)) (sym (arrived-now (started c) t))
+        (rated-arrived (arrived-at (startMachine s) t) k)
 
     step : (r : Running) → runningOf now ≡ r → Rated who (suc (now .now)) (move now r) (observed now r (historyAfter (startMachine s) t))
     step nobody e = rated-idle (arrived-linked (started c) t) rated-at e
@@ -168,7 +187,8 @@ module _ {s : Sheet} (c : SheetFit s) where
     rated-next =
         subst (λ (z : Machine). Rated who (suc t) z (historyAfter (startMachine s) (suc t))) (sym (state-next (startMachine s) t))
         (subst (λ (z : History). Rated who (suc t) (move now (runningOf now)) z) (sym (history-next (startMachine s) t))
-        (subst (λ (u : ℕ). Rated who (suc u) (move now (runningOf now)) (observed now (runningOf now) (historyAfter (startMachine s) t))) (arrived-now (started c) t)
+        (subst (λ (u : ℕ). Rated who (suc u) (move now (runningOf now)) (observed now (runningOf now) (historyAfter (startMachine s) t)))
+        (arrived-now (started c) t)
         (step (runningOf now) refl)))
 
   pub rated : (t : ℕ) → Rated who t (stateAfter (startMachine s) t) (historyAfter (startMachine s) t)

@@ -12,7 +12,9 @@ use Rattle.model.specs.Job.{Task}
 use Rattle.model.specs.Machine.{statement}
 use Rattle.model.proofs.Lists.{same?, test?, replace-same, replace-other, replace-past}
 use Rattle.model.proofs.Exchanges.Act.{Act, memoryAfter}
-use Rattle.model.proofs.Exchanges.Outcome.{Decides, commits, refuses, Cleans, renews, passes, gives-back, leaves, marks-after, Outcome, starts, tests-done, tests-on, loads, looks-own, looks-other, fetches, saves-differing, saves-to-mark, saves, fails, marks, installs, misses, decides, decides-last, cleans, cleans-last, cleans-to-mark, outcome}
+use Rattle.model.proofs.Exchanges.Outcome.{Decides, commits, refuses, Cleans, renews, passes, gives-back, leaves, marks-after, Outcome, starts}
+use Rattle.model.proofs.Exchanges.Outcome.{tests-done, tests-on, loads, looks-own, looks-other, fetches, saves-differing, saves-to-mark, saves}
+use Rattle.model.proofs.Exchanges.Outcome.{fails, marks, installs, misses, decides, decides-last, cleans, cleans-last, cleans-to-mark, outcome}
 use Rattle.model.proofs.Demand3.Acts.{Touches, nothing, looks, exchanges, touches}
 use Rattle.model.proofs.Demand3.Acts.{loads as loadsWord}
 

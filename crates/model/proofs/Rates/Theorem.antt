@@ -51,7 +51,8 @@ module _ {s : Sheet} (c : SheetFit s) where
       let k = rated c (r .ticks) in
       let stands = k .unended .stands a o (rw (r .history) at is) e in
       rw (r .state, now-is (started c) (r .ticks), same-own (o .task) a (r .ticks), ← stands .latest)
-      (timely-fewer _ (o .task) _ (taskAt (stateAfter (startMachine s) (r .ticks) .tasks) (o .task) .job .phase) (o .arguments) (stands .arguments) (k .timely (o .task)))
+      (timely-fewer _ (o .task) _ (taskAt (stateAfter (startMachine s) (r .ticks) .tasks) (o .task) .job .phase) (o .arguments) (stands .arguments)
+      (k .timely (o .task)))
 
   -- the reading of a bank word
   reading-in : {p u : ℕ} (d : ReadsBank (startMachine s) p u) → bank.In (arrivedAt (startMachine s) u) p (d .access) (d .step)
@@ -107,11 +108,23 @@ module _ {s : Sheet} (c : SheetFit s) where
   committing-in {p} {u} d = record { transaction = d .transaction; phase = rw (in-tick (startMachine s) u .tasks) at (d .phase) }
 
   ending : {p u : ℕ} → Ends (startMachine s) p u → Ending p (arrivedAt (startMachine s) u)
-  ending {p} {u} k = record { runs = sym (same-runs u) ∙ k .does .runs; exchange = k .does .exchange; inside = committing-in (k .does); memory = k .memory; yes? = k .yes?; ends = rw (in-tick (startMachine s) u .memory) at (k .ends) }
+  ending {p} {u} k = record {
+    runs = sym (same-runs u) ∙ k .does .runs;
+    exchange = k .does .exchange;
+    inside = committing-in (k .does);
+    memory = k .memory;
+    yes? = k .yes?;
+    ends = rw (in-tick (startMachine s) u .memory) at (k .ends);
+  }
 
   ends-at : {p u : ℕ} → Ending p (arrivedAt (startMachine s) u) → Ends (startMachine s) p u
   ends-at {p} {u} k = record {
-    does = record { runs = same-runs u ∙ k .runs; transaction = k .inside .transaction; exchange = k .exchange; phase = rw (in-tick (startMachine s) u .tasks) (k .inside .phase) };
+    does = record {
+      runs = same-runs u ∙ k .runs;
+      transaction = k .inside .transaction;
+      exchange = k .exchange;
+      phase = rw (in-tick (startMachine s) u .tasks) (k .inside .phase);
+    };
     memory = k .memory;
     yes? = k .yes?;
     ends = rw (in-tick (startMachine s) u .memory) (k .ends);
@@ -138,10 +151,14 @@ rates sheet limit e =
     let c = accepted-fit sheet e in
     record {
       used = used c limit;
-      read = λ a w l o is g z. subst (λ (args : Arguments). Rate args (ownTicks (startMachine (sheetOf sheet)) (o .task) a l)) g (operation-rate c limit a l o is z);
-      readCutShort = λ a w o is g z. subst (λ (args : Arguments). Fewer args (ownAtEnd limit (startMachine (sheetOf sheet)) (o .task) a)) g (operation-fewer c limit a o is z);
-      swap = λ a l ps o is g z. subst (λ (args : Arguments). Rate args (ownTicks (startMachine (sheetOf sheet)) (o .task) a l)) g (operation-rate c limit a l o is z);
-      swapCutShort = λ a ps o is g z. subst (λ (args : Arguments). Fewer args (ownAtEnd limit (startMachine (sheetOf sheet)) (o .task) a)) g (operation-fewer c limit a o is z);
+      read = λ a w l o is g z.
+          subst (λ (args : Arguments). Rate args (ownTicks (startMachine (sheetOf sheet)) (o .task) a l)) g (operation-rate c limit a l o is z);
+      readCutShort = λ a w o is g z.
+          subst (λ (args : Arguments). Fewer args (ownAtEnd limit (startMachine (sheetOf sheet)) (o .task) a)) g (operation-fewer c limit a o is z);
+      swap = λ a l ps o is g z.
+          subst (λ (args : Arguments). Rate args (ownTicks (startMachine (sheetOf sheet)) (o .task) a l)) g (operation-rate c limit a l o is z);
+      swapCutShort = λ a ps o is g z.
+          subst (λ (args : Arguments). Fewer args (ownAtEnd limit (startMachine (sheetOf sheet)) (o .task) a)) g (operation-fewer c limit a o is z);
       bankRead = λ p a l done load h last since. bank-in-time c p a load l h last since;
       bankReadCutShort = λ p a n done load h since. bank-in-fewer c p a load n h since;
       commit = λ p a l k done first h last since. exchange-in-time c p a k first l h last since;

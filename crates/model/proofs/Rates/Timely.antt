@@ -14,9 +14,12 @@ use Rattle.model.specs.Machine.{readBy, swapBy, plainTick, statement, pa
 use Rattle.model.specs.History.{Event}
 use Rattle.model.specs.Arguments.{Arguments, readOf, swapOf, transactionOf, untilCommit}
 use Rattle.model.proofs.Lists.{impossible}
-use Rattle.model.proofs.Exchanges.Rates.{Reads, at-first, goes-on, reading-rate, reading-ends, Ran, before-start, own-tick, others, exchange-rate, exchange-ends}
+use Rattle.model.proofs.Exchanges.Rates.{Reads, at-first, goes-on, reading-rate, reading-ends, Ran}
+use Rattle.model.proofs.Exchanges.Rates.{before-start, own-tick, others, exchange-rate, exchange-ends}
 use Rattle.model.proofs.History.Exchange.{pairsOf, Follows, follows}
-use Rattle.model.proofs.History.Moves.{given, Settling, Moves, staysOutside, begun, goesOn, answers, readEnds, swapCommits, swapEnds, swapCommitsAndEnds, swapRejected, transactionCommits, transactionEnds, transactionCommitsAndEnds, nothingTouched, endsSpent}
+use Rattle.model.proofs.History.Moves.{given, Settling, Moves, staysOutside, begun, goesOn, answers, readEnds}
+use Rattle.model.proofs.History.Moves.{swapCommits, swapEnds, swapCommitsAndEnds, swapRejected, transactionCommits}
+use Rattle.model.proofs.History.Moves.{transactionEnds, transactionCommitsAndEnds, nothingTouched, endsSpent}
 use Rattle.model.proofs.History.Statement.{moves}
 use Rattle.model.proofs.History.Linked.{InOperation}
 
@@ -73,7 +76,8 @@ pub timely-fewer : (t p : ℕ) (m : Memory) (f : Phase) (a : Arguments) → give
 timely-fewer t p m idle a e h = not-none (sym e)
 timely-fewer t p m plain a e h = not-none (sym e)
 timely-fewer t p m (reading r w s) a e h = let z : readOf w ≡ a = cc in rw (← z) (reading-ends h)
-timely-fewer t p m (exchanging r x) a e h = let z : swapOf (pairsOf x) ≡ a = cc in rw (← z, ← h .pairs, length-map (h .entries) pairOf) (exchange-ends (h .ran))
+timely-fewer t p m (exchanging r x) a e h =
+    let z : swapOf (pairsOf x) ≡ a = cc in rw (← z, ← h .pairs, length-map (h .entries) pairOf) (exchange-ends (h .ran))
 timely-fewer t p m (transacting x s) a e h = let z : transactionOf (x .kept) (untilCommit (x .commands)) ≡ a = cc in rw (← z) tt
 
 -- TASK p'S OWN STATEMENT: it is in time afterwards, and if its operation ends, that took no more than it may
@@ -81,7 +85,8 @@ pub record TimelyNext (g : Option Arguments) (t p : ℕ) (m : Memory) (f : Phase
   pub inside : Timely t p m f
   pub ended : given f ≡ none → RateBy g t
 
-done-timely : (l : List BodyCommand) (u : Task) (rs : List ℕ) (ps : List Entry) (cs : List ℕ) (t p : ℕ) (m : Memory) → Timely t p m (doneBy l u rs ps cs .job .phase)
+done-timely : (l : List BodyCommand) (u : Task) (rs : List ℕ) (ps : List Entry) (cs : List ℕ) (t p : ℕ) (m : Memory)
+    → Timely t p m (doneBy l u rs ps cs .job .phase)
 unfolding doneBy
 done-timely [] u rs ps cs t p m = tt
 done-timely (c ∷ l) u rs ps cs t p m = tt
@@ -108,7 +113,8 @@ moves-stay transactionCommitsAndEnds = tt
 moves-stay nothingTouched = tt
 moves-stay endsSpent = tt
 
-transaction-timely : (rs : List ℕ) (l : List BodyCommand) (t p : ℕ) (m : Memory) (f : Phase) → Stays (some (transactionOf rs l)) (given f) → Timely t p m f
+transaction-timely : (rs : List ℕ) (l : List BodyCommand) (t p : ℕ) (m : Memory) (f : Phase) → Stays (some (transactionOf rs l)) (given f)
+    → Timely t p m f
 transaction-timely rs l t p m idle e = tt
 transaction-timely rs l t p m plain e = tt
 transaction-timely rs l t p m (reading r w s) e = impossible (cc)
@@ -129,12 +135,14 @@ module _ (p : ℕ) (m : Memory) (u : Task) (below : p < length (m .status)) wher
   plain-timely e (inside c ∷ l) = rw e tt
 
   module _ (t : ℕ) where
-    read-timely : (r w : ℕ) (s : Reading) (o : Read) → readTick m w s ≡ o → Reads w t s → TimelyNext (some (readOf w)) (suc t) p (readBy m u r w o .memory) (readBy m u r w o .task .job .phase)
+    read-timely : (r w : ℕ) (s : Reading) (o : Read) → readTick m w s ≡ o → Reads w t s
+        → TimelyNext (some (readOf w)) (suc t) p (readBy m u r w o .memory) (readBy m u r w o .task .job .phase)
     unfolding readBy
     read-timely r w s (reads s′) e h = record { inside = goes-on m h e; ended = λ z. not-none z }
     read-timely r w s (gives v) e h = record { inside = done-timely (rest (u .job .commands)) u _ _ _ (suc t) p m; ended = λ z. reading-rate h m v e }
 
-    swap-timely : (r : ℕ) (x : Exchange) (o : Exchanged) → exchangeTick p m x (x .step) ≡ o → InExchange t p m x → TimelyNext (some (swapOf (pairsOf x))) (suc t) p (swapBy u r x o .memory) (swapBy u r x o .task .job .phase)
+    swap-timely : (r : ℕ) (x : Exchange) (o : Exchanged) → exchangeTick p m x (x .step) ≡ o → InExchange t p m x
+        → TimelyNext (some (swapOf (pairsOf x))) (suc t) p (swapBy u r x o .memory) (swapBy u r x o .task .job .phase)
     unfolding swapBy
     swap-timely r x (goes m′ x′) e h =
         let k : Follows p m x (x .step) (goes m′ x′) = subst (λ (o : Exchanged). Follows p m x (x .step) o) e (follows p m x (x .step)) in
@@ -144,15 +152,22 @@ module _ (p : ℕ) (m : Memory) (u : Task) (below : p < length (m .status)) wher
       ended = λ z. rw (← h .pairs, length-map (h .entries) pairOf) (exchange-rate (h .ran) below e);
     }
 
-    pub timely-next : (f : Phase) → u .job .phase ≡ f → Timely t p m f → InOperation (given f) → TimelyNext (given f) (suc t) p (statement p m u f .memory) (statement p m u f .task .job .phase)
+    pub timely-next : (f : Phase) → u .job .phase ≡ f → Timely t p m f → InOperation (given f)
+        → TimelyNext (given f) (suc t) p (statement p m u f .memory) (statement p m u f .task .job .phase)
     unfolding statement
     timely-next idle e h i = absurd i
     timely-next plain e h i = absurd i
     timely-next (reading r w s) e h i = read-timely r w s (readTick m w s) refl h
     timely-next (exchanging r x) e h i = swap-timely r x (exchangeTick p m x (x .step)) refl h
-    timely-next (transacting x s) e h i = record { inside = transaction-timely (x .kept) (untilCommit (x .commands)) (suc t) p (statement p m u (transacting x s) .memory) (statement p m u (transacting x s) .task .job .phase) (moves-stay (moves 0 p m u (transacting x s) e)); ended = λ z. tt }
+    timely-next (transacting x s) e h i = record {
+      inside =
+          transaction-timely (x .kept) (untilCommit (x .commands)) (suc t) p (statement p m u (transacting x s) .memory)
+          (statement p m u (transacting x s) .task .job .phase) (moves-stay (moves 0 p m u (transacting x s) e));
+      ended = λ z. tt;
+    }
 
-  pub timely-first : (f : Phase) → u .job .phase ≡ f → (InOperation (given f) → ⊥) → Timely 1 p (statement p m u f .memory) (statement p m u f .task .job .phase)
+  pub timely-first : (f : Phase) → u .job .phase ≡ f → (InOperation (given f) → ⊥)
+      → Timely 1 p (statement p m u f .memory) (statement p m u f .task .job .phase)
   unfolding statement
   timely-first idle e n = rw e tt
   timely-first plain e n = plain-timely e (u .job .commands)

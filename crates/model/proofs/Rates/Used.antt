@@ -41,15 +41,20 @@ start-ticks s p = none-at-first 0 (s .bodies) (8 - length (tasksFrom 0 (s .bodie
 
 module _ {s : Sheet} (c : SheetFit s) where
   -- a statement uses one tick more
-  statement-ticks : (t p : ℕ) → Foremost (arrivedAt (startMachine s) t) p → statement p (arrivedAt (startMachine s) t .memory) (taskAt (arrivedAt (startMachine s) t .tasks) p) (taskAt (arrivedAt (startMachine s) t .tasks) p .job .phase) .task .counts .ticks ≡ taskAt (arrivedAt (startMachine s) t .tasks) p .counts .ticks
+  statement-ticks : (t p : ℕ) → Foremost (arrivedAt (startMachine s) t) p
+      → statement p (arrivedAt (startMachine s) t .memory) (taskAt (arrivedAt (startMachine s) t .tasks) p)
+      (taskAt (arrivedAt (startMachine s) t .tasks) p .job .phase) .task .counts .ticks
+      ≡ taskAt (arrivedAt (startMachine s) t .tasks) p .counts .ticks
   statement-ticks t p r =
       let k = holds-at c t (holds c t) in
       let l = arrived-linked (started c) t in
       let now = value-now c t (holds c t) in
       let f = k .fit .task p (declared-task c l k now p r) in
-      statement-fit (c .blocks) (k .fit .memory) (taskAt (arrivedAt (startMachine s) t .tasks) p) (f .registers) (f .copies) p (ready c l k now p r .job) .ticks
+      statement-fit (c .blocks) (k .fit .memory) (taskAt (arrivedAt (startMachine s) t .tasks) p) (f .registers) (f .copies) p
+      (ready c l k now p r .job) .ticks
 
-  next-ticks : (t p : ℕ) → taskAt (arrivedAt (startMachine s) t .tasks) p .counts .ticks ≡ ownBefore (who c) p 0 t → (r : Running) → who c t ≡ r → taskAt (move (arrivedAt (startMachine s) t) r .tasks) p .counts .ticks ≡ ownBefore (who c) p 0 (suc t)
+  next-ticks : (t p : ℕ) → taskAt (arrivedAt (startMachine s) t .tasks) p .counts .ticks ≡ ownBefore (who c) p 0 t → (r : Running) → who c t ≡ r
+      → taskAt (move (arrivedAt (startMachine s) t) r .tasks) p .counts .ticks ≡ ownBefore (who c) p 0 (suc t)
   unfolding move
   next-ticks t p k nobody e = k ∙ sym (own-waits (who c) p 0 t (rw e refl))
   next-ticks t p k (running q) e =
@@ -57,10 +62,12 @@ module _ {s : Sheet} (c : SheetFit s) where
       let u = counting ticks (statement q (m .memory) (taskAt (m .tasks) q) (taskAt (m .tasks) q .job .phase) .task) in
       let r = running-foremost e in
       same? p q
-      (λ z. rw (z, replace-same noTask (m .tasks) q u (r .below)) (ap suc (statement-ticks t q r ∙ (rw z at k)) ∙ sym (own-runs (who c) q 0 t (omega arith) e)))
+      (λ z. rw (z, replace-same noTask (m .tasks) q u (r .below))
+      (ap suc (statement-ticks t q r ∙ (rw z at k)) ∙ sym (own-runs (who c) q 0 t (omega arith) e)))
       (λ ne. rw (replace-other noTask (m .tasks) q p u ne) (k ∙ sym (own-waits (who c) p 0 t (other-task (who c t) ne e))))
 
   pub ticks-used : (t p : ℕ) → taskAt (stateAfter (startMachine s) t .tasks) p .counts .ticks ≡ ownBefore (who c) p 0 t
   unfolding stateAfter ownBefore
   ticks-used zero p = start-ticks s p
-  ticks-used (suc t) p = rw (state-next (startMachine s) t) (next-ticks t p (arrived-at (startMachine s) t .task p .ticks ∙ ticks-used t p) (who c t) refl)
+  ticks-used (suc t) p =
+      rw (state-next (startMachine s) t) (next-ticks t p (arrived-at (startMachine s) t .task p .ticks ∙ ticks-used t p) (who c t) refl)

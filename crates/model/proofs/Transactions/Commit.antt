@@ -34,11 +34,16 @@ pub record Committed (m n : Memory) (copies : List ℕ) (ts : List Touched) : Ty
   pub words : (c : ℕ) → c < 32 → currentOf n c ≡ currentOf m c
   pub stores : n .stores ≡ m .stores
 
-pub committed : {m n : Memory} (copies : List ℕ) (ts : List Touched) {es : List Entry} → SamePairs es (gather copies 0 ts) → Swapped m n es → n .stores ≡ m .stores → Committed m n copies ts
+pub committed : {m n : Memory} (copies : List ℕ) (ts : List Touched) {es : List Entry} → SamePairs es (gather copies 0 ts) → Swapped m n es
+    → n .stores ≡ m .stores → Committed m n copies ts
 committed {m} {n} copies ts {es} S X st =
     record {
-      was = λ b t. let g = gathered copies 0 ts b b (omega arith) t in rw (S .cell (g .number), S .old (g .number), g .is) at (X .old (g .number) (rw (S .size) (g .below)));
-      now = λ b t. let g = gathered copies 0 ts b b (omega arith) t in rw (S .cell (g .number), S .new (g .number), g .is) at (X .new (g .number) (rw (S .size) (g .below)));
+      was = λ b t.
+          let g = gathered copies 0 ts b b (omega arith) t in
+          rw (S .cell (g .number), S .old (g .number), g .is) at (X .old (g .number) (rw (S .size) (g .below)));
+      now = λ b t.
+          let g = gathered copies 0 ts b b (omega arith) t in
+          rw (S .cell (g .number), S .new (g .number), g .is) at (X .new (g .number) (rw (S .size) (g .below)));
       others = λ b t. X .others (bank b) (λ e lt q.
           let g = named e lt in
           let y : g .number ≡ b = omega (arith, g .cell, S .cell e) in
@@ -61,7 +66,8 @@ committed-nothing m copies ts u =
       stores = refl;
     }
 
-module _ {m n : Memory} {copies : List ℕ} {ts : List Touched} (C : Committed m n copies ts) (small : (b v k : ℕ) → at untouched ts b ≡ copied v k → at 0 copies k < 256) where
+module _ {m n : Memory} {copies : List ℕ} {ts : List Touched} (C : Committed m n copies ts)
+    (small : (b v k : ℕ) → at untouched ts b ≡ copied v k → at 0 copies k < 256) where
   module _ (b : ℕ) where
     was-at : (t : Touched) → at untouched ts b ≡ t → touched? t ≡ true → bankIn m b ≡ rememberedOf t
     was-at t e h = rw e at (C .was b (rw e h))
@@ -71,7 +77,8 @@ module _ {m n : Memory} {copies : List ℕ} {ts : List Touched} (C : Committed m
 
   -- versions: the version of a PUT block rises by one, every other bank word stays
   pub committed-raised : (b v k : ℕ) → at untouched ts b ≡ copied v k → versionOf (bankIn n b) ≡ suc (versionOf (bankIn m b))
-  committed-raised b v k e = rw (now-at b (copied v k) e refl, was-at b (copied v k) e refl) (version-bank (suc (versionOf v)) (at 0 copies k) (small b v k e))
+  committed-raised b v k e =
+      rw (now-at b (copied v k) e refl, was-at b (copied v k) e refl) (version-bank (suc (versionOf v)) (at 0 copies k) (small b v k e))
 
   committed-stays : (b : ℕ) → copied? (at untouched ts b) ≡ false → bankIn n b ≡ bankIn m b
   committed-stays b h = go (at untouched ts b) refl h
@@ -90,7 +97,8 @@ module _ {m n : Memory} {copies : List ℕ} {ts : List Touched} (C : Committed m
       go (copied v k) e = raised (committed-raised b v k e)
 
   -- a block after the exchange
-  block-after : (b : ℕ) (t : Touched) (c : Option (List ℕ)) {l : List BodyCommand} → (PutAtWork b l → ⊥) → at untouched ts b ≡ t → SameCopy (m .stores) copies (blockIn m b .values) b l t c → commitBlock c (blockIn m b) ≡ blockIn n b
+  block-after : (b : ℕ) (t : Touched) (c : Option (List ℕ)) {l : List BodyCommand} → (PutAtWork b l → ⊥) → at untouched ts b ≡ t
+      → SameCopy (m .stores) copies (blockIn m b .values) b l t c → commitBlock c (blockIn m b) ≡ blockIn n b
   block-after b untouched none np e h = rw (C .others b (rw e), C .stores)
   block-after b untouched (some vs) np e h = absurd h
   block-after b (remembered v) none np e h = rw (now-at b (remembered v) e refl, was-at b (remembered v) e refl, C .stores)
@@ -115,8 +123,10 @@ none-left : {b : ℕ} {l : List BodyCommand} → untilCommit l ≡ [] → PutAtW
 unfolding untilCommit
 none-left u p = impossible (cc (rw (p .commands) at u))
 
-module _ (s : Sheet) (fits : length (s .words) ≤ 32) {m n : Memory} {copies registers answers : List ℕ} {l : List BodyCommand} {x : Transaction} {i : Inner}
-    (B : Blocks (length (s .blocks)) (x .used) (x .blocks)) (P : PassFacts (length (s .blocks)) m copies registers l x i answers) (left : untilCommit l ≡ [])
+module _ (s : Sheet) (fits : length (s .words) ≤ 32) {m n : Memory} {copies registers answers : List ℕ} {l : List BodyCommand} {x : Transaction}
+    {i : Inner}
+    (B : Blocks (length (s .blocks)) (x .used) (x .blocks)) (P : PassFacts (length (s .blocks)) m copies registers l x i answers)
+    (left : untilCommit l ≡ [])
     (C : Committed m n copies (x .blocks)) (small : (b v k : ℕ) → touchedOf x b ≡ copied v k → at 0 copies k < 256) where
   block-at : (k : Memory) (b : ℕ) → b < length (s .blocks) → at noBlock (contentsOf s k .blocks) b ≡ blockIn k b
   block-at k b lt = at-each noBlock (length (s .blocks)) 0 (blockIn k) b lt ∙ ap (blockIn k) (omega arith)
@@ -140,7 +150,8 @@ module _ (s : Sheet) (fits : length (s .words) ≤ 32) {m n : Memory} {copies re
         let y : at noBlock (contentsOf s m .blocks) b ≡ blockIn m b = block-at m b l₂ in
         at-commit (contentsOf s m .blocks) (q .copies) b l₁
         ∙ ap (λ (z : Block). commitBlock (at none (q .copies) b) z) y
-        ∙ block-after C small b (touchedOf x b) (at none (q .copies) b) (none-left left) refl (subst (λ (z : Block). SameCopy (m .stores) copies (z .values) b l (touchedOf x b) (at none (q .copies) b)) y (S .sameCopies b))
+        ∙ block-after C small b (touchedOf x b) (at none (q .copies) b) (none-left left) refl
+        (subst (λ (z : Block). SameCopy (m .stores) copies (z .values) b l (touchedOf x b) (at none (q .copies) b)) y (S .sameCopies b))
         ∙ sym (block-at n b l₂))
 
     words-after : contentsOf s m .words ≡ contentsOf s n .words
@@ -155,4 +166,5 @@ module _ (s : Sheet) (fits : length (s .words) ≤ 32) {m n : Memory} {copies re
   commits-whole =
       let w = P .way (contentsOf s m .blocks) agrees in
       let e : passOf (contentsOf s m .blocks) (x .kept) (untilCommit (x .commands)) ≡ w .pass = sym (rw left at (w .leads)) in
-      plain-transaction (x .kept) (untilCommit (x .commands)) (contentsOf s m) ∙ ap (λ (q : Pass). commits (contentsOf s m) q) e ∙ after (w .pass) (w .beside)
+      plain-transaction (x .kept) (untilCommit (x .commands)) (contentsOf s m) ∙ ap (λ (q : Pass). commits (contentsOf s m) q) e
+      ∙ after (w .pass) (w .beside)

@@ -10,7 +10,8 @@ use lib.Dec.{eqb}
 use lib.ListN.{length}
 use Rattle.model.specs.Lists.{at}
 use Rattle.model.specs.Word.{Memory, statusOf, currentOf}
-use Rattle.model.specs.Exchange.{Step, start, test, load, look, fetch, fail, mark, install, commit, save, clean, cleanMark, Exchange, Exchanged, ends, saidYes, commitSaidYes}
+use Rattle.model.specs.Exchange.{Step, start, test, load, look, fetch, fail, mark, install, commit, save}
+use Rattle.model.specs.Exchange.{clean, cleanMark, Exchange, Exchanged, ends, saidYes, commitSaidYes}
 use Rattle.model.specs.Job.{Transaction, committing, transacting, Task, Turn, turn, rest, Deed}
 use Rattle.model.specs.Transaction.{bank, stays, takenBack, transactionTick, committingBy, committedIf}
 use Rattle.model.specs.History.{Operation, eventOf}
@@ -48,7 +49,8 @@ pub record CommitsNow (blocks p : ℕ) (m : Memory) (t : Task) (o : Operation) (
 -- what a statement does to blocks and copy slots: nothing, or it commits a transaction
 pub data Effect (blocks p : ℕ) (m : Memory) (t : Task) (o : Operation) (n : Memory) (t′ : Task) : Type 0 where
   quiet : (TransactionYes p m t → ⊥) → ((b : ℕ) → bankIn n b ≡ bankIn m b) → slotsOf t′ ≡ slotsOf t → Effect blocks p m t o n t′
-  commits : (y : TransactionYes p m t) → CommitsNow blocks p m t o n y → slotsOf t ≡ t .copies → slotsOf t′ ≡ takenBack (t .copies) (y .transaction .blocks) → Effect blocks p m t o n t′
+  commits : (y : TransactionYes p m t) → CommitsNow blocks p m t o n y → slotsOf t ≡ t .copies
+      → slotsOf t′ ≡ takenBack (t .copies) (y .transaction .blocks) → Effect blocks p m t o n t′
 
 -- a statement of task t with its latest operation o leaves the turn u and the operation o′
 pub record Stated (blocks p : ℕ) (m : Memory) (t : Task) (o : Operation) (u : Turn) (o′ : Operation) : Type 0 where
@@ -67,22 +69,28 @@ step-operation p now true o = record { arguments = refl; answers = refl }
 step-operation p now false o = record { arguments = refl; answers = refl }
 
 -- no cell changes unless the Commit says yes
-calm : {p : ℕ} {m n : Memory} {x : Transaction} {e : Exchange} → saysYes p m (e .step) ≡ false → Cells p m (transacting x (committing e)) n → (c : ℕ) → currentOf n c ≡ currentOf m c
+calm : {p : ℕ} {m n : Memory} {x : Transaction} {e : Exchange} → saysYes p m (e .step) ≡ false → Cells p m (transacting x (committing e)) n → (c : ℕ)
+    → currentOf n c ≡ currentOf m c
 calm ny (same f h) = h
 calm {p} {m} {e = e} ny (swapped y Y i S) = let z : e ≡ y = cc (Y .exchange) in absurd (says-not p m (e .step) ny (rw (← z) at (Y .step)) (Y .status))
 
-module _ {words blocks p : ℕ} {m : Memory} {t : Task} {x : Transaction} {e : Exchange} {o : Operation} (phase : t .job .phase ≡ transacting x (committing e))
-    (fit : TransactionFit words blocks (t .copies) (t .job .commands) (t .job .pairs) x (committing e)) (T : TransactionFacts blocks m (t .copies) (t .job .registers) (t .job .commands) x (committing e) o) where
+module _ {words blocks p : ℕ} {m : Memory} {t : Task} {x : Transaction} {e : Exchange} {o : Operation}
+    (phase : t .job .phase ≡ transacting x (committing e))
+    (fit : TransactionFit words blocks (t .copies) (t .job .commands) (t .job .pairs) x (committing e))
+    (T : TransactionFacts blocks m (t .copies) (t .job .registers) (t .job .commands) x (committing e) o) where
   not-now : saysYes p m (e .step) ≡ false → TransactionYes p m t → ⊥
   not-now ny Y = let z : e ≡ Y .exchange = cc (phase, Y .phase) in says-not p m (e .step) ny (rw (← z) at (Y .step)) (Y .status)
 
-  goes-stated : {n : Memory} {d : Deed} (y : Exchange) {o′ : Operation} → saidYes (y .step) ≡ saidYes (e .step) → saysYes p m (e .step) ≡ false → ((c : ℕ) → currentOf n c ≡ currentOf m c) → n .stores ≡ m .stores → SameOperation o o′
+  goes-stated : {n : Memory} {d : Deed} (y : Exchange) {o′ : Operation} → saidYes (y .step) ≡ saidYes (e .step) → saysYes p m (e .step) ≡ false
+      → ((c : ℕ) → currentOf n c ≡ currentOf m c) → n .stores ≡ m .stores → SameOperation o o′
       → Stated blocks p m t o (turn n (stays t x (committing y)) d) o′
   goes-stated {n} {d} y ey ny h st E =
       record {
         facts = record {
           arguments = E .arguments ∙ T .arguments;
-          pass = λ f. rw (E .answers) (inner-step (committing y) tt (pass-apart A x (T .pass (sym ey ∙ f) .past) (committing e) fit (λ w l. impossible (cc)) (T .pass (sym ey ∙ f))));
+          pass = λ f.
+              rw (E .answers) (inner-step (committing y) tt
+              (pass-apart A x (T .pass (sym ey ∙ f) .past) (committing e) fit (λ w l. impossible (cc)) (T .pass (sym ey ∙ f))));
         };
         effect = quiet (not-now ny) (λ b. h (bank b)) (rw (phase, ey));
         stores = λ i ne. rw st;
@@ -91,7 +99,8 @@ module _ {words blocks p : ℕ} {m : Memory} {t : Task} {x : Transaction} {e : E
       A : Apart blocks 4 m n (t .copies)
       A = record { banks = λ b. unchanged (h (bank b)); blockStores = λ b l. rw st; slotStores = λ k l. rw st }
 
-  yes-stated : {n : Memory} {d : Deed} (y : Exchange) {o′ : Operation} → saidYes (y .step) ≡ true → e .step ≡ commit → statusOf m p ≡ 0 → Cells p m (transacting x (committing e)) n → n .stores ≡ m .stores → SameOperation o o′
+  yes-stated : {n : Memory} {d : Deed} (y : Exchange) {o′ : Operation} → saidYes (y .step) ≡ true → e .step ≡ commit → statusOf m p ≡ 0
+      → Cells p m (transacting x (committing e)) n → n .stores ≡ m .stores → SameOperation o o′
       → Stated blocks p m t o (turn n (stays t x (committing y)) d) o′
   unfolding untilCommit
   yes-stated y ey ec es (same f h) st E = absurd (f e (record { exchange = refl; step = ec; status = es }))
@@ -116,13 +125,16 @@ module _ {words blocks p : ℕ} {m : Memory} {t : Task} {x : Transaction} {e : E
       }
 
   -- the last tick, by the answer
-  last-stated : (n : Memory) (now : ℕ) (yes? : Bool) → yes? ≡ saidYes (e .step) → saysYes p m (e .step) ≡ false → Cells p m (transacting x (committing e)) (committingBy t x e (ends n yes?) .memory) → n .stores ≡ m .stores
+  last-stated : (n : Memory) (now : ℕ) (yes? : Bool) → yes? ≡ saidYes (e .step) → saysYes p m (e .step) ≡ false
+      → Cells p m (transacting x (committing e)) (committingBy t x e (ends n yes?) .memory) → n .stores ≡ m .stores
       → Stated blocks p m t o (committingBy t x e (ends n yes?)) (operationAfter p (eventOf now (committingBy t x e (ends n yes?) .did)) o)
   unfolding committingBy eventOf
   last-stated n now true ey ny c st =
       record {
         facts = done-facts blocks n (rest (t .job .commands)) t (t .job .registers) [] (takenBack (t .copies) (x .blocks)) _;
-        effect = quiet (not-now ny) (λ b. calm ny c (bank b)) (done-slots (rest (t .job .commands)) t (t .job .registers) [] (takenBack (t .copies) (x .blocks)) ∙ rw (phase, ← ey));
+        effect =
+            quiet (not-now ny) (λ b. calm ny c (bank b))
+            (done-slots (rest (t .job .commands)) t (t .job .registers) [] (takenBack (t .copies) (x .blocks)) ∙ rw (phase, ← ey));
         stores = λ i ne. rw st;
       }
   last-stated n now false ey ny c st =
@@ -132,7 +144,8 @@ module _ {words blocks p : ℕ} {m : Memory} {t : Task} {x : Transaction} {e : E
         stores = λ i ne. rw st;
       }
 
-  seen-stated : (now : ℕ) {out : Exchanged} → Seen p m e out → Cells p m (transacting x (committing e)) (committingBy t x e out .memory) → Stated blocks p m t o (committingBy t x e out) (operationAfter p (eventOf now (committingBy t x e out .did)) o)
+  seen-stated : (now : ℕ) {out : Exchanged} → Seen p m e out → Cells p m (transacting x (committing e)) (committingBy t x e out .memory)
+      → Stated blocks p m t o (committingBy t x e out) (operationAfter p (eventOf now (committingBy t x e out .did)) o)
   unfolding committingBy eventOf
   seen-stated now (goes-on {y = y} ey ny st) c = goes-stated y ey ny (calm ny c) st (step-operation p now (commitSaidYes e y) o)
   seen-stated now (says-yes {y = y} ey ec es) c = yes-stated y ey ec es c refl (step-operation p now (commitSaidYes e y) o)
@@ -140,10 +153,12 @@ module _ {words blocks p : ℕ} {m : Memory} {t : Task} {x : Transaction} {e : E
     where
       never : {n : Memory} → Cells p m (transacting x (committing e)) n → ⊥
       never (same f h) = f e (record { exchange = refl; step = ec; status = es })
-      never (swapped z Y k S) = let ez : e ≡ z = cc (Y .exchange) in let k′ : e .i ≡ length (e .entries) = rw (← ez) at k in omega (arith, fit .inner .exchange .some)
+      never (swapped z Y k S) =
+          let ez : e ≡ z = cc (Y .exchange) in let k′ : e .i ≡ length (e .entries) = rw (← ez) at k in omega (arith, fit .inner .exchange .some)
   seen-stated now (over {n} {yes?} ey ny st) c = last-stated n now yes? ey ny c st
 
   pub committing-stated : (now : ℕ) → Cells p m (transacting x (committing e)) (transactionTick p m t x (committing e) .memory)
-      → Stated blocks p m t o (transactionTick p m t x (committing e)) (operationAfter p (eventOf now (transactionTick p m t x (committing e) .did)) o)
+      → Stated blocks p m t o (transactionTick p m t x (committing e))
+      (operationAfter p (eventOf now (transactionTick p m t x (committing e) .did)) o)
   unfolding transactionTick
   committing-stated now c = seen-stated now (seen p m e (outcome p m e)) c

@@ -53,7 +53,8 @@ length-commit (b ∷ l) [] = refl
 length-commit (b ∷ l) (none ∷ cs) = ap suc (length-commit l cs)
 length-commit (b ∷ l) (some vs ∷ cs) = ap suc (length-commit l cs)
 
-pub at-commit : (bs : List Block) (cs : List (Option (List ℕ))) (b : ℕ) → b < length bs → at noBlock (commitBlocks bs cs) b ≡ commitBlock (at none cs b) (at noBlock bs b)
+pub at-commit : (bs : List Block) (cs : List (Option (List ℕ))) (b : ℕ) → b < length bs
+    → at noBlock (commitBlocks bs cs) b ≡ commitBlock (at none cs b) (at noBlock bs b)
 unfolding at commitBlocks
 at-commit [] cs b lt = absurd (omega arith)
 at-commit (y ∷ l) [] b lt = refl

@@ -8,7 +8,8 @@ use lib.ListN.{length}
 use Rattle.model.specs.Lists.{at}
 use Rattle.model.specs.Command.{Access, GET, PUT, Block, access, BodyCommand, inside, noBlock}
 use Rattle.model.specs.Word.{Memory, stored, own, current, currentOf, Reading, loading, looking, fetching}
-use Rattle.model.specs.Job.{Touched, untouched, remembered, copied, Transaction, Inner, between, first, copying, again, committing, Phase, idle, plain, reading, exchanging, transacting, Task}
+use Rattle.model.specs.Job.{Touched, untouched, remembered, copied, Transaction, Inner, between, first, copying}
+use Rattle.model.specs.Job.{again, committing, Phase, idle, plain, reading, exchanging, transacting, Task}
 use Rattle.model.specs.Transaction.{bank, versionOf, storeOf, blockOf, rememberedOf, touchedOf, takenBack}
 use Rattle.model.specs.Machine.{taskAt}
 use Rattle.model.specs.Plain.{Pass, passed, passOf}
@@ -86,7 +87,8 @@ SameCopy stores copies values b l (copied v k) none = (values ≡ at [] stores (
 SameCopy stores copies values b l (copied v k) (some vs) = vs ≡ at [] stores (at 0 copies k)
 
 -- the plain machine at q stands where the pass stands
-pub record Beside (stores : List (List ℕ)) (copies registers answers : List ℕ) (ts : List Touched) (l : List BodyCommand) (bs : List Block) (q : Pass) : Type 0 where
+pub record Beside (stores : List (List ℕ)) (copies registers answers : List ℕ) (ts : List Touched) (l : List BodyCommand) (bs : List Block)
+    (q : Pass) : Type 0 where
   pub sameRegisters : q .registers ≡ registers
   pub sameAnswers : q .answers ≡ answers
   pub size : length (q .copies) ≡ length bs
@@ -99,7 +101,8 @@ pub record Agrees (blocks : ℕ) (banks : ℕ → ℕ) (stores : List (List ℕ)
   pub values : (b : ℕ) → touched? (at untouched ts b) ≡ true → at noBlock bs b .values ≡ at [] stores (storeOf (rememberedOf (at untouched ts b)))
 
 -- the plain machine on its way: the commands still to come lead it where the whole transaction leads
-pub record Way (stores : List (List ℕ)) (copies registers answers : List ℕ) (ts : List Touched) (l : List BodyCommand) (kept : List ℕ) (begun : List BodyCommand) (bs : List Block) : Type 0 where
+pub record Way (stores : List (List ℕ)) (copies registers answers : List ℕ) (ts : List Touched) (l : List BodyCommand) (kept : List ℕ)
+    (begun : List BodyCommand) (bs : List Block) : Type 0 where
   pub pass : Pass
   pub beside : Beside stores copies registers answers ts l bs pass
   pub leads : passed bs pass (untilCommit l) ≡ passOf bs kept (untilCommit begun)
@@ -114,7 +117,8 @@ InReading m b (fetching w) = Past (bankIn m b) (current (m .status) (m .saves) w
 -- the first n values stand in the next copy slot, if the bank word is still the remembered one
 abbrev pub CopiedTo : Memory → List ℕ → Transaction → ℕ → ℕ → Type 0
 CopiedTo m copies x b n =
-    bankIn m b ≡ rememberedOf (touchedOf x b) → (o : ℕ) → o < n → stored (m .stores) (at 0 copies (x .used)) o ≡ stored (m .stores) (storeOf (rememberedOf (touchedOf x b))) o
+    bankIn m b ≡ rememberedOf (touchedOf x b) → (o : ℕ) → o < n
+    → stored (m .stores) (at 0 copies (x .used)) o ≡ stored (m .stores) (storeOf (rememberedOf (touchedOf x b))) o
 
 -- the value that GET has fetched
 abbrev pub Fetched : Memory → List ℕ → ℕ → ℕ → ℕ → Touched → Type 0
@@ -135,13 +139,16 @@ AtInner m copies x (committing e) = Unit {0}
 
 -- Before the yes of its exchange: every remembered value is past, and the plain machine passes where the pass stands,
 -- whatever the blocks hold that agrees with what the pass remembers.
-pub record PassFacts (blocks : ℕ) (m : Memory) (copies registers : List ℕ) (l : List BodyCommand) (x : Transaction) (s : Inner) (answers : List ℕ) : Type 0 where
+pub record PassFacts (blocks : ℕ) (m : Memory) (copies registers : List ℕ) (l : List BodyCommand) (x : Transaction) (s : Inner) (answers : List ℕ) :
+    Type 0 where
   pub past : (b : ℕ) → touched? (touchedOf x b) ≡ true → Past (bankIn m b) (rememberedOf (touchedOf x b))
-  pub way : (bs : List Block) → Agrees blocks (bankIn m) (m .stores) (x .blocks) bs → Way (m .stores) copies registers answers (x .blocks) l (x .kept) (x .commands) bs
+  pub way : (bs : List Block) → Agrees blocks (bankIn m) (m .stores) (x .blocks) bs
+      → Way (m .stores) copies registers answers (x .blocks) l (x .kept) (x .commands) bs
   pub inner : AtInner m copies x s
 
 -- THE INVARIANT, with the latest operation of each task; after the yes nothing is said of a pass
-pub record TransactionFacts (blocks : ℕ) (m : Memory) (copies registers : List ℕ) (l : List BodyCommand) (x : Transaction) (s : Inner) (o : Operation) : Type 0 where
+pub record TransactionFacts (blocks : ℕ) (m : Memory) (copies registers : List ℕ) (l : List BodyCommand) (x : Transaction) (s : Inner)
+    (o : Operation) : Type 0 where
   pub arguments : o .arguments ≡ transactionOf (x .kept) (untilCommit (x .commands))
   pub pass : innerCommitted s ≡ false → PassFacts blocks m copies registers l x s (o .answers)
 
@@ -156,7 +163,8 @@ abbrev pub TaskFacts : ℕ → Memory → Task → Operation → Type 0
 TaskFacts blocks m t o = PhaseFacts blocks m (t .copies) (t .job .registers) (t .job .commands) o (t .job .phase)
 
 -- what is said of a task in a transaction
-pub transaction-facts : (blocks : ℕ) (m : Memory) (t : Task) (o : Operation) {x : Transaction} {s : Inner} → t .job .phase ≡ transacting x s → TaskFacts blocks m t o → TransactionFacts blocks m (t .copies) (t .job .registers) (t .job .commands) x s o
+pub transaction-facts : (blocks : ℕ) (m : Memory) (t : Task) (o : Operation) {x : Transaction} {s : Inner} → t .job .phase ≡ transacting x s
+    → TaskFacts blocks m t o → TransactionFacts blocks m (t .copies) (t .job .registers) (t .job .commands) x s o
 transaction-facts blocks m t o e F = subst (λ (f : Phase). PhaseFacts blocks m (t .copies) (t .job .registers) (t .job .commands) o f) e F
 
 -- of a sheet with that many blocks and tasks

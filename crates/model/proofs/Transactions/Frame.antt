@@ -14,7 +14,8 @@ use Rattle.model.specs.Job.{Touched, untouched, remembered, copied, Tran
 use Rattle.model.specs.Transaction.{storeOf, blockOf, rememberedOf, touchedOf}
 use Rattle.model.specs.Plain.{Pass}
 use Rattle.model.proofs.Fit.Transaction.{touched?, TransactionFit}
-use Rattle.model.proofs.Transactions.Facts.{bankIn, Past, Change, SameCopy, Beside, Agrees, Way, InReading, CopiedTo, Fetched, AtInner, PassFacts}
+use Rattle.model.proofs.Transactions.Facts.{bankIn, Past, Change, SameCopy, Beside, Agrees, Way}
+use Rattle.model.proofs.Transactions.Facts.{InReading, CopiedTo, Fetched, AtInner, PassFacts}
 use Rattle.model.proofs.Transactions.Given.{loadedBy, innerReading, SameContent}
 use Rattle.model.proofs.Transactions.Versions.{past-change, still-before}
 
@@ -32,11 +33,14 @@ pub record Blocks (blocks used : ℕ) (ts : List Touched) : Type 0 where
   pub different : (b c v w k : ℕ) → at untouched ts b ≡ copied v k → at untouched ts c ≡ copied w k → b ≡ c
   pub most : used ≤ 4
 
-pub blocks-fit : {words blocks : ℕ} {copies : List ℕ} {l : List BodyCommand} {ps : List Entry} {x : Transaction} {s : Inner} → TransactionFit words blocks copies l ps x s → Blocks blocks (x .used) (x .blocks)
-blocks-fit F = record { size = F .touched .size; below = F .touched .below; slot = F .touched .slot; different = F .touched .different; most = F .mostUsed }
+pub blocks-fit : {words blocks : ℕ} {copies : List ℕ} {l : List BodyCommand} {ps : List Entry} {x : Transaction} {s : Inner}
+    → TransactionFit words blocks copies l ps x s → Blocks blocks (x .used) (x .blocks)
+blocks-fit F =
+    record { size = F .touched .size; below = F .touched .below; slot = F .touched .slot; different = F .touched .different; most = F .mostUsed }
 
 pub same-copy : (stores stores′ : List (List ℕ)) (copies values : List ℕ) (b : ℕ) (l : List BodyCommand) (t : Touched) (c : Option (List ℕ))
-    → ((v k : ℕ) → t ≡ copied v k → at [] stores′ (at 0 copies k) ≡ at [] stores (at 0 copies k)) → SameCopy stores copies values b l t c → SameCopy stores′ copies values b l t c
+    → ((v k : ℕ) → t ≡ copied v k → at [] stores′ (at 0 copies k) ≡ at [] stores (at 0 copies k)) → SameCopy stores copies values b l t c
+    → SameCopy stores′ copies values b l t c
 same-copy stores stores′ copies values b l untouched none f h = tt
 same-copy stores stores′ copies values b l untouched (some vs) f h = h
 same-copy stores stores′ copies values b l (remembered v) none f h = tt
@@ -44,24 +48,30 @@ same-copy stores stores′ copies values b l (remembered v) (some vs) f h = h
 same-copy stores stores′ copies values b l (copied v k) none f h = (h .0 ∙ sym (f v k refl), h .1)
 same-copy stores stores′ copies values b l (copied v k) (some vs) f h = h ∙ sym (f v k refl)
 
-module _ {blocks upto : ℕ} {m n : Memory} {copies : List ℕ} (A : Apart blocks upto m n copies) {used : ℕ} {ts : List Touched} (B : Blocks blocks used ts) where
-  pub beside-apart : used ≤ upto → {registers answers : List ℕ} {l : List BodyCommand} {bs : List Block} {q : Pass} → Beside (m .stores) copies registers answers ts l bs q → Beside (n .stores) copies registers answers ts l bs q
+module _ {blocks upto : ℕ} {m n : Memory} {copies : List ℕ} (A : Apart blocks upto m n copies) {used : ℕ} {ts : List Touched}
+    (B : Blocks blocks used ts) where
+  pub beside-apart : used ≤ upto → {registers answers : List ℕ} {l : List BodyCommand} {bs : List Block} {q : Pass}
+      → Beside (m .stores) copies registers answers ts l bs q → Beside (n .stores) copies registers answers ts l bs q
   beside-apart le {l = l} {bs = bs} {q = q} S =
       record {
         sameRegisters = S .sameRegisters;
         sameAnswers = S .sameAnswers;
         size = S .size;
-        sameCopies = λ b. same-copy (m .stores) (n .stores) copies (at noBlock bs b .values) b l (at untouched ts b) (at none (q .copies) b) (λ v k e. A .slotStores k (omega (arith, B .slot b v k e))) (S .sameCopies b);
+        sameCopies = λ b.
+            same-copy (m .stores) (n .stores) copies (at noBlock bs b .values) b l (at untouched ts b) (at none (q .copies) b)
+            (λ v k e. A .slotStores k (omega (arith, B .slot b v k e))) (S .sameCopies b);
       }
 
   module _ (past : (b : ℕ) → touched? (at untouched ts b) ≡ true → Past (bankIn m b) (rememberedOf (at untouched ts b))) where
     -- a remembered value that stands now stood before, and its store is the same
-    pub stood : (b : ℕ) → touched? (at untouched ts b) ≡ true → bankIn n b ≡ rememberedOf (at untouched ts b) → bankIn m b ≡ rememberedOf (at untouched ts b)
+    pub stood : (b : ℕ) → touched? (at untouched ts b) ≡ true → bankIn n b ≡ rememberedOf (at untouched ts b)
+        → bankIn m b ≡ rememberedOf (at untouched ts b)
     stood b t e = still-before (past b t) (A .banks b) e
 
     pub same-store : (b : ℕ) → touched? (at untouched ts b) ≡ true → bankIn n b ≡ rememberedOf (at untouched ts b)
         → at [] (n .stores) (storeOf (rememberedOf (at untouched ts b))) ≡ at [] (m .stores) (storeOf (rememberedOf (at untouched ts b)))
-    same-store b t e = subst (λ (v : ℕ). at [] (n .stores) (storeOf v) ≡ at [] (m .stores) (storeOf v)) (stood b t e) (A .blockStores b (B .below b t))
+    same-store b t e =
+        subst (λ (v : ℕ). at [] (n .stores) (storeOf v) ≡ at [] (m .stores) (storeOf v)) (stood b t e) (A .blockStores b (B .below b t))
 
     pub agreed : {bs : List Block} → Agrees blocks (bankIn n) (n .stores) ts bs → Agrees blocks (bankIn m) (m .stores) ts bs
     agreed G = record { size = G .size; still = λ b t. stood b t (G .still b t); values = λ b t. G .values b t ∙ same-store b t (G .still b t) }
@@ -80,7 +90,8 @@ module _ {blocks : ℕ} {m n : Memory} {copies : List ℕ} (A : Apart blocks 4 m
   module _ (B : Blocks blocks (x .used) (x .blocks)) where
     copied-apart : (b k : ℕ) → touched? (touchedOf x b) ≡ true → x .used < 4 → CopiedTo m copies x b k → CopiedTo n copies x b k
     copied-apart b k t left h e o lt =
-        ap (λ (vs : List ℕ). at 0 vs o) (A .slotStores (x .used) left) ∙ h (stood A B past b t e) o lt ∙ sym (ap (λ (vs : List ℕ). at 0 vs o) (same-store A B past b t e))
+        ap (λ (vs : List ℕ). at 0 vs o) (A .slotStores (x .used) left) ∙ h (stood A B past b t e) o lt
+        ∙ sym (ap (λ (vs : List ℕ). at 0 vs o) (same-store A B past b t e))
 
     fetched-apart : (b o v : ℕ) (t : Touched) → touchedOf x b ≡ t → Fetched m copies b o v t → Fetched n copies b o v t
     fetched-apart b o v untouched et h = h
@@ -97,7 +108,8 @@ module _ {blocks : ℕ} {m n : Memory} {copies : List ℕ} (A : Apart blocks 4 m
   reading-apart b (looking w) f h = rw (f w refl .value) (past-change h (A .banks b))
   reading-apart b (fetching w) f h = (rw (f w refl .value) (past-change (h .0) (A .banks b)), f w refl .counts ∙ h .1)
 
-  inner-apart : {words : ℕ} {l : List BodyCommand} {ps : List Entry} (s : Inner) → TransactionFit words blocks copies l ps x s → ((w : Word) → loadedBy (innerReading s) ≡ some w → SameContent m n w) → AtInner m copies x s → AtInner n copies x s
+  inner-apart : {words : ℕ} {l : List BodyCommand} {ps : List Entry} (s : Inner) → TransactionFit words blocks copies l ps x s
+      → ((w : Word) → loadedBy (innerReading s) ≡ some w → SameContent m n w) → AtInner m copies x s → AtInner n copies x s
   inner-apart between F f h = tt
   inner-apart (first a r) F f h = reading-apart (blockOf a) r f h
   inner-apart (copying a k) F f h = let t = F .inner .first in copied-apart (blocks-fit F) (blockOf a) k (rw (t .read)) (t .left) h
@@ -105,7 +117,8 @@ module _ {blocks : ℕ} {m n : Memory} {copies : List ℕ} (A : Apart blocks 4 m
   inner-apart (again (PUT b o r) v s) F f h = let t = F .inner .again in copied-apart (blocks-fit F) b 8 (rw (t .read)) (t .left) h
   inner-apart (committing e) F f h = tt
 
-  pub pass-apart : {words : ℕ} {l : List BodyCommand} {ps : List Entry} {registers answers : List ℕ} (s : Inner) → TransactionFit words blocks copies l ps x s → ((w : Word) → loadedBy (innerReading s) ≡ some w → SameContent m n w)
+  pub pass-apart : {words : ℕ} {l : List BodyCommand} {ps : List Entry} {registers answers : List ℕ} (s : Inner)
+      → TransactionFit words blocks copies l ps x s → ((w : Word) → loadedBy (innerReading s) ≡ some w → SameContent m n w)
       → PassFacts blocks m copies registers l x s answers → PassFacts blocks n copies registers l x s answers
   pass-apart s F f P =
       record {

@@ -36,7 +36,8 @@ one-later : {copies : List ℕ} {es : List Entry} {b : ℕ} {t : Touched} (e : E
 unfolding at
 one-later e P = record { number = suc (P .number); below = omega (arith, P .below); is = P .is }
 
-pub gathered : (copies : List ℕ) (first : ℕ) (ts : List Touched) (n b : ℕ) → b ≡ first + n → touched? (at untouched ts n) ≡ true → PairOf copies (gather copies first ts) b (at untouched ts n)
+pub gathered : (copies : List ℕ) (first : ℕ) (ts : List Touched) (n b : ℕ) → b ≡ first + n → touched? (at untouched ts n) ≡ true
+    → PairOf copies (gather copies first ts) b (at untouched ts n)
 unfolding at gather
 gathered copies first [] n b q t = absurd (true≢false (sym t))
 gathered copies first (untouched ∷ l) zero b q t = absurd (true≢false (sym t))
@@ -50,7 +51,8 @@ block-later : {first : ℕ} {ts : List Touched} {c : ℕ} (t : Touched) → Bank
 unfolding at
 block-later t B = record { number = suc (B .number); touched = B .touched; cell = B .cell ∙ omega arith }
 
-pub only-touched : (copies : List ℕ) (first : ℕ) (ts : List Touched) (i : ℕ) → i < length (gather copies first ts) → Bank first ts (entryOf (gather copies first ts) i .cell)
+pub only-touched : (copies : List ℕ) (first : ℕ) (ts : List Touched) (i : ℕ) → i < length (gather copies first ts)
+    → Bank first ts (entryOf (gather copies first ts) i .cell)
 unfolding at gather
 only-touched copies first [] i lt = absurd (omega arith)
 only-touched copies first (untouched ∷ l) i lt = block-later untouched (only-touched copies (suc first) l i lt)
@@ -93,7 +95,8 @@ holder (copied w j ∷ l) k = same? j k
     (λ ne. holder-later (copied w j) (λ v e. let z : j ≡ k = cc in ne z) (holder l k))
 
 -- a slot that no block has stays
-pub slot-stays : (copies : List ℕ) (ts : List Touched) (k : ℕ) → ((b v : ℕ) → at untouched ts b ≢ copied v k) → at 0 (takenBack copies ts) k ≡ at 0 copies k
+pub slot-stays : (copies : List ℕ) (ts : List Touched) (k : ℕ) → ((b v : ℕ) → at untouched ts b ≢ copied v k)
+    → at 0 (takenBack copies ts) k ≡ at 0 copies k
 unfolding at takenBack
 slot-stays copies [] k n = refl
 slot-stays copies (untouched ∷ l) k n = slot-stays copies l k (λ b v. n (suc b) v)
@@ -103,7 +106,8 @@ slot-stays copies (copied w j ∷ l) k n =
     ∙ replace-other 0 copies j k (storeOf w) (λ e. n 0 w (ap (λ (i : ℕ). copied w i) (sym e)))
 
 -- a block's slot takes the block's old store
-pub slot-takes : (copies : List ℕ) (ts : List Touched) (b v k : ℕ) → at untouched ts b ≡ copied v k → ((c w : ℕ) → at untouched ts c ≡ copied w k → c ≡ b) → k < length copies → at 0 (takenBack copies ts) k ≡ storeOf v
+pub slot-takes : (copies : List ℕ) (ts : List Touched) (b v k : ℕ) → at untouched ts b ≡ copied v k
+    → ((c w : ℕ) → at untouched ts c ≡ copied w k → c ≡ b) → k < length copies → at 0 (takenBack copies ts) k ≡ storeOf v
 unfolding at takenBack
 slot-takes copies [] b v k e u lt = impossible (cc)
 slot-takes copies (untouched ∷ l) zero v k e u lt = impossible (cc)
@@ -114,4 +118,5 @@ slot-takes copies (copied w j ∷ l) zero v k e u lt =
     slot-stays (replace copies j (storeOf w)) l k (λ c z y. omega (arith, u (suc c) z y)) ∙ rw (ej, ew) (replace-same 0 copies k (storeOf v) lt)
 slot-takes copies (untouched ∷ l) (suc b) v k e u lt = slot-takes copies l b v k e (λ c w y. omega (arith, u (suc c) w y)) lt
 slot-takes copies (remembered z ∷ l) (suc b) v k e u lt = slot-takes copies l b v k e (λ c w y. omega (arith, u (suc c) w y)) lt
-slot-takes copies (copied z j ∷ l) (suc b) v k e u lt = slot-takes (replace copies j (storeOf z)) l b v k e (λ c w y. omega (arith, u (suc c) w y)) (rw length-replace lt)
+slot-takes copies (copied z j ∷ l) (suc b) v k e u lt =
+    slot-takes (replace copies j (storeOf z)) l b v k e (λ c w y. omega (arith, u (suc c) w y)) (rw length-replace lt)

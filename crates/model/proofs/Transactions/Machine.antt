@@ -1,4 +1,5 @@
--- A statement of the running task keeps the invariant of the transaction layer, and a bank word rises only where a transaction commits that has PUT its block.
+-- A statement of the running task keeps the invariant of the transaction layer, and a bank word rises only where a transaction commits that has PUT
+-- its block.
 use Prim.Native.Nat.{ℕ, _<_, _≤_}
 use mathlib.Core.Bool.{true}
 use mathlib.Core.Path.{_≡_, refl}
@@ -15,7 +16,8 @@ use Rattle.model.specs.History.{Operation, eventOf}
 use Rattle.model.proofs.Lists.{replace-same, replace-other, same?, test?, impossible}
 use Rattle.model.proofs.Fit.Memory.{MemoryFit}
 use Rattle.model.proofs.Fit.Transaction.{copied?}
-use Rattle.model.proofs.Transactions.Facts.{bankIn, transaction-facts, Change, unchanged, slotsOf, block, slot, Owners, TaskFacts, Transactions}
+use Rattle.model.proofs.Transactions.Facts.{bankIn, transaction-facts, Change, unchanged, slotsOf}
+use Rattle.model.proofs.Transactions.Facts.{block, slot, Owners, TaskFacts, Transactions}
 use Rattle.model.proofs.Transactions.Given.{Given}
 use Rattle.model.proofs.Transactions.Frame.{Apart, pass-apart}
 use Rattle.model.proofs.Transactions.Commit.{committed-change}
@@ -42,11 +44,13 @@ pub record Running (words blocks tasks p : ℕ) (m : Memory) (ts : List Task) (o
 
 -- the latest operations after a statement of task p in tick `now`, of the tasks that are in a transaction then
 pub record Later (p now : ℕ) (m : Memory) (ts : List Task) (operations later : ℕ → Operation) : Type 0 where
-  pub mine : (x : Transaction) (s : Inner) → statementOf p m ts .task .job .phase ≡ transacting x s → later p ≡ operationAfter p (eventOf now (statementOf p m ts .did)) (operations p)
+  pub mine : (x : Transaction) (s : Inner) → statementOf p m ts .task .job .phase ≡ transacting x s
+      → later p ≡ operationAfter p (eventOf now (statementOf p m ts .did)) (operations p)
   pub others : (q : ℕ) → q ≢ p → (x : Transaction) (s : Inner) → taskAt ts q .job .phase ≡ transacting x s → later q ≡ operations q
 
 -- facts of a task go by its latest operation only in a transaction
-of-transactions : (blocks : ℕ) (m : Memory) (t : Task) (f : Phase) {o o′ : Operation} → t .job .phase ≡ f → ((x : Transaction) (s : Inner) → t .job .phase ≡ transacting x s → o′ ≡ o) → TaskFacts blocks m t o → TaskFacts blocks m t o′
+of-transactions : (blocks : ℕ) (m : Memory) (t : Task) (f : Phase) {o o′ : Operation} → t .job .phase ≡ f
+    → ((x : Transaction) (s : Inner) → t .job .phase ≡ transacting x s → o′ ≡ o) → TaskFacts blocks m t o → TaskFacts blocks m t o′
 of-transactions blocks m t idle e g F = rw e tt
 of-transactions blocks m t plain e g F = rw e tt
 of-transactions blocks m t (reading r w s) e g F = rw e tt
@@ -54,12 +58,16 @@ of-transactions blocks m t (exchanging r x) e g F = rw e tt
 of-transactions blocks m t (transacting x s) e g F = rw (g x s e) F
 
 -- the copy slots of a transaction that commits lie in bank values
-pub small : {blocks tasks p : ℕ} {m n : Memory} {slots : ℕ → List ℕ} {t : Task} {o : Operation} → p < tasks → Owners blocks tasks (bankIn m) slots → {y : TransactionYes p m t} → CommitsNow blocks p m t o n y → slots p ≡ t .copies
+pub small : {blocks tasks p : ℕ} {m n : Memory} {slots : ℕ → List ℕ} {t : Task} {o : Operation} → p < tasks → Owners blocks tasks (bankIn m) slots
+    → {y : TransactionYes p m t} → CommitsNow blocks p m t o n y → slots p ≡ t .copies
     → (b v k : ℕ) → touchedOf (y .transaction) b ≡ copied v k → at 0 (t .copies) k < 256
-small {p = p} lt D C e b v k u = let h = rw e at (D .below (slot p k) (lt, omega (arith, C .blocksFit .slot b v k u, C .blocksFit .most))) in omega arith
+small {p = p} lt D C e b v k u =
+    let h = rw e at (D .below (slot p k) (lt, omega (arith, C .blocksFit .slot b v k u, C .blocksFit .most))) in omega arith
 
-module _ {words blocks tasks p : ℕ} {m : Memory} {ts : List Task} {operations : ℕ → Operation} (R : Running words blocks tasks p m ts operations) (now : ℕ) where
-  pub stated : Stated blocks p m (taskAt ts p) (operations p) (statementOf p m ts) (operationAfter p (eventOf now (statementOf p m ts .did)) (operations p))
+module _ {words blocks tasks p : ℕ} {m : Memory} {ts : List Task} {operations : ℕ → Operation} (R : Running words blocks tasks p m ts operations)
+    (now : ℕ) where
+  pub stated :
+      Stated blocks p m (taskAt ts p) (operations p) (statementOf p m ts) (operationAfter p (eventOf now (statementOf p m ts .did)) (operations p))
   stated =
       phase-stated
       (record {
@@ -76,16 +84,20 @@ module _ {words blocks tasks p : ℕ} {m : Memory} {ts : List Task} {operations 
   pub bank-changes : (b : ℕ) → Change (bankIn m b) (bankIn (statementOf p m ts .memory) b)
   bank-changes b = go (stated .effect)
     where
-      go : Effect blocks p m (taskAt ts p) (operations p) (statementOf p m ts .memory) (statementOf p m ts .task) → Change (bankIn m b) (bankIn (statementOf p m ts .memory) b)
+      go : Effect blocks p m (taskAt ts p) (operations p) (statementOf p m ts .memory) (statementOf p m ts .task)
+          → Change (bankIn m b) (bankIn (statementOf p m ts .memory) b)
       go (quiet y h e) = unchanged (h b)
       go (commits y C e f) = committed-change (C .cells) (small (R .declared) (R .invariant .owners) C e) b
 
   -- stores are written only in copy slots of the task that runs
-  pub block-stores : (b : ℕ) → b < blocks → at [] (statementOf p m ts .memory .stores) (storeOf (bankIn m b)) ≡ at [] (m .stores) (storeOf (bankIn m b))
-  block-stores b lt = stated .stores (storeOf (bankIn m b)) (λ k l e. impossible (cc (R .invariant .owners .different (block b) (slot p k) lt (R .declared, l) e)))
+  pub block-stores : (b : ℕ) → b < blocks
+      → at [] (statementOf p m ts .memory .stores) (storeOf (bankIn m b)) ≡ at [] (m .stores) (storeOf (bankIn m b))
+  block-stores b lt =
+      stated .stores (storeOf (bankIn m b)) (λ k l e. impossible (cc (R .invariant .owners .different (block b) (slot p k) lt (R .declared, l) e)))
 
   module _ (q : ℕ) (declared : q < tasks) (ne : q ≢ p) where
-    slot-stores : (k : ℕ) → k < 4 → at [] (statementOf p m ts .memory .stores) (at 0 (slotsOf (taskAt ts q)) k) ≡ at [] (m .stores) (at 0 (slotsOf (taskAt ts q)) k)
+    slot-stores : (k : ℕ) → k < 4
+        → at [] (statementOf p m ts .memory .stores) (at 0 (slotsOf (taskAt ts q)) k) ≡ at [] (m .stores) (at 0 (slotsOf (taskAt ts q)) k)
     slot-stores k l = stated .stores (at 0 (slotsOf (taskAt ts q)) k) (λ j i e.
         let z : slot q k ≡ slot p j = R .invariant .owners .different (slot q k) (slot p j) (declared, l) (R .declared, i) e in
         let y : q ≡ p = cc in
@@ -105,7 +117,8 @@ module _ {words blocks tasks p : ℕ} {m : Memory} {ts : List Task} {operations 
           arguments = K .arguments;
           pass = λ ny.
               let own : slotsOf (taskAt ts q) ≡ taskAt ts q .copies = rw (e, ny) in
-              let A : Apart blocks 4 m (statementOf p m ts .memory) (taskAt ts q .copies) = record { banks = bank-changes; blockStores = block-stores; slotStores = λ k l. rw own at (slot-stores k l) } in
+              let A : Apart blocks 4 m (statementOf p m ts .memory) (taskAt ts q .copies) =
+              record { banks = bank-changes; blockStores = block-stores; slotStores = λ k l. rw own at (slot-stores k l) } in
               pass-apart A x (K .pass ny .past) s F (λ w l. R .given .readings q ne w (rw e l)) (K .pass ny);
         })
 
@@ -116,18 +129,28 @@ module _ {words blocks tasks p : ℕ} {m : Memory} {ts : List Task} {operations 
   other-task : (q : ℕ) → q ≢ p → taskAt (replace ts p (counting ticks (statementOf p m ts .task))) q ≡ taskAt ts q
   other-task q ne = replace-other noTask ts p q (counting ticks (statementOf p m ts .task)) ne
 
-  owners-after : Owners blocks tasks (bankIn (statementOf p m ts .memory)) (λ q. slotsOf (taskAt (replace ts p (counting ticks (statementOf p m ts .task))) q))
+  owners-after :
+      Owners blocks tasks (bankIn (statementOf p m ts .memory)) (λ q. slotsOf (taskAt (replace ts p (counting ticks (statementOf p m ts .task))) q))
   owners-after = go (stated .effect)
     where
-      go : Effect blocks p m (taskAt ts p) (operations p) (statementOf p m ts .memory) (statementOf p m ts .task) → Owners blocks tasks (bankIn (statementOf p m ts .memory)) (λ q. slotsOf (taskAt (replace ts p (counting ticks (statementOf p m ts .task))) q))
+      go : Effect blocks p m (taskAt ts p) (operations p) (statementOf p m ts .memory) (statementOf p m ts .task)
+          → Owners blocks tasks (bankIn (statementOf p m ts .memory))
+          (λ q. slotsOf (taskAt (replace ts p (counting ticks (statementOf p m ts .task))) q))
       go (quiet y h e) = owners-stay h (λ q. same? q p (λ k. rw (k, own-task) e) (λ ne. rw (other-task q ne))) (R .invariant .owners)
-      go (commits y C e f) = owners-exchanged p (R .declared) (C .blocksFit) (C .cells) (R .copies) e (rw own-task f) (λ q ne. rw (other-task q ne)) (R .invariant .owners)
+      go (commits y C e f) =
+          owners-exchanged p (R .declared) (C .blocksFit) (C .cells) (R .copies) e (rw own-task f) (λ q ne. rw (other-task q ne))
+          (R .invariant .owners)
 
-  pub statement-keeps : {later : ℕ → Operation} → Later p now m ts operations later → Transactions blocks tasks (statementOf p m ts .memory) (replace ts p (counting ticks (statementOf p m ts .task))) later
+  pub statement-keeps : {later : ℕ → Operation} → Later p now m ts operations later
+      → Transactions blocks tasks (statementOf p m ts .memory) (replace ts p (counting ticks (statementOf p m ts .task))) later
   statement-keeps {later} L =
       record {
         owners = owners-after;
         task = λ q lt. same? q p
-            (λ e. rw (e, own-task) (of-transactions blocks (statementOf p m ts .memory) (statementOf p m ts .task) (statementOf p m ts .task .job .phase) refl (L .mine) (stated .facts)))
-            (λ ne. rw (other-task q ne) (of-transactions blocks (statementOf p m ts .memory) (taskAt ts q) (taskAt ts q .job .phase) refl (L .others q ne) (other-facts q lt ne (taskAt ts q .job .phase) refl)));
+            (λ e. rw (e, own-task)
+            (of-transactions blocks (statementOf p m ts .memory) (statementOf p m ts .task) (statementOf p m ts .task .job .phase) refl (L .mine)
+            (stated .facts)))
+            (λ ne. rw (other-task q ne)
+            (of-transactions blocks (statementOf p m ts .memory) (taskAt ts q) (taskAt ts q .job .phase) refl (L .others q ne)
+            (other-facts q lt ne (taskAt ts q .job .phase) refl)));
       }

@@ -22,7 +22,8 @@ use Rattle.model.proofs.Transactions.Commit.{Committed}
 
 module _ {blocks tasks : ℕ} {banks banks′ : ℕ → ℕ} {slots slots′ : ℕ → List ℕ} where
   -- what an owner has now, another owner had before, and no two the same one
-  pub renamed : (f : Owner → Owner) → ((o : Owner) → Declared blocks tasks o → Declared blocks tasks (f o)) → ((o : Owner) → Declared blocks tasks o → place banks′ slots′ o ≡ place banks slots (f o))
+  pub renamed : (f : Owner → Owner) → ((o : Owner) → Declared blocks tasks o → Declared blocks tasks (f o))
+      → ((o : Owner) → Declared blocks tasks o → place banks′ slots′ o ≡ place banks slots (f o))
       → ((o : Owner) → f (f o) ≡ o) → Owners blocks tasks banks slots → Owners blocks tasks banks′ slots′
   renamed f d p twice D =
       record {
@@ -30,7 +31,8 @@ module _ {blocks tasks : ℕ} {banks banks′ : ℕ → ℕ} {slots slots′ : �
         below = λ o io. rw (p o io) (D .below (f o) (d o io));
       }
 
-  pub owners-stay : ((b : ℕ) → banks′ b ≡ banks b) → ((p : ℕ) → slots′ p ≡ slots p) → Owners blocks tasks banks slots → Owners blocks tasks banks′ slots′
+  pub owners-stay : ((b : ℕ) → banks′ b ≡ banks b) → ((p : ℕ) → slots′ p ≡ slots p) → Owners blocks tasks banks slots
+      → Owners blocks tasks banks′ slots′
   owners-stay eb es D = renamed (λ o. o) (λ o i. i) same (λ o. refl) D
     where
       same : (o : Owner) → Declared blocks tasks o → place banks′ slots′ o ≡ place banks slots o
@@ -38,7 +40,8 @@ module _ {blocks tasks : ℕ} {banks banks′ : ℕ → ℕ} {slots slots′ : �
       same (slot p k) i = rw (es p)
 
 -- the owners as task p needs them
-pub slots-apart : {blocks tasks : ℕ} {m : Memory} {slots : ℕ → List ℕ} (p : ℕ) (copies : List ℕ) → p < tasks → slots p ≡ copies → Owners blocks tasks (bankIn m) slots → SlotsApart blocks m copies
+pub slots-apart : {blocks tasks : ℕ} {m : Memory} {slots : ℕ → List ℕ} (p : ℕ) (copies : List ℕ) → p < tasks → slots p ≡ copies
+    → Owners blocks tasks (bankIn m) slots → SlotsApart blocks m copies
 slots-apart p copies lt e D =
     record {
       fromBlocks = λ b k bl kl q. impossible (cc (D .different (block b) (slot p k) bl (lt, kl) (rw e q)));
@@ -65,8 +68,10 @@ abbrev exchanged : ℕ → List Touched → Owner → Owner
 exchanged p ts (block b) = blockOwner p b (at untouched ts b)
 exchanged p ts (slot q k) = slotOwnerBy (eqb q p) q (holder ts k)
 
-module _ {blocks tasks : ℕ} {m n : Memory} {slots slots′ : ℕ → List ℕ} (p : ℕ) (declared : p < tasks) {copies : List ℕ} {ts : List Touched} {used : ℕ} (B : Blocks blocks used ts)
-    (C : Committed m n copies ts) (size : length copies ≡ 4) (before : slots p ≡ copies) (after : slots′ p ≡ takenBack copies ts) (others : (q : ℕ) → q ≢ p → slots′ q ≡ slots q)
+module _ {blocks tasks : ℕ} {m n : Memory} {slots slots′ : ℕ → List ℕ} (p : ℕ) (declared : p < tasks) {copies : List ℕ} {ts : List Touched} {used : ℕ}
+    (B : Blocks blocks used ts)
+    (C : Committed m n copies ts) (size : length copies ≡ 4) (before : slots p ≡ copies) (after : slots′ p ≡ takenBack copies ts)
+    (others : (q : ℕ) → q ≢ p → slots′ q ≡ slots q)
     (D : Owners blocks tasks (bankIn m) slots) where
   at-most : (b v k : ℕ) → at untouched ts b ≡ copied v k → k < 4
   at-most b v k e = omega (arith, B .slot b v k e, B .most)

@@ -23,7 +23,8 @@ use Rattle.model.proofs.Transactions.Contents.{ext-at}
 use Rattle.model.proofs.Transactions.Steps.{SlotsApart, copy-onward, held}
 
 -- a copy slot is written: blocks keep their stores, and so do the slots below it
-written-apart : {blocks : ℕ} {m : Memory} {copies : List ℕ} → SlotsApart blocks m copies → (k : ℕ) → k < 4 → (o v : ℕ) → Apart blocks k m (setStored m (at 0 copies k) o v) copies
+written-apart : {blocks : ℕ} {m : Memory} {copies : List ℕ} → SlotsApart blocks m copies → (k : ℕ) → k < 4 → (o v : ℕ)
+    → Apart blocks k m (setStored m (at 0 copies k) o v) copies
 written-apart {m = m} {copies = copies} D k lt o v =
     record {
       banks = λ b. unchanged refl;
@@ -32,18 +33,23 @@ written-apart {m = m} {copies = copies} D k lt o v =
     }
 
 -- store i has the first n values of store j; one more is copied
-one-more : (stores : List (List ℕ)) (i j n : ℕ) → i < length stores → n < length (at [] stores i) → ((o : ℕ) → o < n → stored stores i o ≡ stored stores j o)
+one-more : (stores : List (List ℕ)) (i j n : ℕ) → i < length stores → n < length (at [] stores i)
+    → ((o : ℕ) → o < n → stored stores i o ≡ stored stores j o)
     → at [] (replace stores i (replace (at [] stores i) n (stored stores j n))) j ≡ at [] stores j
-    → (o : ℕ) → o < suc n → stored (replace stores i (replace (at [] stores i) n (stored stores j n))) i o ≡ stored (replace stores i (replace (at [] stores i) n (stored stores j n))) j o
+    → (o : ℕ) → o < suc n
+    → stored (replace stores i (replace (at [] stores i) n (stored stores j n))) i o
+    ≡ stored (replace stores i (replace (at [] stores i) n (stored stores j n))) j o
 one-more stores i j n li ln h e o lt = rw (e, replace-same [] stores i (replace (at [] stores i) n (stored stores j n)) li) (same? o n
     (λ q. rw (q, replace-same 0 (at [] stores i) n (stored stores j n) ln))
     (λ ne. replace-other 0 (at [] stores i) n o (stored stores j n) ne ∙ h o (omega arith)))
 
-only-read : (stores : List (List ℕ)) (copies values : List ℕ) (b v : ℕ) (l : List BodyCommand) (c : Option (List ℕ)) → SameCopy stores copies values b l untouched c → SameCopy stores copies values b l (remembered v) c
+only-read : (stores : List (List ℕ)) (copies values : List ℕ) (b v : ℕ) (l : List BodyCommand) (c : Option (List ℕ))
+    → SameCopy stores copies values b l untouched c → SameCopy stores copies values b l (remembered v) c
 only-read stores copies values b v l none h = tt
 only-read stores copies values b v l (some vs) h = h
 
-module _ {blocks : ℕ} {m : Memory} {copies registers answers : List ℕ} {l : List BodyCommand} {x : Transaction} {s : Inner} (b : ℕ) (size : b < length (x .blocks)) (P : PassFacts blocks m copies registers l x s answers) where
+module _ {blocks : ℕ} {m : Memory} {copies registers answers : List ℕ} {l : List BodyCommand} {x : Transaction} {s : Inner} (b : ℕ)
+    (size : b < length (x .blocks)) (P : PassFacts blocks m copies registers l x s answers) where
   module _ (t : Touched) where
     here : at untouched (replace (x .blocks) b t) b ≡ t
     here = replace-same untouched (x .blocks) b t size
@@ -52,7 +58,8 @@ module _ {blocks : ℕ} {m : Memory} {copies registers answers : List ℕ} {l : 
     other c ne = replace-other untouched (x .blocks) b c t ne
 
   -- the reading of a bank word has ended
-  pub remembers : (v : ℕ) → touchedOf x b ≡ untouched → Past (bankIn m b) v → PassFacts blocks m copies registers l (touch x b (remembered v) (x .used)) between answers
+  pub remembers : (v : ℕ) → touchedOf x b ≡ untouched → Past (bankIn m b) v
+      → PassFacts blocks m copies registers l (touch x b (remembered v) (x .used)) between answers
   remembers v u h =
       let here = here (remembered v) in
       let other = other (remembered v) in
@@ -62,25 +69,30 @@ module _ {blocks : ℕ} {m : Memory} {copies registers answers : List ℕ} {l : 
             let w = P .way bs (record {
               size = G .size;
               still = λ c t. same? c b (λ q. absurd (true≢false (sym (rw (q, u) at t)))) (λ ne. rw (other c ne) at (G .still c (rw (other c ne) t)));
-              values = λ c t. same? c b (λ q. absurd (true≢false (sym (rw (q, u) at t)))) (λ ne. rw (other c ne) at (G .values c (rw (other c ne) t)));
+              values =
+                  λ c t. same? c b (λ q. absurd (true≢false (sym (rw (q, u) at t)))) (λ ne. rw (other c ne) at (G .values c (rw (other c ne) t)));
             }) in
             record { pass = w .pass; beside = read bs (w .pass) (w .beside); leads = w .leads };
         inner = tt;
       }
     where
-      read : (bs : List Block) (q : Pass) → Beside (m .stores) copies registers answers (x .blocks) l bs q → Beside (m .stores) copies registers answers (replace (x .blocks) b (remembered v)) l bs q
+      read : (bs : List Block) (q : Pass) → Beside (m .stores) copies registers answers (x .blocks) l bs q
+          → Beside (m .stores) copies registers answers (replace (x .blocks) b (remembered v)) l bs q
       read bs q S =
           record {
             sameRegisters = S .sameRegisters;
             sameAnswers = S .sameAnswers;
             size = S .size;
             sameCopies = λ c. same? c b
-                (λ e. rw (e, here (remembered v)) (only-read (m .stores) copies (at noBlock bs b .values) b v l (at none (q .copies) b) (subst (λ (z : Touched). SameCopy (m .stores) copies (at noBlock bs b .values) b l z (at none (q .copies) b)) u (S .sameCopies b))))
+                (λ e. rw (e, here (remembered v))
+                (only-read (m .stores) copies (at noBlock bs b .values) b v l (at none (q .copies) b)
+                (subst (λ (z : Touched). SameCopy (m .stores) copies (at noBlock bs b .values) b l z (at none (q .copies) b)) u (S .sameCopies b))))
                 (λ ne. rw (other (remembered v) c ne) (S .sameCopies c));
           }
 
   -- the block has been copied: the slot is the block's, and the plain machine has no copy yet
-  pub copies-all : MemoryFit m → SlotsApart blocks m copies → (v : ℕ) → touchedOf x b ≡ remembered v → b < blocks → x .used < 4 → CopiedTo m copies x b 8 → PutAtWork b l
+  pub copies-all : MemoryFit m → SlotsApart blocks m copies → (v : ℕ) → touchedOf x b ≡ remembered v → b < blocks → x .used < 4
+      → CopiedTo m copies x b 8 → PutAtWork b l
       → PassFacts blocks m copies registers l (touch x b (copied v (x .used)) (suc (x .used))) between answers
   copies-all M D v u lt left h p =
       let here = here (copied v (x .used)) in
@@ -108,11 +120,13 @@ module _ {blocks : ℕ} {m : Memory} {copies registers answers : List ℕ} {l : 
           let r : rememberedOf (touchedOf x b) ≡ v = rw u in
           ext-at 0 _ _ (ls ∙ sym lv) (λ o k. rw r at (h (still ∙ sym r) o (omega arith)))
 
-      mine : (values : List ℕ) (c : Option (List ℕ)) → values ≡ at [] (m .stores) (at 0 copies (x .used)) → SameCopy (m .stores) copies values b l (remembered v) c → SameCopy (m .stores) copies values b l (copied v (x .used)) c
+      mine : (values : List ℕ) (c : Option (List ℕ)) → values ≡ at [] (m .stores) (at 0 copies (x .used))
+          → SameCopy (m .stores) copies values b l (remembered v) c → SameCopy (m .stores) copies values b l (copied v (x .used)) c
       mine values none e y = (e, p)
       mine values (some vs) e y = absurd y
 
-      copied-too : (bs : List Block) (q : Pass) → at noBlock bs b .values ≡ at [] (m .stores) (at 0 copies (x .used)) → Beside (m .stores) copies registers answers (x .blocks) l bs q
+      copied-too : (bs : List Block) (q : Pass) → at noBlock bs b .values ≡ at [] (m .stores) (at 0 copies (x .used))
+          → Beside (m .stores) copies registers answers (x .blocks) l bs q
           → Beside (m .stores) copies registers answers (replace (x .blocks) b (copied v (x .used))) l bs q
       copied-too bs q e S =
           record {
@@ -120,28 +134,40 @@ module _ {blocks : ℕ} {m : Memory} {copies registers answers : List ℕ} {l : 
             sameAnswers = S .sameAnswers;
             size = S .size;
             sameCopies = λ c. same? c b
-                (λ y. rw (y, here (copied v (x .used))) (mine (at noBlock bs b .values) (at none (q .copies) b) e (subst (λ (z : Touched). SameCopy (m .stores) copies (at noBlock bs b .values) b l z (at none (q .copies) b)) u (S .sameCopies b))))
+                (λ y. rw (y, here (copied v (x .used)))
+                (mine (at noBlock bs b .values) (at none (q .copies) b) e
+                (subst (λ (z : Touched). SameCopy (m .stores) copies (at noBlock bs b .values) b l z (at none (q .copies) b)) u (S .sameCopies b))))
                 (λ ne. rw (other (copied v (x .used)) c ne) (S .sameCopies c));
           }
 
-module _ {blocks : ℕ} {m : Memory} {copies registers answers : List ℕ} (x : Transaction) (M : MemoryFit m) (D : SlotsApart blocks m copies) (B : Blocks blocks (x .used) (x .blocks)) where
+module _ {blocks : ℕ} {m : Memory} {copies registers answers : List ℕ} (x : Transaction) (M : MemoryFit m) (D : SlotsApart blocks m copies)
+    (B : Blocks blocks (x .used) (x .blocks)) where
   -- one more value is copied
-  pub copies-one : {l : List BodyCommand} {s : Inner} (b n : ℕ) (s′ : Inner) → touched? (touchedOf x b) ≡ true → x .used < 4 → n < 8 → CopiedTo m copies x b n
-      → (CopiedTo (setStored m (at 0 copies (x .used)) n (stored (m .stores) (storeOf (rememberedOf (touchedOf x b))) n)) copies x b (suc n) → AtInner (setStored m (at 0 copies (x .used)) n (stored (m .stores) (storeOf (rememberedOf (touchedOf x b))) n)) copies x s′)
+  pub copies-one : {l : List BodyCommand} {s : Inner} (b n : ℕ) (s′ : Inner) → touched? (touchedOf x b) ≡ true → x .used < 4 → n < 8
+      → CopiedTo m copies x b n
+      → (CopiedTo (setStored m (at 0 copies (x .used)) n (stored (m .stores) (storeOf (rememberedOf (touchedOf x b))) n)) copies x b (suc n)
+      → AtInner (setStored m (at 0 copies (x .used)) n (stored (m .stores) (storeOf (rememberedOf (touchedOf x b))) n)) copies x s′)
       → PassFacts blocks m copies registers l x s answers
-      → PassFacts blocks (setStored m (at 0 copies (x .used)) n (stored (m .stores) (storeOf (rememberedOf (touchedOf x b))) n)) copies registers l x s′ answers
+      → PassFacts blocks (setStored m (at 0 copies (x .used)) n (stored (m .stores) (storeOf (rememberedOf (touchedOf x b))) n)) copies registers l x
+      s′ answers
   copies-one b n s′ t left lt h f P =
       let A = written-apart D (x .used) left n (stored (m .stores) (storeOf (rememberedOf (touchedOf x b))) n) in
       record {
         past = P .past;
-        way = λ bs G. let w = P .way bs (agreed A B (P .past) G) in record { pass = w .pass; beside = beside-apart A B (omega arith) (w .beside); leads = w .leads };
-        inner = f (λ e. one-more (m .stores) (at 0 copies (x .used)) (storeOf (rememberedOf (touchedOf x b))) n (rw (M .stores) (D .below (x .used) left)) (rw (M .store (at 0 copies (x .used)) (D .below (x .used) left)) lt) (h e) (same-store A B (P .past) b t e));
+        way = λ bs G.
+            let w = P .way bs (agreed A B (P .past) G) in
+            record { pass = w .pass; beside = beside-apart A B (omega arith) (w .beside); leads = w .leads };
+        inner =
+            f (λ e. one-more (m .stores) (at 0 copies (x .used)) (storeOf (rememberedOf (touchedOf x b))) n (rw (M .stores) (D .below (x .used) left))
+            (rw (M .store (at 0 copies (x .used)) (D .below (x .used) left)) lt) (h e) (same-store A B (P .past) b t e));
       }
 
   -- a PUT writes into its block's copy
   module _ {l : List BodyCommand} (b o r v k : ℕ) (u : touchedOf x b ≡ copied v k) (k4 : k < 4) where
-    put : (bs : List Block) (q : Pass) → b < length bs → Beside (m .stores) copies registers answers (x .blocks) (inside (access (PUT b o r)) ∷ l) bs q
-        → Beside (replace (m .stores) (at 0 copies k) (replace (at [] (m .stores) (at 0 copies k)) o (at 0 registers r))) copies registers answers (x .blocks) l bs (puts q b (replace (valuesOf bs q b) o (at 0 (q .registers) r)))
+    put : (bs : List Block) (q : Pass) → b < length bs
+        → Beside (m .stores) copies registers answers (x .blocks) (inside (access (PUT b o r)) ∷ l) bs q
+        → Beside (replace (m .stores) (at 0 copies k) (replace (at [] (m .stores) (at 0 copies k)) o (at 0 registers r))) copies registers answers
+        (x .blocks) l bs (puts q b (replace (valuesOf bs q b) o (at 0 (q .registers) r)))
     put bs q size S =
         let vs : List ℕ = replace (valuesOf bs q b) o (at 0 (q .registers) r) in
         record {
@@ -153,20 +179,34 @@ module _ {blocks : ℕ} {m : Memory} {copies registers answers : List ℕ} (x : 
               (λ ne. rw (replace-other none (q .copies) b c (some vs) ne) (theirs c ne));
         }
       where
-        mine : replace (valuesOf bs q b) o (at 0 (q .registers) r) ≡ at [] (replace (m .stores) (at 0 copies k) (replace (at [] (m .stores) (at 0 copies k)) o (at 0 registers r))) (at 0 copies k)
+        mine : replace (valuesOf bs q b) o (at 0 (q .registers) r)
+            ≡ at [] (replace (m .stores) (at 0 copies k) (replace (at [] (m .stores) (at 0 copies k)) o (at 0 registers r))) (at 0 copies k)
         mine =
-            let e : valuesOf bs q b ≡ at [] (m .stores) (at 0 copies k) = held (m .stores) copies (inside (access (PUT b o r)) ∷ l) (at noBlock bs b) b v k (at none (q .copies) b) (subst (λ (z : Touched). SameCopy (m .stores) copies (at noBlock bs b .values) b (inside (access (PUT b o r)) ∷ l) z (at none (q .copies) b)) u (S .sameCopies b)) in
-            rw (replace-same [] (m .stores) (at 0 copies k) (replace (at [] (m .stores) (at 0 copies k)) o (at 0 registers r)) (rw (M .stores) (D .below k k4)), e, S .sameRegisters)
+            let e : valuesOf bs q b ≡ at [] (m .stores) (at 0 copies k) = held (m .stores) copies (inside (access (PUT b o r)) ∷ l) (at noBlock bs b)
+            b v k (at none (q .copies) b)
+            (subst
+            (λ (z : Touched). SameCopy (m .stores) copies (at noBlock bs b .values) b (inside (access (PUT b o r)) ∷ l) z (at none (q .copies) b)) u
+            (S .sameCopies b)) in
+            rw (
+              replace-same [] (m .stores) (at 0 copies k) (replace (at [] (m .stores) (at 0 copies k)) o (at 0 registers r))
+                  (rw (M .stores) (D .below k k4)),
+              e,
+              S .sameRegisters,
+            )
 
-        theirs : (c : ℕ) → c ≢ b → SameCopy (replace (m .stores) (at 0 copies k) (replace (at [] (m .stores) (at 0 copies k)) o (at 0 registers r))) copies (at noBlock bs c .values) c l (at untouched (x .blocks) c) (at none (q .copies) c)
+        theirs : (c : ℕ) → c ≢ b
+            → SameCopy (replace (m .stores) (at 0 copies k) (replace (at [] (m .stores) (at 0 copies k)) o (at 0 registers r))) copies
+            (at noBlock bs c .values) c l (at untouched (x .blocks) c) (at none (q .copies) c)
         theirs c ne =
             same-copy (m .stores) _ copies (at noBlock bs c .values) c l (at untouched (x .blocks) c) (at none (q .copies) c)
             (λ w j e. replace-other [] (m .stores) (at 0 copies k) (at 0 copies j) _ (λ z.
             let y : j ≡ k = D .different j k (omega (arith, B .slot c w j e, B .most)) k4 z in
             ne (B .different c b w v k (rw y at e) u)))
-            (copy-onward (m .stores) copies (at noBlock bs c .values) c (inside (access (PUT b o r)) ∷ l) l (at untouched (x .blocks) c) (at none (q .copies) c) (λ p. ne (let y : b ≡ c = cc (p .commands) in sym y)) (S .sameCopies c))
+            (copy-onward (m .stores) copies (at noBlock bs c .values) c (inside (access (PUT b o r)) ∷ l) l (at untouched (x .blocks) c)
+            (at none (q .copies) c) (λ p. ne (let y : b ≡ c = cc (p .commands) in sym y)) (S .sameCopies c))
 
-  pub writes : {l : List BodyCommand} {s : Inner} (b o r v k : ℕ) → b < blocks → touchedOf x b ≡ copied v k → PassFacts blocks m copies registers (inside (access (PUT b o r)) ∷ l) x s answers
+  pub writes : {l : List BodyCommand} {s : Inner} (b o r v k : ℕ) → b < blocks → touchedOf x b ≡ copied v k
+      → PassFacts blocks m copies registers (inside (access (PUT b o r)) ∷ l) x s answers
       → PassFacts blocks (setStored m (at 0 copies k) o (at 0 registers r)) copies registers l x between answers
   unfolding passed passBy untilCommit
   writes {l} b o r v k lt u P =
@@ -174,6 +214,11 @@ module _ {blocks : ℕ} {m : Memory} {copies registers answers : List ℕ} (x : 
       let A = written-apart D k k4 o (at 0 registers r) in
       record {
         past = P .past;
-        way = λ bs G. let w = P .way bs (agreed A B (P .past) G) in record { pass = passBy bs (w .pass) (inside (access (PUT b o r))); beside = put b o r v k u k4 bs (w .pass) (rw (G .size) lt) (w .beside); leads = w .leads };
+        way = λ bs G.
+            let w = P .way bs (agreed A B (P .past) G) in record {
+              pass = passBy bs (w .pass) (inside (access (PUT b o r)));
+              beside = put b o r v k u k4 bs (w .pass) (rw (G .size) lt) (w .beside);
+              leads = w .leads;
+            };
         inner = tt;
       }

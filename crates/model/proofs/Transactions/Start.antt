@@ -17,7 +17,8 @@ use Rattle.model.proofs.Transactions.Versions.{store-bank}
 
 module _ {s : Sheet} (c : SheetFit s) where
   bank-store : (b : ℕ) → b < length (s .blocks) → storeOf (bankIn (startMemory s) b) ≡ 4 * length (s .bodies) + b
-  bank-store b h = rw (bank-start c b h) (store-bank (at noBlock (s .blocks) b .version) (4 * length (s .bodies) + b) (omega (arith, c .blocks, c .bodies)))
+  bank-store b h =
+      rw (bank-start c b h) (store-bank (at noBlock (s .blocks) b .version) (4 * length (s .bodies) + b) (omega (arith, c .blocks, c .bodies)))
 
   -- COPY SLOTS
   slot-of : (p k : ℕ) → k < 4 → at 0 (copiesOf p) k ≡ 4 * p + k
@@ -36,12 +37,14 @@ module _ {s : Sheet} (c : SheetFit s) where
   storeAt (block b) = 4 * length (s .bodies) + b
   storeAt (slot p k) = 4 * p + k
 
-  places : (o : Owner) → Declared (length (s .blocks)) (length (s .bodies)) o → place (bankIn (startMemory s)) (λ p. slotsOf (taskAt (startMachine s .tasks) p)) o ≡ storeAt o
+  places : (o : Owner) → Declared (length (s .blocks)) (length (s .bodies)) o
+      → place (bankIn (startMemory s)) (λ p. slotsOf (taskAt (startMachine s .tasks) p)) o ≡ storeAt o
   unfolding storeAt
   places (block b) h = bank-store b h
   places (slot p k) h = slot-store p k (h .0) (h .1)
 
-  apart : (o u : Owner) → Declared (length (s .blocks)) (length (s .bodies)) o → Declared (length (s .blocks)) (length (s .bodies)) u → storeAt o ≡ storeAt u → o ≡ u
+  apart : (o u : Owner) → Declared (length (s .blocks)) (length (s .bodies)) o → Declared (length (s .blocks)) (length (s .bodies)) u
+      → storeAt o ≡ storeAt u → o ≡ u
   unfolding storeAt
   apart (block b) (block d) h k e = ap block (omega arith)
   apart (block b) (slot q j) h k e = absurd (omega (arith, k .0, k .1))
@@ -63,5 +66,6 @@ module _ {s : Sheet} (c : SheetFit s) where
         below = λ o h. rw (places o h) (in-range o h);
       }
 
-  pub start-transactions : (operations : ℕ → Operation) → Transactions (length (s .blocks)) (length (s .bodies)) (startMachine s .memory) (startMachine s .tasks) operations
+  pub start-transactions : (operations : ℕ → Operation)
+      → Transactions (length (s .blocks)) (length (s .bodies)) (startMachine s .memory) (startMachine s .tasks) operations
   start-transactions operations = rw (start-memory s) (record { owners = start-owners; task = λ p h. rw (start-task s p h) tt })

@@ -34,7 +34,8 @@ none-at d n b = go (decLt b n)
     go (yes h) = at-replicate d d n b h
     go (no h) = at-past d (replicate n d) b (rw length-replicate (omega arith))
 
-pub begins : (blocks : ℕ) (m : Memory) (copies kept : List ℕ) (begun : List BodyCommand) → PassFacts blocks m copies kept begun (freshTransaction kept begun) between []
+pub begins : (blocks : ℕ) (m : Memory) (copies kept : List ℕ) (begun : List BodyCommand)
+    → PassFacts blocks m copies kept begun (freshTransaction kept begun) between []
 begins blocks m copies kept begun =
     record {
       past = λ b t. absurd (true≢false (sym (rw (none-at untouched 16 b) at t)));
@@ -52,7 +53,8 @@ begins blocks m copies kept begun =
     }
 
 -- the next command is no PUT: every copied block has its plain copy
-pub copy-onward : (stores : List (List ℕ)) (copies values : List ℕ) (b : ℕ) (l l′ : List BodyCommand) (t : Touched) (c : Option (List ℕ)) → (PutAtWork b l → ⊥) → SameCopy stores copies values b l t c → SameCopy stores copies values b l′ t c
+pub copy-onward : (stores : List (List ℕ)) (copies values : List ℕ) (b : ℕ) (l l′ : List BodyCommand) (t : Touched) (c : Option (List ℕ))
+    → (PutAtWork b l → ⊥) → SameCopy stores copies values b l t c → SameCopy stores copies values b l′ t c
 copy-onward stores copies values b l l′ untouched none f h = tt
 copy-onward stores copies values b l l′ untouched (some vs) f h = h
 copy-onward stores copies values b l l′ (remembered v) none f h = tt
@@ -71,17 +73,20 @@ got m copies y b o v (copied w k) none s e f g h = absurd (f (h .1))
 got m copies y b o v (copied w k) (some vs) s e f g h = ap (λ (us : List ℕ). at 0 us o) h ∙ sym g
 
 -- what the plain machine's PUT copies
-pub held : (stores : List (List ℕ)) (copies : List ℕ) (l : List BodyCommand) (y : Block) (b v k : ℕ) (c : Option (List ℕ)) → SameCopy stores copies (y .values) b l (copied v k) c → valuesBy c y ≡ at [] stores (at 0 copies k)
+pub held : (stores : List (List ℕ)) (copies : List ℕ) (l : List BodyCommand) (y : Block) (b v k : ℕ) (c : Option (List ℕ))
+    → SameCopy stores copies (y .values) b l (copied v k) c → valuesBy c y ≡ at [] stores (at 0 copies k)
 held stores copies l y b v k none h = h .0
 held stores copies l y b v k (some vs) h = h
 
 module _ {blocks : ℕ} {m : Memory} {copies registers answers : List ℕ} {x : Transaction} where
   -- another inner step of the same command
-  pub inner-step : {l : List BodyCommand} {s : Inner} (s′ : Inner) → AtInner m copies x s′ → PassFacts blocks m copies registers l x s answers → PassFacts blocks m copies registers l x s′ answers
+  pub inner-step : {l : List BodyCommand} {s : Inner} (s′ : Inner) → AtInner m copies x s′ → PassFacts blocks m copies registers l x s answers
+      → PassFacts blocks m copies registers l x s′ answers
   inner-step s′ h P = record { past = P .past; way = P .way; inner = h }
 
   -- LOAD and ADD
-  pub computed : {s : Inner} (c : BodyCommand) (l : List BodyCommand) (rs : List ℕ) → ((b : ℕ) → PutAtWork b (c ∷ l) → ⊥) → untilCommit (c ∷ l) ≡ c ∷ untilCommit l
+  pub computed : {s : Inner} (c : BodyCommand) (l : List BodyCommand) (rs : List ℕ) → ((b : ℕ) → PutAtWork b (c ∷ l) → ⊥)
+      → untilCommit (c ∷ l) ≡ c ∷ untilCommit l
       → ((bs : List Block) (q : Pass) → q .registers ≡ registers → passBy bs q c ≡ computes q rs)
       → PassFacts blocks m copies registers (c ∷ l) x s answers → PassFacts blocks m copies rs l x between answers
   unfolding passed
@@ -97,16 +102,21 @@ module _ {blocks : ℕ} {m : Memory} {copies registers answers : List ℕ} {x : 
                 sameRegisters = refl;
                 sameAnswers = w .beside .sameAnswers;
                 size = w .beside .size;
-                sameCopies = λ b. copy-onward (m .stores) copies (at noBlock bs b .values) b (c ∷ l) l (at untouched (x .blocks) b) (at none (q .copies) b) (np b) (w .beside .sameCopies b);
+                sameCopies = λ b.
+                    copy-onward (m .stores) copies (at noBlock bs b .values) b (c ∷ l) l (at untouched (x .blocks) b) (at none (q .copies) b) (np b)
+                    (w .beside .sameCopies b);
               };
-              leads = ap (λ (z : Pass). passed bs z (untilCommit l)) (sym (f bs q (w .beside .sameRegisters))) ∙ ap (λ (z : List BodyCommand). passed bs q z) (sym u) ∙ w .leads;
+              leads =
+                  ap (λ (z : Pass). passed bs z (untilCommit l)) (sym (f bs q (w .beside .sameRegisters)))
+                  ∙ ap (λ (z : List BodyCommand). passed bs q z) (sym u) ∙ w .leads;
             };
         inner = tt;
       }
 
   -- GET writes its register
   pub got-done : {s : Inner} (r b o v : ℕ) (l : List BodyCommand) → Fetched m copies b o v (touchedOf x b)
-      → PassFacts blocks m copies registers (inside (access (GET r b o)) ∷ l) x s answers → PassFacts blocks m copies (replace registers r v) l x between (answers ++ (v ∷ []))
+      → PassFacts blocks m copies registers (inside (access (GET r b o)) ∷ l) x s answers
+      → PassFacts blocks m copies (replace registers r v) l x between (answers ++ (v ∷ []))
   unfolding passed passBy untilCommit
   got-done r b o v l g P =
       let np : (c : ℕ) → PutAtWork c (inside (access (GET r b o)) ∷ l) → ⊥ = λ c w. impossible (cc (w .commands)) in
@@ -115,14 +125,17 @@ module _ {blocks : ℕ} {m : Memory} {copies registers answers : List ℕ} {x : 
         way = λ bs G.
             let w = P .way bs G in
             let q = w .pass in
-            let e : at 0 (valuesOf bs q b) o ≡ v = got m copies (at noBlock bs b) b o v (touchedOf x b) (at none (q .copies) b) (G .still b) (G .values b) (np b) g (w .beside .sameCopies b) in
+            let e : at 0 (valuesOf bs q b) o ≡ v = got m copies (at noBlock bs b) b o v (touchedOf x b) (at none (q .copies) b) (G .still b)
+            (G .values b) (np b) g (w .beside .sameCopies b) in
             record {
               pass = passBy bs q (inside (access (GET r b o)));
               beside = record {
                 sameRegisters = rw (e, w .beside .sameRegisters);
                 sameAnswers = rw (e, w .beside .sameAnswers);
                 size = w .beside .size;
-                sameCopies = λ c. copy-onward (m .stores) copies (at noBlock bs c .values) c (inside (access (GET r b o)) ∷ l) l (at untouched (x .blocks) c) (at none (q .copies) c) (np c) (w .beside .sameCopies c);
+                sameCopies = λ c.
+                    copy-onward (m .stores) copies (at noBlock bs c .values) c (inside (access (GET r b o)) ∷ l) l (at untouched (x .blocks) c)
+                    (at none (q .copies) c) (np c) (w .beside .sameCopies c);
               };
               leads = w .leads;
             };

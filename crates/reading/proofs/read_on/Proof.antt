@@ -20,7 +20,12 @@ enum-told : tie.Need-enum-told
 enum-told c = search needs
 
 returns : tie.Need-returns
-returns c = let e : c .before .before .before .before .before .before .before .before .args .d ≡ Refused (c .before .d3 .given .0 .0) = cc in (at-fault _ _ _ (c .before .before .before .before .before .before .before .before .pre .0) _ (c .before .before .before .before .before .before .before .before .pre .1) _ e, tt)
+returns c =
+    let e : c .before .before .before .before .before .before .before .before .args .d ≡ Refused (c .before .d3 .given .0 .0) = cc in (
+      at-fault _ _ _ (c .before .before .before .before .before .before .before .before .pre .0) _
+          (c .before .before .before .before .before .before .before .before .pre .1) _ e,
+      tt,
+    )
 
 returns-2 : tie.Need-returns-2
 returns-2 c = search needs
@@ -32,16 +37,28 @@ enum-known-j : tie.Need-enum-known-j
 enum-known-j c = search needs
 
 returns-3 : tie.Need-returns-3
-returns-3 c = (at-stop _ _ _ (c .before .before .before .before .before .before .before .before .before .pre .0) _ (c .before .before .before .before .before .before .before .before .before .pre .1) _ _ (c .before .before .before .before .before .d .given .1) _ (c .before .before .before .judge .ensures) _ (c .before .j .given .1), tt)
+returns-3 c = (
+  at-stop _ _ _ (c .before .before .before .before .before .before .before .before .before .pre .0) _
+      (c .before .before .before .before .before .before .before .before .before .pre .1) _ _ (c .before .before .before .before .before .d .given .1)
+      _ (c .before .before .before .judge .ensures) _ (c .before .j .given .1),
+  tt,
+)
 
 enum-told-2 : tie.Need-enum-told-2
 enum-told-2 c = search needs
 
 after-requires : tie.Need-after-requires
-after-requires c κs = keeps _ _ (no-fault _ _ _ (c .before .before .before .before .before .before .before .before .pre .0) _ (c .before .before .before .before .before .before .before .before .pre .1) _ _ (c .before .before .before .before .d .given .1) _ (c .before .before .judge .ensures) (c .enum-told2 .given .1)) .under
+after-requires c κs =
+    keeps _ _
+    (no-fault _ _ _ (c .before .before .before .before .before .before .before .before .pre .0) _
+    (c .before .before .before .before .before .before .before .before .pre .1) _ _ (c .before .before .before .before .d .given .1) _
+    (c .before .before .judge .ensures) (c .enum-told2 .given .1)) .under
 
 returns-4 : tie.Need-returns-4
-returns-4 c = at-next _ _ _ (c .before .before .before .before .before .before .before .before .before .pre .0) _ (c .before .before .before .before .before .before .before .before .before .pre .1) _ _ (c .before .before .before .before .before .d .given .1) _ (c .before .before .before .judge .ensures) _ (c .before .enum-told2 .given .1) (c .after .ensures)
+returns-4 c =
+    at-next _ _ _ (c .before .before .before .before .before .before .before .before .before .pre .0) _
+    (c .before .before .before .before .before .before .before .before .before .pre .1) _ _ (c .before .before .before .before .before .d .given .1) _
+    (c .before .before .before .judge .ensures) _ (c .before .enum-told2 .given .1) (c .after .ensures)
 
 pub read-on-spec : {M : Type 1} → statement M
 read-on-spec =

@@ -36,7 +36,10 @@ unfolding fields
 returns c =
     let a = c .before .before .before .before .before .before .before .before .before .before .before .before .before .before .args in
     let m = memoryOf (a .cells .now) (a .status .now) (a .saves .now) (a .stores .now) in
-    as-text (block-text m (a .block) (c .before .before .before .before .before .before .before .before .before .before .before .before .contents .ensures)) (search needs) (then (c .before .before .before .before .before .before .before .before .before .before .head .ensures) (then (c .before .before .before .before .before .before .field .ensures) (c .before .before .store-fields .ensures)))
+    as-text
+    (block-text m (a .block) (c .before .before .before .before .before .before .before .before .before .before .before .before .contents .ensures))
+    (search needs) (then (c .before .before .before .before .before .before .before .before .before .before .head .ensures)
+    (then (c .before .before .before .before .before .before .field .ensures) (c .before .before .store-fields .ensures)))
 
 pub block-line-spec : {M : Type 1} → statement M
 block-line-spec =

@@ -28,7 +28,10 @@ value-of-requires-2 c κs = search needs
 
 returns-2 : tie.Need-returns-2
 returns-2 c =
-    c .value-of2 .ensures ∙ current-committed _ _ _ (sym (c .before .before .before .before .before .before .valid-of .ensures) ∙ c .before .before .before .before .before .if1 .left) (c .before .before .before .before .task-of .ensures) (c .before .before .u8-at .ensures) (c .before .if2 .taken)
+    c .value-of2 .ensures
+    ∙ current-committed _ _ _
+    (sym (c .before .before .before .before .before .before .valid-of .ensures) ∙ c .before .before .before .before .before .if1 .left)
+    (c .before .before .before .before .task-of .ensures) (c .before .before .u8-at .ensures) (c .before .if2 .taken)
 
 mul-place : tie.Need-mul-place
 mul-place c = search needs
@@ -47,7 +50,12 @@ u32-at-requires c κs = search needs
 
 returns-3 : tie.Need-returns-3
 returns-3 c =
-    c .u32-at .ensures ∙ current-saved _ _ _ (sym (c .before .before .before .before .before .before .before .before .valid-of .ensures) ∙ c .before .before .before .before .before .before .before .if1 .left) (c .before .before .before .before .before .before .task-of .ensures) (c .before .before .count-of .ensures) (c .before .before .before .before .u8-at .ensures) (c .before .before .before .if2 .left) (search needs)
+    c .u32-at .ensures
+    ∙ current-saved _ _ _
+    (sym (c .before .before .before .before .before .before .before .before .valid-of .ensures)
+    ∙ c .before .before .before .before .before .before .before .if1 .left)
+    (c .before .before .before .before .before .before .task-of .ensures) (c .before .before .count-of .ensures)
+    (c .before .before .before .before .u8-at .ensures) (c .before .before .before .if2 .left) (search needs)
 
 pub current-spec : {M : Type 1} → statement M
 current-spec =

@@ -21,7 +21,8 @@ same-length c = search needs
 
 returns : tie.Need-returns
 returns c =
-    long-enough _ (c .before .before .before .before .before .before .before .write .ensures) (c .before .before .before .before .if1 .taken) (c .before .before .write2 .ensures)
+    long-enough _ (c .before .before .before .before .before .before .before .write .ensures) (c .before .before .before .before .if1 .taken)
+    (c .before .before .write2 .ensures)
 
 same-length-2 : tie.Need-same-length-2
 same-length-2 c = search needs

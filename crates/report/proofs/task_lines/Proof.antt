@@ -31,8 +31,11 @@ loop-less c = search needs
 
 loop-again : tie.Need-loop-again Inv-loop μ-loop
 loop-again c =
-    let a = c .before .before .before .before .before .before .before .args in
-    (search needs, line-more (taskLinesOf (a .registers .now) (a .counts .now)) refl (c .before .before .before .before .before .loop .inv .1) (c .before .before .task-line .ensures))
+    let a = c .before .before .before .before .before .before .before .args in (
+      search needs,
+      line-more (taskLinesOf (a .registers .now) (a .counts .now)) refl (c .before .before .before .before .before .loop .inv .1)
+          (c .before .before .task-line .ensures),
+    )
 
 same-length : tie.Need-same-length Inv-loop μ-loop
 same-length c = same-size (c .before .loop .inv .1)

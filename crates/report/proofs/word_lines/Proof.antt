@@ -40,8 +40,11 @@ loop-again : tie.Need-loop-again Inv-loop μ-loop
 loop-again c =
     let a = c .before .before .before .before .before .before .before .before .args in
     let l = c .before .before .before .before .before .before .loop in
-    let m = memoryOf (a .cells .now) (a .status .now) (a .saves .now) [] in
-    (search needs, line-more (wordLine m) (word-text m (l .w) (c .before .before .before .before .contents .ensures)) (l .inv .1) (c .before .before .pair-line .ensures))
+    let m = memoryOf (a .cells .now) (a .status .now) (a .saves .now) [] in (
+      search needs,
+      line-more (wordLine m) (word-text m (l .w) (c .before .before .before .before .contents .ensures)) (l .inv .1)
+          (c .before .before .pair-line .ensures),
+    )
 
 same-length : tie.Need-same-length Inv-loop μ-loop
 same-length c = same-size (c .before .loop .inv .1)

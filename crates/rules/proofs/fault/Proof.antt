@@ -24,7 +24,14 @@ lowest-requires : tie.Need-lowest-requires
 lowest-requires c κs = search needs
 
 returns : tie.Need-returns
-returns c = c .lowest .ensures ∙ rw (c .before .before .before .before .before .in-place .ensures, c .before .before .before .before .under-ceiling .ensures, c .before .before .before .in-range .ensures, c .before .before .new-word .ensures, c .before .rising .ensures) (sym (fault-is _ _))
+returns c =
+    c .lowest .ensures ∙ rw (
+      c .before .before .before .before .before .in-place .ensures,
+      c .before .before .before .before .under-ceiling .ensures,
+      c .before .before .before .in-range .ensures,
+      c .before .before .new-word .ensures,
+      c .before .rising .ensures,
+    ) (sym (fault-is _ _))
 
 pub fault-spec : {M : Type 1} → statement M
 fault-spec =

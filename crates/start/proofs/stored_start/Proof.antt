@@ -25,22 +25,49 @@ mul-value4-2 : tie.Need-mul-value4-2
 mul-value4-2 c = record { fits = omega (arith, few-blocks (c .before .before .before .before .before .before .before .pre), c .before .if2 .taken) }
 
 add-value4 : tie.Need-add-value4
-add-value4 c = record { fits = omega (arith, few-words (c .before .before .before .before .before .before .before .pre), few-blocks (c .before .before .before .before .before .before .before .pre), c .before .if2 .taken) }
+add-value4 c =
+    record {
+      fits = omega (
+        arith,
+        few-words (c .before .before .before .before .before .before .before .pre),
+        few-blocks (c .before .before .before .before .before .before .before .pre),
+        c .before .if2 .taken,
+      );
+    }
 
 add-value4-2 : tie.Need-add-value4-2
-add-value4-2 c = record { fits = omega (arith, few-words (c .before .before .before .before .before .before .before .pre), few-blocks (c .before .before .before .before .before .before .before .pre), c .before .if2 .taken) }
+add-value4-2 c =
+    record {
+      fits = omega (
+        arith,
+        few-words (c .before .before .before .before .before .before .before .pre),
+        few-blocks (c .before .before .before .before .before .before .before .pre),
+        c .before .if2 .taken,
+      );
+    }
 
 mul-value4-3 : tie.Need-mul-value4-3
 mul-value4-3 c = search needs
 
 add-value4-3 : tie.Need-add-value4-3
-add-value4-3 c = record { fits = omega (arith, few-words (c .before .before .before .before .before .before .before .pre), few-blocks (c .before .before .before .before .before .before .before .pre), c .before .if2 .taken) }
+add-value4-3 c =
+    record {
+      fits = omega (
+        arith,
+        few-words (c .before .before .before .before .before .before .before .pre),
+        few-blocks (c .before .before .before .before .before .before .before .pre),
+        c .before .if2 .taken,
+      );
+    }
 
 value4-requires : tie.Need-value4-requires
 value4-requires c κs = omega (arith, in-sheet (c .before .before .before .before .before .before .before .pre), c .before .if2 .taken)
 
 returns-2 : tie.Need-returns-2
-returns-2 c = c .value4 .ensures ∙ stored-declared (c .before .before .before .before .before .before .before .before .pre) _ (c .before .before .before .before .before .if1 .left) (c .before .before .if2 .taken)
+returns-2 c =
+    c .value4 .ensures
+    ∙ stored-declared (c .before .before .before .before .before .before .before .before .pre) _
+    (c .before .before .before .before .before .if1 .left) (c .before .before .if2 .taken)
 
 returns-3 : tie.Need-returns-3
 returns-3 c = stored-none (c .before .before .before .before .before .before .pre) _ (c .before .before .before .if1 .left) (c .if2 .left)

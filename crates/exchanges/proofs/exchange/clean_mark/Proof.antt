@@ -24,7 +24,14 @@ to-next-requires c κs = search needs
 
 returns : tie.Need-returns
 unfolding afterCleanMark
-returns c = rw (← c .before .before .before .before .before .before .before .slot .ensures, ← c .before .before .before .before .before .u64-at .ensures, ← c .before .before .before .before .task-of .ensures, c .before .set-u8x8 .ensures, c .before .before .before .widened .ensures, c .to-next .ensures)
+returns c = rw (
+  ← c .before .before .before .before .before .before .before .slot .ensures,
+  ← c .before .before .before .before .before .u64-at .ensures,
+  ← c .before .before .before .before .task-of .ensures,
+  c .before .set-u8x8 .ensures,
+  c .before .before .before .widened .ensures,
+  c .to-next .ensures,
+)
 
 pub clean-mark-spec : {M : Type 1} → statement M
 clean-mark-spec =

@@ -19,14 +19,22 @@ to-clean-requires c κs = search needs
 
 returns : tie.Need-returns
 unfolding afterCommit
-returns c = rw (← c .before .before .before .before .before .before .before .wide .ensures, ← c .before .before .before .before .u8-at .ensures, eq-eqb _ _ (c .before .before .before .if1 .taken), c .before .set-u8x8 .ensures, c .to-clean .ensures)
+returns c = rw (
+  ← c .before .before .before .before .before .before .before .wide .ensures,
+  ← c .before .before .before .before .u8-at .ensures,
+  eq-eqb _ _ (c .before .before .before .if1 .taken),
+  c .before .set-u8x8 .ensures,
+  c .to-clean .ensures,
+)
 
 to-clean-requires-2 : tie.Need-to-clean-requires-2
 to-clean-requires-2 c κs = search needs
 
 returns-2 : tie.Need-returns-2
 unfolding afterCommit
-returns-2 c = rw (← c .before .before .before .before .before .wide .ensures, ← c .before .before .u8-at .ensures, ne-eqb _ _ (c .before .if1 .left), c .to-clean2 .ensures)
+returns-2 c =
+    rw
+    (← c .before .before .before .before .before .wide .ensures, ← c .before .before .u8-at .ensures, ne-eqb _ _ (c .before .if1 .left), c .to-clean2 .ensures)
 
 pub commit-spec : {M : Type 1} → statement M
 commit-spec =

@@ -24,7 +24,14 @@ u32-at-requires c κs = search needs
 
 returns : tie.Need-returns
 unfolding afterFetch
-returns c = rw (← c .before .before .before .before .before .before .before .slot .ensures, ← c .before .before .before .before .before .u64-at .ensures, ← c .before .before .before .before .task-of .ensures, ← c .before .before .before .count-of .ensures, ← c .before .before .save-place .ensures, ← c .u32-at .ensures)
+returns c = rw (
+  ← c .before .before .before .before .before .before .before .slot .ensures,
+  ← c .before .before .before .before .before .u64-at .ensures,
+  ← c .before .before .before .before .task-of .ensures,
+  ← c .before .before .before .count-of .ensures,
+  ← c .before .before .save-place .ensures,
+  ← c .u32-at .ensures,
+)
 
 pub fetch-spec : {M : Type 1} → statement M
 fetch-spec =

@@ -31,14 +31,32 @@ next-requires c κs = search needs
 
 returns : tie.Need-returns
 unfolding afterInstall
-returns c = rw (← c .before .before .before .installed .ensures, ← c .before .before .before .before .before .before .before .before .before .before .before .before .before .slot .ensures, ← c .before .before .before .before .before .before .before .before .before .before .before .u8-at .ensures, ← c .before .before .before .before .before .before .before .before .before .before .wide .ensures, ← c .before .before .before .before .before .before .before .u64-at .ensures, ← c .before .before .before .before .before .u64-at2 .ensures, eq-eqb _ _ (c .before .before .before .before .if1 .taken), ← c .next .ensures, c .before .set-u64x48 .ensures)
+returns c = rw (
+  ← c .before .before .before .installed .ensures,
+  ← c .before .before .before .before .before .before .before .before .before .before .before .before .before .slot .ensures,
+  ← c .before .before .before .before .before .before .before .before .before .before .before .u8-at .ensures,
+  ← c .before .before .before .before .before .before .before .before .before .before .wide .ensures,
+  ← c .before .before .before .before .before .before .before .u64-at .ensures,
+  ← c .before .before .before .before .before .u64-at2 .ensures,
+  eq-eqb _ _ (c .before .before .before .before .if1 .taken),
+  ← c .next .ensures,
+  c .before .set-u64x48 .ensures,
+)
 
 next-requires-2 : tie.Need-next-requires-2
 next-requires-2 c κs = search needs
 
 returns-2 : tie.Need-returns-2
 unfolding afterInstall
-returns-2 c = rw (← c .before .before .before .before .before .before .before .before .before .before .slot .ensures, ← c .before .before .before .before .before .before .before .before .u8-at .ensures, ← c .before .before .before .before .before .before .before .wide .ensures, ← c .before .before .before .before .u64-at .ensures, ← c .before .before .u64-at2 .ensures, ne-eqb _ _ (c .before .if1 .left), ← c .next2 .ensures)
+returns-2 c = rw (
+  ← c .before .before .before .before .before .before .before .before .before .before .slot .ensures,
+  ← c .before .before .before .before .before .before .before .before .u8-at .ensures,
+  ← c .before .before .before .before .before .before .before .wide .ensures,
+  ← c .before .before .before .before .u64-at .ensures,
+  ← c .before .before .u64-at2 .ensures,
+  ne-eqb _ _ (c .before .if1 .left),
+  ← c .next2 .ensures,
+)
 
 pub install-spec : {M : Type 1} → statement M
 install-spec =

@@ -24,7 +24,14 @@ set-u8x64-requires c κs = search needs
 
 returns : tie.Need-returns
 unfolding afterLoad
-returns c = rw (← c .before .before .before .before .before .before .before .before .before .slot .ensures, ← c .before .before .before .before .before .before .before .u8-at .ensures, ← c .before .before .before .before .before .before .wide .ensures, ← c .before .before .before .before .u64-at .ensures, c .before .before .set-u64x64 .ensures, c .set-u8x64 .ensures)
+returns c = rw (
+  ← c .before .before .before .before .before .before .before .before .before .slot .ensures,
+  ← c .before .before .before .before .before .before .before .u8-at .ensures,
+  ← c .before .before .before .before .before .before .wide .ensures,
+  ← c .before .before .before .before .u64-at .ensures,
+  c .before .before .set-u64x64 .ensures,
+  c .set-u8x64 .ensures,
+)
 
 pub load-spec : {M : Type 1} → statement M
 load-spec =

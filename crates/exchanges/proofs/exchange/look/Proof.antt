@@ -22,14 +22,25 @@ value-of-requires c κs = search needs
 
 returns : tie.Need-returns
 unfolding afterLook
-returns c = rw (← c .before .before .before .before .before .before .before .slot .ensures, ← c .before .before .before .before .before .u64-at .ensures, sym (c .before .before .before .before .own .ensures) ∙ c .before .before .before .if1 .taken, ← c .value-of .ensures, c .before .set-u8x64 .ensures)
+returns c = rw (
+  ← c .before .before .before .before .before .before .before .slot .ensures,
+  ← c .before .before .before .before .before .u64-at .ensures,
+  sym (c .before .before .before .before .own .ensures) ∙ c .before .before .before .if1 .taken,
+  ← c .value-of .ensures,
+  c .before .set-u8x64 .ensures,
+)
 
 set-u8x64-requires-2 : tie.Need-set-u8x64-requires-2
 set-u8x64-requires-2 c κs = search needs
 
 returns-2 : tie.Need-returns-2
 unfolding afterLook
-returns-2 c = rw (← c .before .before .before .before .before .before .slot .ensures, ← c .before .before .before .before .u64-at .ensures, sym (c .before .before .before .own .ensures) ∙ c .before .before .if1 .left, c .set-u8x642 .ensures)
+returns-2 c = rw (
+  ← c .before .before .before .before .before .before .slot .ensures,
+  ← c .before .before .before .before .u64-at .ensures,
+  sym (c .before .before .before .own .ensures) ∙ c .before .before .if1 .left,
+  c .set-u8x642 .ensures,
+)
 
 pub look-spec : {M : Type 1} → statement M
 look-spec =

@@ -21,7 +21,13 @@ set-u8x8-requires c κs = search needs
 
 returns : tie.Need-returns
 unfolding afterMark
-returns c = rw (← c .before .before .before .before .before .before .slot .ensures, ← c .before .before .before .before .u64-at .ensures, ← c .before .before .before .task-of .ensures, c .set-u8x8 .ensures, c .before .before .widened .ensures)
+returns c = rw (
+  ← c .before .before .before .before .before .before .slot .ensures,
+  ← c .before .before .before .before .u64-at .ensures,
+  ← c .before .before .before .task-of .ensures,
+  c .set-u8x8 .ensures,
+  c .before .before .widened .ensures,
+)
 
 pub mark-spec : {M : Type 1} → statement M
 mark-spec =

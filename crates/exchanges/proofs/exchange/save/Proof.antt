@@ -16,25 +16,55 @@ u32-at-requires c κs = search needs
 
 returns : tie.Need-returns
 unfolding afterSave
-returns c = rw (← c .before .before .before .before .before .slot .ensures, ← c .before .u32-at .ensures, ne-eqb _ _ (c .if1 .taken), c .before .before .before .set-u32x64 .ensures)
+returns c = rw (
+  ← c .before .before .before .before .before .slot .ensures,
+  ← c .before .u32-at .ensures,
+  ne-eqb _ _ (c .if1 .taken),
+  c .before .before .before .set-u32x64 .ensures,
+)
 
 u8-at-requires : tie.Need-u8-at-requires
 u8-at-requires c κs = search needs
 
 returns-2 : tie.Need-returns-2
 unfolding afterSave
-returns-2 c = rw (← c .before .before .before .before .before .before .before .before .slot .ensures, ← c .before .before .before .before .u32-at .ensures, eq-eqb _ _ (c .before .before .before .if1 .left), ← c .before .u8-at .ensures, eq-eqb _ _ (c .if2 .taken), c .before .before .before .before .before .before .set-u32x64 .ensures)
+returns-2 c = rw (
+  ← c .before .before .before .before .before .before .before .before .slot .ensures,
+  ← c .before .before .before .before .u32-at .ensures,
+  eq-eqb _ _ (c .before .before .before .if1 .left),
+  ← c .before .u8-at .ensures,
+  eq-eqb _ _ (c .if2 .taken),
+  c .before .before .before .before .before .before .set-u32x64 .ensures,
+)
 
 u32-at-requires-2 : tie.Need-u32-at-requires-2
 u32-at-requires-2 c κs = search needs
 
 returns-3 : tie.Need-returns-3
 unfolding afterSave
-returns-3 c = rw (← c .before .before .before .before .before .before .before .before .before .before .before .slot .ensures, ← c .before .before .before .before .before .before .before .u32-at .ensures, eq-eqb _ _ (c .before .before .before .before .before .before .if1 .left), ← c .before .before .before .before .u8-at .ensures, ne-eqb _ _ (c .before .before .before .if2 .left), ← c .before .u32-at2 .ensures, eq-eqb _ _ (c .if3 .taken), c .before .before .before .before .before .before .before .before .before .set-u32x64 .ensures)
+returns-3 c = rw (
+  ← c .before .before .before .before .before .before .before .before .before .before .before .slot .ensures,
+  ← c .before .before .before .before .before .before .before .u32-at .ensures,
+  eq-eqb _ _ (c .before .before .before .before .before .before .if1 .left),
+  ← c .before .before .before .before .u8-at .ensures,
+  ne-eqb _ _ (c .before .before .before .if2 .left),
+  ← c .before .u32-at2 .ensures,
+  eq-eqb _ _ (c .if3 .taken),
+  c .before .before .before .before .before .before .before .before .before .set-u32x64 .ensures,
+)
 
 returns-4 : tie.Need-returns-4
 unfolding afterSave
-returns-4 c = rw (← c .before .before .before .before .before .before .before .before .before .before .before .slot .ensures, ← c .before .before .before .before .before .before .before .u32-at .ensures, eq-eqb _ _ (c .before .before .before .before .before .before .if1 .left), ← c .before .before .before .before .u8-at .ensures, ne-eqb _ _ (c .before .before .before .if2 .left), ← c .before .u32-at2 .ensures, ne-eqb _ _ (c .if3 .left), c .before .before .before .before .before .before .before .before .before .set-u32x64 .ensures)
+returns-4 c = rw (
+  ← c .before .before .before .before .before .before .before .before .before .before .before .slot .ensures,
+  ← c .before .before .before .before .before .before .before .u32-at .ensures,
+  eq-eqb _ _ (c .before .before .before .before .before .before .if1 .left),
+  ← c .before .before .before .before .u8-at .ensures,
+  ne-eqb _ _ (c .before .before .before .if2 .left),
+  ← c .before .u32-at2 .ensures,
+  ne-eqb _ _ (c .if3 .left),
+  c .before .before .before .before .before .before .before .before .before .set-u32x64 .ensures,
+)
 
 pub save-spec : {M : Type 1} → statement M
 save-spec =

@@ -17,11 +17,21 @@ u8-at-requires c κs = search needs
 
 returns-2 : tie.Need-returns-2
 unfolding afterTest
-returns-2 c = rw (ne-eqb _ _ (c .before .before .before .before .if1 .left), ← c .before .before .before .wide .ensures, ← c .before .u8-at .ensures, eq-eqb _ _ (c .if2 .taken))
+returns-2 c = rw (
+  ne-eqb _ _ (c .before .before .before .before .if1 .left),
+  ← c .before .before .before .wide .ensures,
+  ← c .before .u8-at .ensures,
+  eq-eqb _ _ (c .if2 .taken),
+)
 
 returns-3 : tie.Need-returns-3
 unfolding afterTest
-returns-3 c = rw (ne-eqb _ _ (c .before .before .before .before .if1 .left), ← c .before .before .before .wide .ensures, ← c .before .u8-at .ensures, ne-eqb _ _ (c .if2 .left))
+returns-3 c = rw (
+  ne-eqb _ _ (c .before .before .before .before .if1 .left),
+  ← c .before .before .before .wide .ensures,
+  ← c .before .u8-at .ensures,
+  ne-eqb _ _ (c .if2 .left),
+)
 
 pub test-spec : {M : Type 1} → statement M
 test-spec = tie.close (tie.spec returns wide-requires u8-at-requires returns-2 returns-3)

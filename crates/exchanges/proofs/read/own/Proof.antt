@@ -23,7 +23,12 @@ u8-at-requires c κs = search needs
 
 returns-2 : tie.Need-returns-2
 unfolding owned
-returns-2 c = rw (sym (c .before .before .before .before .before .valid-of .ensures) ∙ c .before .before .before .before .if1 .left, ← c .before .before .before .task-of .ensures, ← c .before .before .widened .ensures, ← c .u8-at .ensures)
+returns-2 c = rw (
+  sym (c .before .before .before .before .before .valid-of .ensures) ∙ c .before .before .before .before .if1 .left,
+  ← c .before .before .before .task-of .ensures,
+  ← c .before .before .widened .ensures,
+  ← c .u8-at .ensures,
+)
 
 pub own-spec : {M : Type 1} → statement M
 own-spec =

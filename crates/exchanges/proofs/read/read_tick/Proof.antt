@@ -41,7 +41,13 @@ u32-at-requires c κs = search needs
 
 returns-3 : tie.Need-returns-3
 unfolding afterReading
-returns-3 c = rw (c .before .before .before .before .before .before .step2 .given .1, ← c .before .before .before .before .task-of .ensures, ← c .before .before .before .count-of .ensures, ← c .before .before .save-place .ensures, ← c .u32-at .ensures)
+returns-3 c = rw (
+  c .before .before .before .before .before .before .step2 .given .1,
+  ← c .before .before .before .before .task-of .ensures,
+  ← c .before .before .before .count-of .ensures,
+  ← c .before .before .save-place .ensures,
+  ← c .u32-at .ensures,
+)
 
 pub read-tick-spec : {M : Type 1} → statement M
 read-tick-spec =

@@ -20,7 +20,8 @@ no-release-requires : tie.Need-no-release-requires
 no-release-requires c κs = search needs
 
 returns : tie.Need-returns
-returns c = rw (← c .before .before .before .before .decode .ensures, c .before .before .decoded .given .1, pending-view _ _ _, ← c .pending-by .ensures)
+returns c =
+    rw (← c .before .before .before .before .decode .ensures, c .before .before .decoded .given .1, pending-view _ _ _, ← c .pending-by .ensures)
 
 returns-2 : tie.Need-returns-2
 returns-2 c = rw (← c .before .before .before .decode .ensures, c .before .enum-told .given .1, c .no-release .ensures)

@@ -20,7 +20,12 @@ lowered-requires : tie.Need-lowered-requires
 lowered-requires c κs = search needs
 
 returns-2 : tie.Need-returns-2
-returns-2 c = rw (sym (c .before .before .before .before .before .unfinished .ensures) ∙ c .before .before .before .before .if1 .left, sym (c .before .before .before .unfinished2 .ensures) ∙ c .before .before .if2 .taken, ← c .before .bit .ensures, c .lowered .ensures)
+returns-2 c = rw (
+  sym (c .before .before .before .before .before .unfinished .ensures) ∙ c .before .before .before .before .if1 .left,
+  sym (c .before .before .before .unfinished2 .ensures) ∙ c .before .before .if2 .taken,
+  ← c .before .bit .ensures,
+  c .lowered .ensures,
+)
 
 returns-3 : tie.Need-returns-3
 returns-3 c = search needs

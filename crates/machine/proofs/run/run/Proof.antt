@@ -1,7 +1,8 @@
 -- `run` meets its contract.
 use borrow.Author.Tests.{eq-eqb, ne-eqb}
 use borrow.Author.Needs.{needs}
-use Rattle.machine.proofs.Runs.{apart, apart-most, same-world, start-world, release-turn, switched, tick-turn, pass-turn, due-within, after-release, after-tick, after-stop}
+use Rattle.machine.proofs.Runs.{apart, apart-most, same-world, start-world, release-turn, switched}
+use Rattle.machine.proofs.Runs.{tick-turn, pass-turn, due-within, after-release, after-tick, after-stop}
 use Rattle.machine.specs.World.{topOf, pendingAt, comingBy, World, world, startWorld, Ends, limited}
 use Rattle.statements.specs.Statements.{arrays}
 use Rattle.machine.specs.declared.releases.Coming.the-variants.{Nothing, Later, Due}
@@ -26,11 +27,24 @@ not-due Later k task next e = let z : _≡_ {A = ℕ} 0 1 = cc in omega arith
 not-due (Due t n) k task next e = miss (0 ∷ 1 ∷ []) 2 tt k
 
 abbrev Inv-loop : tie.InvT-loop
-Inv-loop sheet bodies cells₀ status₀ saves₀ stores₀ registers₀ kept₀ copies₀ names₀ olds₀ news₀ inits₀ overlapped₀ kinds₀ remembered₀ counts₀ first limit jobs₀ p₀ job₀ mask₀ place₀ next₀ tick₀ dropped₀ cells status saves stores registers kept copies names olds news inits overlapped kinds remembered counts jobs p job mask place next tick dropped =
-    (tick ≤ limit) × (p < 8) × (length jobs ≡ 8) × (next ≡ pendingAt (commandAt sheet place)) × ((u : World) → Ends sheet bodies limit (world (arrays cells status saves stores registers kept copies names olds news inits overlapped kinds remembered counts) (set jobs p job) mask place tick dropped) u → Ends sheet bodies limit (startWorld (arrays cells₀ status₀ saves₀ stores₀ registers₀ kept₀ copies₀ names₀ olds₀ news₀ inits₀ overlapped₀ kinds₀ remembered₀ counts₀) first) u)
+Inv-loop sheet bodies cells₀ status₀ saves₀ stores₀ registers₀ kept₀ copies₀ names₀ olds₀ news₀ inits₀ overlapped₀ kinds₀ remembered₀ counts₀ first
+    limit jobs₀ p₀ job₀ mask₀ place₀ next₀ tick₀ dropped₀ cells status saves stores registers kept copies names olds news inits overlapped kinds
+    remembered counts jobs p job mask place next tick dropped =
+    (tick ≤ limit) × (p < 8) × (length jobs ≡ 8) × (next ≡ pendingAt (commandAt sheet place))
+    × ((u : World)
+    → Ends sheet bodies limit
+    (world (arrays cells status saves stores registers kept copies names olds news inits overlapped kinds remembered counts) (set jobs p job) mask
+    place tick dropped)
+    u
+    → Ends sheet bodies limit
+    (startWorld (arrays cells₀ status₀ saves₀ stores₀ registers₀ kept₀ copies₀ names₀ olds₀ news₀ inits₀ overlapped₀ kinds₀ remembered₀ counts₀)
+    first)
+    u)
 
 abbrev μ-loop : tie.MeasureT-loop
-μ-loop sheet bodies cells₀ status₀ saves₀ stores₀ registers₀ kept₀ copies₀ names₀ olds₀ news₀ inits₀ overlapped₀ kinds₀ remembered₀ counts₀ first limit jobs₀ p₀ job₀ mask₀ place₀ next₀ tick₀ dropped₀ cells status saves stores registers kept copies names olds news inits overlapped kinds remembered counts jobs p job mask place next tick dropped =
+μ-loop sheet bodies cells₀ status₀ saves₀ stores₀ registers₀ kept₀ copies₀ names₀ olds₀ news₀ inits₀ overlapped₀ kinds₀ remembered₀ counts₀ first
+    limit jobs₀ p₀ job₀ mask₀ place₀ next₀ tick₀ dropped₀ cells status saves stores registers kept copies names olds news inits overlapped kinds
+    remembered counts jobs p job mask place next tick dropped =
     2 * ((limit - tick) + (length sheet - place)) + apart (eqb (topOf 8 mask) p)
 
 job-at-requires : tie.Need-job-at-requires Inv-loop μ-loop
@@ -40,7 +54,8 @@ pending-at-requires : tie.Need-pending-at-requires Inv-loop μ-loop
 pending-at-requires c κs = search needs
 
 loop-holds : tie.Need-loop-holds Inv-loop μ-loop
-loop-holds c = (omega arith, omega arith, refl, c .pending-at .ensures, λ u e. same-world _ _ _ _ _ (start-world _ _ _ (c .before .job-at .ensures)) u e)
+loop-holds c =
+    (omega arith, omega arith, refl, c .pending-at .ensures, λ u e. same-world _ _ _ _ _ (start-world _ _ _ (c .before .job-at .ensures)) u e)
 
 coming-at-requires : tie.Need-coming-at-requires Inv-loop μ-loop
 coming-at-requires c κs = search needs
@@ -88,25 +103,82 @@ pending-at-requires-2 : tie.Need-pending-at-requires-2 Inv-loop μ-loop
 pending-at-requires-2 c κs = search needs
 
 loop-less : tie.Need-loop-less Inv-loop μ-loop
-loop-less c = let l = c .before .before .before .before .before .before .before .before .before .before .before .before .before .before .before .before .before .loop in let d = due-within _ _ _ _ _ (ap (λ q. comingBy q (l .tick)) (sym (l .inv .3)) ∙ sym (c .before .before .before .before .before .before .before .before .before .before .before .before .before .before .before .coming-at .ensures) ∙ c .before .before .before .before .before .before .before .before .before .before .before .before .before .release .given .1) in omega (arith, d .0, d .1, c .before .before .before .before .before .before .before .before .before .before .before .before .before .before .before .before .loop-test, apart-most (eqb (topOf 8 (c .before .before .before .before .before .before .begun .result)) (c .before .before .before .before .before .before .before .before .before .before .octal .result)))
+loop-less c =
+    let l = c .before .before .before .before .before .before .before .before .before .before .before .before .before .before .before .before .before .loop in
+    let d = due-within _ _ _ _ _
+    (ap (λ q. comingBy q (l .tick)) (sym (l .inv .3))
+    ∙ sym (c .before .before .before .before .before .before .before .before .before .before .before .before .before .before .before .coming-at .ensures)
+    ∙ c .before .before .before .before .before .before .before .before .before .before .before .before .before .release .given .1) in
+    omega (
+      arith,
+      d .0,
+      d .1,
+      c .before .before .before .before .before .before .before .before .before .before .before .before .before .before .before .before .loop-test,
+      apart-most (eqb (topOf 8 (c .before .before .before .before .before .before .begun .result))
+          (c .before .before .before .before .before .before .before .before .before .before .octal .result)),
+    )
 
 loop-again : tie.Need-loop-again Inv-loop μ-loop
-loop-again c = let l = c .before .before .before .before .before .before .before .before .before .before .before .before .before .before .before .before .before .loop in (l .inv .0, c .before .before .before .before .before .before .before .before .before .before .octal .ensures .1, length-set (l .jobs) (c .before .before .before .before .before .before .before .before .before .before .before .wide .result) (l .job) ∙ l .inv .2, c .pending-at2 .ensures, λ u e. l .inv .4 u (after-release _ _ _ _ _ _ _ (c .before .before .before .before .before .before .before .before .before .before .before .before .before .before .before .before .loop-test .taken) (c .before .before .before .before .before .before .before .before .before .before .before .before .before .before .before .coming-at .ensures ∙ ap (λ q. comingBy q (l .tick)) (l .inv .3)) (c .before .before .before .before .before .before .before .before .before .before .before .before .before .release .given .1) (release-turn _ _ (l .jobs) (l .job) _ _ _ _ _ _ (c .before .before .before .before .before .before .before .before .before .before .before .wide .ensures) (c .before .before .before .before .before .before .before .before .before .before .octal .ensures .0) (c .before .before .before .before .before .before .before .before .before .wide2 .ensures) (c .before .before .before .before .before .before .before .drop-by .ensures) (c .before .before .before .before .before .before .begun .ensures) (c .before .before .before .before .zero-by .ensures) (c .before .before .usize-at .ensures) (c .before .started .ensures)) u e))
+loop-again c =
+    let l = c .before .before .before .before .before .before .before .before .before .before .before .before .before .before .before .before .before .loop in (
+      l .inv .0,
+      c .before .before .before .before .before .before .before .before .before .before .octal .ensures .1,
+      length-set (l .jobs) (c .before .before .before .before .before .before .before .before .before .before .before .wide .result) (l .job)
+          ∙ l .inv .2,
+      c .pending-at2 .ensures,
+      λ u e. l .inv .4 u
+          (after-release _ _ _ _ _ _ _
+          (c .before .before .before .before .before .before .before .before .before .before .before .before .before .before .before .before .loop-test .taken)
+          (c .before .before .before .before .before .before .before .before .before .before .before .before .before .before .before .coming-at .ensures
+          ∙ ap (λ q. comingBy q (l .tick)) (l .inv .3))
+          (c .before .before .before .before .before .before .before .before .before .before .before .before .before .release .given .1)
+          (release-turn _ _ (l .jobs) (l .job) _ _ _ _ _ _
+          (c .before .before .before .before .before .before .before .before .before .before .before .wide .ensures)
+          (c .before .before .before .before .before .before .before .before .before .before .octal .ensures .0)
+          (c .before .before .before .before .before .before .before .before .before .wide2 .ensures)
+          (c .before .before .before .before .before .before .before .drop-by .ensures)
+          (c .before .before .before .before .before .before .begun .ensures) (c .before .before .before .before .zero-by .ensures)
+          (c .before .before .usize-at .ensures) (c .before .started .ensures))
+          u e),
+    )
 
 stops-requires : tie.Need-stops-requires Inv-loop μ-loop
 stops-requires c κs = search needs
 
 returns : tie.Need-returns Inv-loop μ-loop
-returns c = let l = c .before .before .before .before .before .loop in record { jobs = set (l .jobs) (l .p) (l .job); mask = l .mask; next = l .place; ends = l .inv .4 _ (after-stop _ _ _ _ (c .before .before .before .coming-at .ensures ∙ ap (λ q. comingBy q (l .tick)) (l .inv .3)) (sym (c .before .stops .ensures) ∙ c .if1 .taken)) }
+returns c =
+    let l = c .before .before .before .before .before .loop in record {
+      jobs = set (l .jobs) (l .p) (l .job);
+      mask = l .mask;
+      next = l .place;
+      ends =
+          l .inv .4 _ (after-stop _ _ _ _ (c .before .before .before .coming-at .ensures ∙ ap (λ q. comingBy q (l .tick)) (l .inv .3))
+          (sym (c .before .stops .ensures) ∙ c .if1 .taken));
+    }
 
 add-tick : tie.Need-add-tick Inv-loop μ-loop
-add-tick c = omega (arith, c .before .before .before .before .before .loop-test .taken, c .before .before .before .before .before .before .before .before .before .before .fits)
+add-tick c = omega (
+  arith,
+  c .before .before .before .before .before .loop-test .taken,
+  c .before .before .before .before .before .before .before .before .before .before .fits,
+)
 
 loop-less-2 : tie.Need-loop-less-2 Inv-loop μ-loop
 loop-less-2 c = omega (arith, c .before .before .before .before .before .loop-test)
 
 loop-again-2 : tie.Need-loop-again-2 Inv-loop μ-loop
-loop-again-2 c = let l = c .before .before .before .before .before .before .loop in (omega (arith, c .before .before .before .before .before .loop-test), l .inv .1, l .inv .2, l .inv .3, λ u e. l .inv .4 u (after-tick _ _ _ _ _ (c .before .before .before .before .before .loop-test .taken) (c .before .before .before .before .coming-at .ensures ∙ ap (λ q. comingBy q (l .tick)) (l .inv .3)) (not-due _ (c .before .before .before .match .keys2)) (sym (c .before .before .stops .ensures) ∙ c .before .if1 .left) (pass-turn _ _ (set (l .jobs) (l .p) (l .job)) _ _ _ _ (c .if2 .taken)) u e))
+loop-again-2 c =
+    let l = c .before .before .before .before .before .before .loop in (
+      omega (arith, c .before .before .before .before .before .loop-test),
+      l .inv .1,
+      l .inv .2,
+      l .inv .3,
+      λ u e. l .inv .4 u
+          (after-tick _ _ _ _ _ (c .before .before .before .before .before .loop-test .taken)
+          (c .before .before .before .before .coming-at .ensures ∙ ap (λ q. comingBy q (l .tick)) (l .inv .3))
+          (not-due _ (c .before .before .before .match .keys2)) (sym (c .before .before .stops .ensures) ∙ c .before .if1 .left)
+          (pass-turn _ _ (set (l .jobs) (l .p) (l .job)) _ _ _ _ (c .if2 .taken)) u e),
+    )
 
 top-requires : tie.Need-top-requires Inv-loop μ-loop
 top-requires c κs = search needs
@@ -130,10 +202,21 @@ array-copy-out-job : tie.Need-array-copy-out-job Inv-loop μ-loop
 array-copy-out-job c = omega (arith, c .wide4 .ensures, c .before .before .before .top .ensures .1)
 
 loop-less-3 : tie.Need-loop-less-3 Inv-loop μ-loop
-loop-less-3 c = let away = ne-eqb _ _ (λ q. c .before .before .before .if3 .taken (c .before .before .before .before .top .ensures .0 ∙ q)) in let here = eq-eqb _ _ (sym (c .before .before .before .before .top .ensures .0)) in rw (away, here) (omega arith)
+loop-less-3 c =
+    let away = ne-eqb _ _ (λ q. c .before .before .before .if3 .taken (c .before .before .before .before .top .ensures .0 ∙ q)) in
+    let here = eq-eqb _ _ (sym (c .before .before .before .before .top .ensures .0)) in
+    rw (away, here) (omega arith)
 
 loop-again-3 : tie.Need-loop-again-3 Inv-loop μ-loop
-loop-again-3 c = let l = c .before .before .before .before .before .before .before .before .before .before .before .loop in (l .inv .0, c .before .before .before .before .top .ensures .1, length-set (l .jobs) (c .before .before .wide3 .result) (l .job) ∙ l .inv .2, l .inv .3, λ u e. l .inv .4 u (same-world _ _ _ _ _ (switched _ (l .jobs) (l .job) _ _ _ _ _ _ _ _ (c .before .before .wide3 .ensures) (c .before .wide4 .ensures)) u e))
+loop-again-3 c =
+    let l = c .before .before .before .before .before .before .before .before .before .before .before .loop in (
+      l .inv .0,
+      c .before .before .before .before .top .ensures .1,
+      length-set (l .jobs) (c .before .before .wide3 .result) (l .job) ∙ l .inv .2,
+      l .inv .3,
+      λ u e. l .inv .4 u
+          (same-world _ _ _ _ _ (switched _ (l .jobs) (l .job) _ _ _ _ _ _ _ _ (c .before .before .wide3 .ensures) (c .before .wide4 .ensures)) u e),
+    )
 
 step-requires : tie.Need-step-requires Inv-loop μ-loop
 step-requires c κs = search needs
@@ -148,16 +231,65 @@ used-requires : tie.Need-used-requires Inv-loop μ-loop
 used-requires c κs = search needs
 
 add-tick-2 : tie.Need-add-tick-2 Inv-loop μ-loop
-add-tick-2 c = omega (arith, c .before .before .before .before .before .before .before .before .before .before .before .before .before .before .before .before .before .before .before .before .before .before .before .before .before .before .before .loop-test .taken, c .before .before .before .before .before .before .before .before .before .before .before .before .before .before .before .before .before .before .before .before .before .before .before .before .before .before .before .before .before .before .before .before .fits)
+add-tick-2 c = omega (
+  arith,
+  c .before .before .before .before .before .before .before .before .before .before .before .before .before .before .before .before .before .before
+      .before .before .before .before .before .before .before .before .before .loop-test .taken,
+  c .before .before .before .before .before .before .before .before .before .before .before .before .before .before .before .before .before .before
+      .before .before .before .before .before .before .before .before .before .before .before .before .before .before .fits,
+)
 
 loop-less-4 : tie.Need-loop-less-4 Inv-loop μ-loop
-loop-less-4 c = omega (arith, c .before .before .before .before .before .before .before .before .before .before .before .before .before .before .before .before .before .before .before .before .before .before .before .before .before .before .before .loop-test, apart-most (eqb (topOf 8 (c .before .before .left .result)) (c .before .before .before .before .before .before .before .before .before .before .before .before .before .before .before .before .before .before .before .before .before .before .before .before .before .before .before .before .loop .p)))
+loop-less-4 c = omega (
+  arith,
+  c .before .before .before .before .before .before .before .before .before .before .before .before .before .before .before .before .before .before
+      .before .before .before .before .before .before .before .before .before .loop-test,
+  apart-most (eqb (topOf 8 (c .before .before .left .result))
+      (c .before .before .before .before .before .before .before .before .before .before .before .before .before .before .before .before .before
+      .before .before .before .before .before .before .before .before .before .before .before .loop .p)),
+)
 
 loop-again-4 : tie.Need-loop-again-4 Inv-loop μ-loop
-loop-again-4 c = let l = c .before .before .before .before .before .before .before .before .before .before .before .before .before .before .before .before .before .before .before .before .before .before .before .before .before .before .before .before .loop in (omega (arith, c .before .before .before .before .before .before .before .before .before .before .before .before .before .before .before .before .before .before .before .before .before .before .before .before .before .before .before .loop-test), l .inv .1, l .inv .2, l .inv .3, λ u e. l .inv .4 u (after-tick _ _ _ _ _ (c .before .before .before .before .before .before .before .before .before .before .before .before .before .before .before .before .before .before .before .before .before .before .before .before .before .before .before .loop-test .taken) (c .before .before .before .before .before .before .before .before .before .before .before .before .before .before .before .before .before .before .before .before .before .before .before .before .before .before .coming-at .ensures ∙ ap (λ q. comingBy q (l .tick)) (l .inv .3)) (not-due _ (c .before .before .before .before .before .before .before .before .before .before .before .before .before .before .before .before .before .before .before .before .before .before .before .before .before .match .keys2)) (sym (c .before .before .before .before .before .before .before .before .before .before .before .before .before .before .before .before .before .before .before .before .before .before .before .before .stops .ensures) ∙ c .before .before .before .before .before .before .before .before .before .before .before .before .before .before .before .before .before .before .before .before .before .before .before .if1 .left) (tick-turn _ _ _ (l .jobs) (l .job) (c .before .before .before .before .step .result) _ _ _ _ (l .p) (c .before .before .before .before .before .before .before .before .before .before .before .before .before .before .before .before .before .before .before .before .before .before .if2 .left) (c .before .before .before .before .before .before .before .before .before .before .before .before .before .before .before .before .before .before .before .before .before .top .ensures .0) (c .before .before .before .before .before .before .before .before .before .before .before .before .before .before .before .before .before .before .before .before .if3 .left) (c .before .before .before .wide5 .ensures) (omega (arith, l .inv .1, l .inv .2)) (c .before .before .before .before .step .ensures) (c .before .before .left .ensures) (c .used .ensures)) u e))
+loop-again-4 c =
+    let l = c .before .before .before .before .before .before .before .before .before .before .before .before .before .before .before .before .before
+    .before .before .before .before .before .before .before .before .before .before .before .loop in (
+      omega (
+        arith,
+        c .before .before .before .before .before .before .before .before .before .before .before .before .before .before .before .before .before
+            .before .before .before .before .before .before .before .before .before .before .loop-test,
+      ),
+      l .inv .1,
+      l .inv .2,
+      l .inv .3,
+      λ u e. l .inv .4 u
+          (after-tick _ _ _ _ _
+          (c .before .before .before .before .before .before .before .before .before .before .before .before .before .before .before .before .before
+          .before .before .before .before .before .before .before .before .before .before .loop-test .taken)
+          (c .before .before .before .before .before .before .before .before .before .before .before .before .before .before .before .before .before
+          .before .before .before .before .before .before .before .before .before .coming-at .ensures
+          ∙ ap (λ q. comingBy q (l .tick)) (l .inv .3))
+          (not-due _ (c .before .before .before .before .before .before .before .before .before .before .before .before .before .before .before
+          .before .before .before .before .before .before .before .before .before .before .match .keys2))
+          (sym (c .before .before .before .before .before .before .before .before .before .before .before .before .before .before .before .before
+          .before .before .before .before .before .before .before .before .stops .ensures)
+          ∙ c .before .before .before .before .before .before .before .before .before .before .before .before .before .before .before .before .before
+          .before .before .before .before .before .before .if1 .left)
+          (tick-turn _ _ _ (l .jobs) (l .job) (c .before .before .before .before .step .result) _ _ _ _ (l .p)
+          (c .before .before .before .before .before .before .before .before .before .before .before .before .before .before .before .before .before
+          .before .before .before .before .before .if2 .left)
+          (c .before .before .before .before .before .before .before .before .before .before .before .before .before .before .before .before .before
+          .before .before .before .before .top .ensures .0)
+          (c .before .before .before .before .before .before .before .before .before .before .before .before .before .before .before .before .before
+          .before .before .before .if3 .left)
+          (c .before .before .before .wide5 .ensures) (omega (arith, l .inv .1, l .inv .2)) (c .before .before .before .before .step .ensures)
+          (c .before .before .left .ensures) (c .used .ensures))
+          u e),
+    )
 
 returns-2 : tie.Need-returns-2 Inv-loop μ-loop
-returns-2 c = let l = c .before .loop in record { jobs = set (l .jobs) (l .p) (l .job); mask = l .mask; next = l .place; ends = l .inv .4 _ (limited (c .loop-test .left)) }
+returns-2 c =
+    let l = c .before .loop in
+    record { jobs = set (l .jobs) (l .p) (l .job); mask = l .mask; next = l .place; ends = l .inv .4 _ (limited (c .loop-test .left)) }
 
 pub run-spec : {M : Type 1} → statement M
 run-spec =

@@ -32,7 +32,9 @@ loop-less c = search needs
 
 loop-again : tie.Need-loop-again Inv-loop μ-loop
 unfolding zeroed
-loop-again c = let l = c .before .before .before .before .loop in (omega arith, rw (add-one, ← l .inv .1, ← c .before .before .slot .ensures, c .set-u32x64 .ensures))
+loop-again c =
+    let l = c .before .before .before .before .loop in
+    (omega arith, rw (add-one, ← l .inv .1, ← c .before .before .slot .ensures, c .set-u32x64 .ensures))
 
 returns : tie.Need-returns Inv-loop μ-loop
 returns c = let l = c .before .loop in let q : l .n ≡ 8 = omega (arith, c .loop-test) in rw q at (l .inv .1)

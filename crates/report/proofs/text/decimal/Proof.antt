@@ -27,7 +27,9 @@ same-length c = search needs
 
 returns : tie.Need-returns
 returns c =
-    to-the-end (c .before .before .before .before .before .before .before .digits .last .0) (c .before .before .before .before .before .before .before .digits .result) 10 (c .before .before .copy .ensures) (c .before .before .before .before .before .before .before .digits .ensures .1) (search needs) (search needs)
+    to-the-end (c .before .before .before .before .before .before .before .digits .last .0)
+    (c .before .before .before .before .before .before .before .digits .result) 10 (c .before .before .copy .ensures)
+    (c .before .before .before .before .before .before .before .digits .ensures .1) (search needs) (search needs)
 
 pub decimal-spec : {M : Type 1} → statement M
 decimal-spec =

@@ -37,8 +37,11 @@ loop-less : tie.Need-loop-less Inv-loop μ-loop
 loop-less c = search needs
 
 loop-again : tie.Need-loop-again Inv-loop μ-loop
-loop-again c =
-    (search needs, line-more (fieldOf _ _) (ap (λ (v : ℕ). 0x20 ∷ decimal v) (c .before .before .before .u32-at .ensures)) (c .before .before .before .before .before .before .loop .inv .1) (c .before .before .field .ensures))
+loop-again c = (
+  search needs,
+  line-more (fieldOf _ _) (ap (λ (v : ℕ). 0x20 ∷ decimal v) (c .before .before .before .u32-at .ensures))
+      (c .before .before .before .before .before .before .loop .inv .1) (c .before .before .field .ensures),
+)
 
 put-requires : tie.Need-put-requires Inv-loop μ-loop
 put-requires c κs = omega (arith, c .before .before .loop .inv .1 .room, c .before .before .before .before .before .pre)
@@ -48,7 +51,8 @@ same-length c = same-size (c .before .before .put .ensures) ∙ same-size (c .be
 
 returns : tie.Need-returns Inv-loop μ-loop
 returns c =
-    all-fields _ _ _ _ (c .before .before .before .before .before .loop .inv .0) (c .before .before .before .before .loop-test .left) (search needs) (c .before .before .before .before .before .loop .inv .1) (c .before .before .put .ensures)
+    all-fields _ _ _ _ (c .before .before .before .before .before .loop .inv .0) (c .before .before .before .before .loop-test .left) (search needs)
+    (c .before .before .before .before .before .loop .inv .1) (c .before .before .put .ensures)
 
 pub fields-spec : {M : Type 1} → statement M
 fields-spec =

@@ -20,7 +20,8 @@ same-length c = search needs
 returns : tie.Need-returns
 unfolding fields
 returns c =
-    then (c .before .before .before .before .before .before .before .before .before .before .head .ensures) (then (c .before .before .before .before .before .before .field .ensures) (c .before .before .put .ensures))
+    then (c .before .before .before .before .before .before .before .before .before .before .head .ensures)
+    (then (c .before .before .before .before .before .before .field .ensures) (c .before .before .put .ensures))
 
 pub pair-line-spec : {M : Type 1} → statement M
 pair-line-spec = tie.close (tie.spec head-requires field-requires put-requires same-length returns)

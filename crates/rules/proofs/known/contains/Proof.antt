@@ -38,8 +38,11 @@ loop-less c = omega arith
 
 loop-again : tie.Need-loop-again Inv-loop μ-loop
 loop-again c = let a = c .before .before .before .before .before .args in
-    let below : c .before .before .before .before .loop .i < a .count = omega arith in
-    (omega arith, omega arith, c .before .before .before .before .loop .inv .2 ∙ among-next (a .x) _ _ _ below (c .before .before .before .loop-test .taken) (c .if2 .left))
+    let below : c .before .before .before .before .loop .i < a .count = omega arith in (
+      omega arith,
+      omega arith,
+      c .before .before .before .before .loop .inv .2 ∙ among-next (a .x) _ _ _ below (c .before .before .before .loop-test .taken) (c .if2 .left),
+    )
 
 returns-3 : tie.Need-returns-3 Inv-loop μ-loop
 returns-3 c = let a = c .before .before .args in

@@ -24,10 +24,15 @@ at-end-requires : tie.Need-at-end-requires
 at-end-requires c κs = search needs
 
 returns-2 : tie.Need-returns-2
-returns-2 c = λ go. stops-at-end go _ _ _ _ _ (sym (rw (c .before .before .before .enum-told .given .1) at (c .before .before .before .before .before .fault .ensures))) (sym (c .before .before .is-end .ensures) ∙ c .before .if1 .taken) ∙ sym (c .at-end .ensures)
+returns-2 c = λ go.
+    stops-at-end go _ _ _ _ _
+    (sym (rw (c .before .before .before .enum-told .given .1) at (c .before .before .before .before .before .fault .ensures)))
+    (sym (c .before .before .is-end .ensures) ∙ c .before .if1 .taken)
+    ∙ sym (c .at-end .ensures)
 
 returns-3 : tie.Need-returns-3
-returns-3 c = (sym (rw (c .before .before .enum-told .given .1) at (c .before .before .before .before .fault .ensures)), sym (c .before .is-end .ensures) ∙ c .if1 .left)
+returns-3 c =
+    (sym (rw (c .before .before .enum-told .given .1) at (c .before .before .before .before .fault .ensures)), sym (c .before .is-end .ensures) ∙ c .if1 .left)
 
 pub judge-spec : {M : Type 1} → statement M
 judge-spec =

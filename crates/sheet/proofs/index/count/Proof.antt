@@ -10,13 +10,16 @@ enum-told : tie.Need-enum-told
 enum-told c = search needs
 
 add-y : tie.Need-add-y
-add-y c = let room : c .before .before .before .args .x .words < 32 = rw (c .before .enum-told .given .1) at (c .before .before .before .pre) in omega arith
+add-y c =
+    let room : c .before .before .before .args .x .words < 32 = rw (c .before .enum-told .given .1) at (c .before .before .before .pre) in omega arith
 
 enum-told-2 : tie.Need-enum-told-2
 enum-told-2 c = search needs
 
 add-y-2 : tie.Need-add-y-2
-add-y-2 c = let room : c .before .before .before .args .x .blocks < 16 = rw (c .before .enum-told2 .given .1) at (c .before .before .before .pre) in omega arith
+add-y-2 c =
+    let room : c .before .before .before .args .x .blocks < 16 = rw (c .before .enum-told2 .given .1) at (c .before .before .before .pre) in
+    omega arith
 
 enum-told-3 : tie.Need-enum-told-3
 enum-told-3 c = search needs
@@ -28,10 +31,14 @@ mul-y : tie.Need-mul-y
 mul-y c = search needs
 
 element-write-y : tie.Need-element-write-y
-element-write-y c = let room : c .before .before .before .args .x .tasks < 8 = rw (c .before .enum-told3 .given .1) at (c .before .before .before .pre) in omega arith
+element-write-y c =
+    let room : c .before .before .before .args .x .tasks < 8 = rw (c .before .enum-told3 .given .1) at (c .before .before .before .pre) in omega arith
 
 add-y-3 : tie.Need-add-y-3
-add-y-3 c = let room : c .before .before .before .before .args .x .tasks < 8 = rw (c .before .before .enum-told3 .given .1) at (c .before .before .before .before .pre) in omega arith
+add-y-3 c =
+    let room : c .before .before .before .before .args .x .tasks < 8 =
+    rw (c .before .before .enum-told3 .given .1) at (c .before .before .before .before .pre) in
+    omega arith
 
 enum-told-4 : tie.Need-enum-told-4
 enum-told-4 c = search needs
@@ -40,7 +47,10 @@ first-place-requires : tie.Need-first-place-requires
 first-place-requires c κs = search needs
 
 add-y-4 : tie.Need-add-y-4
-add-y-4 c = let room : c .before .before .before .before .args .x .releases < 256 = rw (c .before .before .enum-told4 .given .1) at (c .before .before .before .before .pre) in omega arith
+add-y-4 c =
+    let room : c .before .before .before .before .args .x .releases < 256 =
+    rw (c .before .before .enum-told4 .given .1) at (c .before .before .before .before .pre) in
+    omega arith
 
 enum-told-5 : tie.Need-enum-told-5
 enum-told-5 c = search needs

@@ -36,20 +36,36 @@ enum-told c = search needs
 
 returns : tie.Need-returns Inv-loop μ-loop
 returns c = let e : c .before .before .decode .result ≡ Refused (c .enum-told .given .0 .0) = c .enum-told .given .1 in
-    not-refused (here (c .before .before .before .before .loop .inv) (c .before .before .before .loop-test .taken)) (sym (rw e at (c .before .before .decode .ensures)))
+    not-refused (here (c .before .before .before .before .loop .inv) (c .before .before .before .loop-test .taken))
+    (sym (rw e at (c .before .before .decode .ensures)))
 
 count-requires : tie.Need-count-requires Inv-loop μ-loop
-count-requires c κs = let vs = valuesFrom (c .before .before .before .before .before .before .before .before .args .sheet .now) (suc (c .before .before .before .before .before .loop .at)) in
-    room-values vs (c .before .before .before .before .before .loop .x) (c .before .d .given .0 .0) (is-found (here (c .before .before .before .before .before .loop .inv) (c .before .before .before .before .loop-test .taken)) (sym (rw (c .before .d .given .1) at (c .before .before .before .decode .ensures))) .0)
+count-requires c κs =
+    let vs = valuesFrom (c .before .before .before .before .before .before .before .before .args .sheet .now)
+    (suc (c .before .before .before .before .before .loop .at)) in
+    room-values vs (c .before .before .before .before .before .loop .x) (c .before .d .given .0 .0)
+    (is-found (here (c .before .before .before .before .before .loop .inv) (c .before .before .before .before .loop-test .taken))
+    (sym (rw (c .before .d .given .1) at (c .before .before .before .decode .ensures))) .0)
 
 loop-less : tie.Need-loop-less Inv-loop μ-loop
-loop-less c = let e : commandAt (c .before .before .before .before .before .before .before .before .before .args .sheet .now) (c .before .before .before .before .before .before .loop .at) ≡ found _ (c .before .before .d .given .0 .1 .0) = sym (rw (c .before .before .d .given .1) at (c .before .before .before .before .decode .ensures)) in
+loop-less c =
+    let e : commandAt (c .before .before .before .before .before .before .before .before .before .args .sheet .now)
+    (c .before .before .before .before .before .before .loop .at)
+    ≡ found _ (c .before .before .d .given .0 .1 .0) = sym
+    (rw (c .before .before .d .given .1) at (c .before .before .before .before .decode .ensures)) in
     omega (arith, next-after _ _ e .0, next-after _ _ e .1)
 
 loop-again : tie.Need-loop-again Inv-loop μ-loop
-loop-again c = let vs = valuesFrom (c .before .before .before .before .before .before .before .before .before .args .sheet .now) (suc (c .before .before .before .before .before .before .loop .at)) in
-    rw (c .count .ensures, ← counted-values vs (c .before .before .before .before .before .before .loop .x) (c .before .before .d .given .0 .0) (c .before .before .before .before .before .before .loop .at) (c .before .before .d .given .0 .1 .0))
-    (is-found (here (c .before .before .before .before .before .before .loop .inv) (c .before .before .before .before .before .loop-test .taken)) (sym (rw (c .before .before .d .given .1) at (c .before .before .before .before .decode .ensures))) .1)
+loop-again c =
+    let vs = valuesFrom (c .before .before .before .before .before .before .before .before .before .args .sheet .now)
+    (suc (c .before .before .before .before .before .before .loop .at)) in
+    rw (
+      c .count .ensures,
+      ← counted-values vs (c .before .before .before .before .before .before .loop .x) (c .before .before .d .given .0 .0)
+          (c .before .before .before .before .before .before .loop .at) (c .before .before .d .given .0 .1 .0),
+    )
+    (is-found (here (c .before .before .before .before .before .before .loop .inv) (c .before .before .before .before .before .loop-test .taken))
+    (sym (rw (c .before .before .d .given .1) at (c .before .before .before .before .decode .ensures))) .1)
 
 returns-2 : tie.Need-returns-2 Inv-loop μ-loop
 returns-2 c = finished (c .before .loop .inv) (c .loop-test .left)

@@ -18,7 +18,8 @@ value4-requires c κs = omega (arith, fits _ (c .before .pre .sound), c .before 
 
 returns : tie.Need-returns
 returns c = let s = c .before .before .args .sheet .now in
-    c .value4 .ensures ∙ ap (λ (p : ℕ). bigEndian s p 4) (omega arith) ∙ sym (word-of s (c .before .before .pre .sound) (c .before .before .args .i) (c .before .before .pre .declared))
+    c .value4 .ensures ∙ ap (λ (p : ℕ). bigEndian s p 4) (omega arith)
+    ∙ sym (word-of s (c .before .before .pre .sound) (c .before .before .args .i) (c .before .before .pre .declared))
 
 pub word-spec : {M : Type 1} → statement M
 word-spec = tie.close (tie.spec mul-value4 add-value4 value4-requires returns)

@@ -47,11 +47,15 @@ enum-known-c-2 c = search needs
 
 after-body-requires : tie.Need-after-body-requires
 unfolding underCeiling
-after-body-requires c κs = and-eq-true-iff (ltb (c .before .before .before .before .before .before .args .k .counts .commands) 512) _ .0 (rw (c .before .c2 .given .1) at (c .before .before .before .before .before .before .pre)) .1
+after-body-requires c κs =
+    and-eq-true-iff (ltb (c .before .before .before .before .before .before .args .k .counts .commands) 512) _ .0
+    (rw (c .before .c2 .given .1) at (c .before .before .before .before .before .before .pre)) .1
 
 in-body-requires : tie.Need-in-body-requires
 unfolding underCeiling
-in-body-requires c κs = ltb-true _ _ (and-eq-true-iff _ _ .0 (rw (c .before .before .c2 .given .1) at (c .before .before .before .before .before .before .before .pre)) .0)
+in-body-requires c κs =
+    ltb-true _ _
+    (and-eq-true-iff _ _ .0 (rw (c .before .before .c2 .given .1) at (c .before .before .before .before .before .before .before .pre)) .0)
 
 returns : tie.Need-returns
 unfolding after

@@ -23,7 +23,10 @@ include-requires-2 : tie.Need-include-requires-2
 include-requires-2 c κs = and-eq-true-iff _ _ .0 (rw (c .before .a2 .given .1) at (c .before .before .before .before .before .pre)) .0
 
 include-requires-3 : tie.Need-include-requires-3
-include-requires-3 c κs = room-wider _ _ (and-eq-true-iff (room 8 (c .before .before .a2 .given .0 .0) (viewNumbers (c .before .before .before .before .before .before .args .b .touched))) _ .0 (rw (c .before .before .a2 .given .1) at (c .before .before .before .before .before .before .pre)) .1)
+include-requires-3 c κs =
+    room-wider _ _
+    (and-eq-true-iff (room 8 (c .before .before .a2 .given .0 .0) (viewNumbers (c .before .before .before .before .before .before .args .b .touched)))
+    _ .0 (rw (c .before .before .a2 .given .1) at (c .before .before .before .before .before .before .pre)) .1)
 
 transaction-requires-2 : tie.Need-transaction-requires-2
 transaction-requires-2 c κs = search needs
@@ -32,7 +35,9 @@ returns : tie.Need-returns
 returns c = rw (c .before .before .before .a .given .1, ← c .before .include .ensures) (c .transaction .ensures)
 
 returns-2 : tie.Need-returns-2
-returns-2 c = rw (c .before .before .before .before .a2 .given .1, ← c .before .before .include2 .ensures, ← c .before .include3 .ensures) (c .transaction2 .ensures)
+returns-2 c =
+    rw (c .before .before .before .before .a2 .given .1, ← c .before .before .include2 .ensures, ← c .before .include3 .ensures)
+    (c .transaction2 .ensures)
 
 pub named-spec : {M : Type 1} → statement M
 named-spec =

@@ -18,13 +18,23 @@ returns : tie.Need-returns
 returns c = between-refused _ _ _ _ (c .before .before .command-byte .ensures) (c .enum-told .given .1)
 
 add-inner-command : tie.Need-add-inner-command
-add-inner-command c = let says = rw (c .before .before .before .before .before .before .before .before .before .before .before .before .opcode .given .1) at (c .before .before .before .before .before .before .before .before .before .before .before .before .before .before .command-byte .ensures) in omega (arith, says .0)
+add-inner-command c =
+    let says = rw (c .before .before .before .before .before .before .before .before .before .before .before .before .opcode .given .1)
+    at (c .before .before .before .before .before .before .before .before .before .before .before .before .before .before .command-byte .ensures) in
+    omega (arith, says .0)
 
 inner-command-requires : tie.Need-inner-command-requires
-inner-command-requires c κs = let says = rw (c .before .before .before .before .before .before .before .before .before .before .before .before .opcode .given .1) at (c .before .before .before .before .before .before .before .before .before .before .before .before .before .before .command-byte .ensures) in omega (arith, says .0)
+inner-command-requires c κs =
+    let says = rw (c .before .before .before .before .before .before .before .before .before .before .before .before .opcode .given .1)
+    at (c .before .before .before .before .before .before .before .before .before .before .before .before .before .before .command-byte .ensures) in
+    omega (arith, says .0)
 
 returns-2 : tie.Need-returns-2
-returns-2 c = between-known _ _ _ _ (c .before .before .before .before .before .before .before .before .before .before .before .before .before .before .before .command-byte .ensures) (c .before .before .before .before .before .before .before .before .before .before .before .before .before .opcode .given .1) (c .inner-command .ensures)
+returns-2 c =
+    between-known _ _ _ _
+    (c .before .before .before .before .before .before .before .before .before .before .before .before .before .before .before .command-byte .ensures)
+    (c .before .before .before .before .before .before .before .before .before .before .before .before .before .opcode .given .1)
+    (c .inner-command .ensures)
 
 pub between-spec : {M : Type 1} → statement M
 between-spec =

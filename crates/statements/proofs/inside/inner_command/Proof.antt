@@ -28,7 +28,9 @@ goes-on-requires : tie.Need-goes-on-requires
 goes-on-requires c κs = search needs
 
 returns : tie.Need-returns
-returns c = between-load _ _ _ _ _ _ (c .before .before .before .before .before .before .match .keys1) (c .before .before .before .before .byte .ensures) (c .before .before .before .value4 .ensures) (c .before .before .set-register .ensures) (c .before .moved-to .ensures) (c .goes-on .ensures)
+returns c =
+    between-load _ _ _ _ _ _ (c .before .before .before .before .before .before .match .keys1) (c .before .before .before .before .byte .ensures)
+    (c .before .before .before .value4 .ensures) (c .before .before .set-register .ensures) (c .before .moved-to .ensures) (c .goes-on .ensures)
 
 byte-requires-2 : tie.Need-byte-requires-2
 byte-requires-2 c κs = search needs
@@ -52,7 +54,9 @@ goes-on-requires-2 : tie.Need-goes-on-requires-2
 goes-on-requires-2 c κs = search needs
 
 returns-2 : tie.Need-returns-2
-returns-2 c = between-add _ _ _ _ _ _ (c .before .before .before .before .before .before .match .keys2) (c .before .before .before .before .byte2 .ensures) (c .before .before .before .byte3 .ensures) (c .before .before .add .ensures) (c .before .moved-to2 .ensures) (c .goes-on2 .ensures)
+returns-2 c =
+    between-add _ _ _ _ _ _ (c .before .before .before .before .before .before .match .keys2) (c .before .before .before .before .byte2 .ensures)
+    (c .before .before .before .byte3 .ensures) (c .before .before .add .ensures) (c .before .moved-to2 .ensures) (c .goes-on2 .ensures)
 
 moved-to-requires-3 : tie.Need-moved-to-requires-3
 moved-to-requires-3 c κs = search needs
@@ -61,7 +65,9 @@ commit-requires : tie.Need-commit-requires
 commit-requires c κs = search needs
 
 returns-3 : tie.Need-returns-3
-returns-3 c = between-commit _ _ _ _ _ _ (c .before .before .before .before .before .before .before .before .before .before .match .keys3) (c .before .moved-to3 .ensures) (c .commit .ensures)
+returns-3 c =
+    between-commit _ _ _ _ _ _ (c .before .before .before .before .before .before .before .before .before .before .match .keys3)
+    (c .before .moved-to3 .ensures) (c .commit .ensures)
 
 add-moved-to-3 : tie.Need-add-moved-to-3
 add-moved-to-3 c = search needs
@@ -76,13 +82,20 @@ access-requires : tie.Need-access-requires
 access-requires c κs = search needs
 
 returns-4 : tie.Need-returns-4
-returns-4 c = between-access _ _ _ _ _ _ (c .before .before .before .before .before .before .before .before .if1 .left) (c .before .before .before .before .before .before .before .if2 .taken) (c .before .before .moved-to4 .ensures) (c .before .access-of .ensures) (c .access .ensures)
+returns-4 c =
+    between-access _ _ _ _ _ _ (c .before .before .before .before .before .before .before .before .if1 .left)
+    (c .before .before .before .before .before .before .before .if2 .taken) (c .before .before .moved-to4 .ensures) (c .before .access-of .ensures)
+    (c .access .ensures)
 
 returns-5 : tie.Need-returns-5
-returns-5 c = between-rest _ _ _ _ _ _ _ (omega arith) (c .before .match .rest .0 .0 .1) (c .before .match .rest .0 .1) (λ e. omega (arith, c .if1 .taken)) (λ e. omega (arith, c .if1 .taken)) (c .before .match .rest .1)
+returns-5 c =
+    between-rest _ _ _ _ _ _ _ (omega arith) (c .before .match .rest .0 .0 .1) (c .before .match .rest .0 .1) (λ e. omega (arith, c .if1 .taken))
+    (λ e. omega (arith, c .if1 .taken)) (c .before .match .rest .1)
 
 returns-6 : tie.Need-returns-6
-returns-6 c = between-rest _ _ _ _ _ _ _ (omega arith) (c .before .before .match .rest .0 .0 .1) (c .before .before .match .rest .0 .1) (λ e. omega (arith, c .if2 .left)) (λ e. omega (arith, c .if2 .left)) (c .before .before .match .rest .1)
+returns-6 c =
+    between-rest _ _ _ _ _ _ _ (omega arith) (c .before .before .match .rest .0 .0 .1) (c .before .before .match .rest .0 .1)
+    (λ e. omega (arith, c .if2 .left)) (λ e. omega (arith, c .if2 .left)) (c .before .before .match .rest .1)
 
 pub inner-command-spec : {M : Type 1} → statement M
 inner-command-spec =

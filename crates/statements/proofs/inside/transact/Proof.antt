@@ -31,7 +31,10 @@ first-read-requires : tie.Need-first-read-requires
 first-read-requires c κs = search needs
 
 returns-2 : tie.Need-returns-2
-returns-2 c = inside-first _ _ _ _ (c .before .before .before .before .before .before .before .inner .given .1) (c .before .before .before .before .before .block .ensures) (c .before .before .before .before .bank .ensures) (c .before .before .before .read-tick .ensures) (c .first-read .ensures)
+returns-2 c =
+    inside-first _ _ _ _ (c .before .before .before .before .before .before .before .inner .given .1)
+    (c .before .before .before .before .before .block .ensures) (c .before .before .before .before .bank .ensures)
+    (c .before .before .before .read-tick .ensures) (c .first-read .ensures)
 
 enum-known-inner-2 : tie.Need-enum-known-inner-2
 enum-known-inner-2 c = search needs
@@ -59,7 +62,10 @@ again-read-requires : tie.Need-again-read-requires
 again-read-requires c κs = search needs
 
 returns-4 : tie.Need-returns-4
-returns-4 c = inside-again _ _ _ _ (c .before .before .before .before .before .before .before .before .inner3 .given .1) (c .before .before .before .before .before .before .block2 .ensures) (c .before .before .before .before .before .bank2 .ensures) (c .before .before .before .before .read-tick2 .ensures) (c .again-read .ensures)
+returns-4 c =
+    inside-again _ _ _ _ (c .before .before .before .before .before .before .before .before .inner3 .given .1)
+    (c .before .before .before .before .before .before .block2 .ensures) (c .before .before .before .before .before .bank2 .ensures)
+    (c .before .before .before .before .read-tick2 .ensures) (c .again-read .ensures)
 
 enum-told-2 : tie.Need-enum-told-2
 enum-told-2 c = search needs

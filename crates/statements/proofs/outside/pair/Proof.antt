@@ -21,7 +21,13 @@ enter-requires c κs = search needs
 
 returns : tie.Need-returns
 unfolding paired
-returns c = rw (← c .before .before .before .before .before .before .before .before .before .before .before .slot .ensures, ← c .before .before .before .before .before .before .before .before .before .before .slot2 .ensures, ← c .before .before .before .u32-at .ensures, ← c .before .u32-at2 .ensures, ← c .enter .ensures)
+returns c = rw (
+  ← c .before .before .before .before .before .before .before .before .before .before .before .slot .ensures,
+  ← c .before .before .before .before .before .before .before .before .before .before .slot2 .ensures,
+  ← c .before .before .before .u32-at .ensures,
+  ← c .before .u32-at2 .ensures,
+  ← c .enter .ensures,
+)
 
 pub pair-spec : {M : Type 1} → statement M
 pair-spec =

@@ -18,13 +18,23 @@ returns : tie.Need-returns
 returns c = plain-refused _ _ _ _ (c .before .before .command-byte .ensures) (c .enum-told .given .1)
 
 add-plain-command : tie.Need-add-plain-command
-add-plain-command c = let says = rw (c .before .before .before .before .before .before .before .before .before .before .before .before .opcode .given .1) at (c .before .before .before .before .before .before .before .before .before .before .before .before .before .before .command-byte .ensures) in omega (arith, says .0)
+add-plain-command c =
+    let says = rw (c .before .before .before .before .before .before .before .before .before .before .before .before .opcode .given .1)
+    at (c .before .before .before .before .before .before .before .before .before .before .before .before .before .before .command-byte .ensures) in
+    omega (arith, says .0)
 
 plain-command-requires : tie.Need-plain-command-requires
-plain-command-requires c κs = let says = rw (c .before .before .before .before .before .before .before .before .before .before .before .before .opcode .given .1) at (c .before .before .before .before .before .before .before .before .before .before .before .before .before .before .command-byte .ensures) in omega (arith, says .0)
+plain-command-requires c κs =
+    let says = rw (c .before .before .before .before .before .before .before .before .before .before .before .before .opcode .given .1)
+    at (c .before .before .before .before .before .before .before .before .before .before .before .before .before .before .command-byte .ensures) in
+    omega (arith, says .0)
 
 returns-2 : tie.Need-returns-2
-returns-2 c = plain-known _ _ _ _ (c .before .before .before .before .before .before .before .before .before .before .before .before .before .before .before .command-byte .ensures) (c .before .before .before .before .before .before .before .before .before .before .before .before .before .opcode .given .1) (c .plain-command .ensures)
+returns-2 c =
+    plain-known _ _ _ _
+    (c .before .before .before .before .before .before .before .before .before .before .before .before .before .before .before .command-byte .ensures)
+    (c .before .before .before .before .before .before .before .before .before .before .before .before .before .opcode .given .1)
+    (c .plain-command .ensures)
 
 pub plain-spec : {M : Type 1} → statement M
 plain-spec =

@@ -25,7 +25,9 @@ done-requires : tie.Need-done-requires
 done-requires c κs = search needs
 
 returns : tie.Need-returns
-returns c = plain-load _ _ _ _ _ _ (c .before .before .before .before .before .before .match .keys1) (c .before .before .before .before .byte .ensures) (c .before .before .before .value4 .ensures) (c .before .before .set-register .ensures) (c .done .ensures)
+returns c =
+    plain-load _ _ _ _ _ _ (c .before .before .before .before .before .before .match .keys1) (c .before .before .before .before .byte .ensures)
+    (c .before .before .before .value4 .ensures) (c .before .before .set-register .ensures) (c .done .ensures)
 
 byte-requires-2 : tie.Need-byte-requires-2
 byte-requires-2 c κs = search needs
@@ -46,7 +48,9 @@ done-requires-2 : tie.Need-done-requires-2
 done-requires-2 c κs = search needs
 
 returns-2 : tie.Need-returns-2
-returns-2 c = plain-add _ _ _ _ _ _ (c .before .before .before .before .before .before .match .keys2) (c .before .before .before .before .byte2 .ensures) (c .before .before .before .byte3 .ensures) (c .before .before .add .ensures) (c .done2 .ensures)
+returns-2 c =
+    plain-add _ _ _ _ _ _ (c .before .before .before .before .before .before .match .keys2) (c .before .before .before .before .byte2 .ensures)
+    (c .before .before .before .byte3 .ensures) (c .before .before .add .ensures) (c .done2 .ensures)
 
 byte-requires-4 : tie.Need-byte-requires-4
 byte-requires-4 c κs = search needs
@@ -73,7 +77,11 @@ read-by-requires : tie.Need-read-by-requires
 read-by-requires c κs = search needs
 
 returns-3 : tie.Need-returns-3
-returns-3 c = plain-read _ _ _ _ _ _ (c .before .before .before .before .before .before .before .before .before .match .keys3) (c .before .before .before .before .before .before .before .before .byte4 .ensures) (c .before .before .before .before .before .before .before .byte5 .ensures) (c .before .moved-to .ensures) (c .before .before .before .before .before .wide .ensures) (c .before .before .before .before .read-tick .ensures) (c .read-by .ensures)
+returns-3 c =
+    plain-read _ _ _ _ _ _ (c .before .before .before .before .before .before .before .before .before .match .keys3)
+    (c .before .before .before .before .before .before .before .before .byte4 .ensures)
+    (c .before .before .before .before .before .before .before .byte5 .ensures) (c .before .moved-to .ensures)
+    (c .before .before .before .before .before .wide .ensures) (c .before .before .before .before .read-tick .ensures) (c .read-by .ensures)
 
 byte-requires-6 : tie.Need-byte-requires-6
 byte-requires-6 c κs = search needs
@@ -103,7 +111,10 @@ done-requires-3 : tie.Need-done-requires-3
 done-requires-3 c κs = search needs
 
 returns-4 : tie.Need-returns-4
-returns-4 c = plain-pair _ _ _ _ _ _ (c .before .before .before .before .before .before .before .before .before .before .before .before .before .match .keys4) (c .before .before .before .before .before .before .byte6 .ensures) (c .before .before .before .before .before .byte7 .ensures) (c .before .before .before .before .byte8 .ensures) (c .before .before .before .pair .ensures) (c .before .next .ensures) (c .done3 .ensures)
+returns-4 c =
+    plain-pair _ _ _ _ _ _ (c .before .before .before .before .before .before .before .before .before .before .before .before .before .match .keys4)
+    (c .before .before .before .before .before .before .byte6 .ensures) (c .before .before .before .before .before .byte7 .ensures)
+    (c .before .before .before .before .byte8 .ensures) (c .before .before .before .pair .ensures) (c .before .next .ensures) (c .done3 .ensures)
 
 byte-requires-9 : tie.Need-byte-requires-9
 byte-requires-9 c κs = search needs
@@ -121,7 +132,9 @@ in-phase-requires : tie.Need-in-phase-requires
 in-phase-requires c κs = search needs
 
 returns-5 : tie.Need-returns-5
-returns-5 c = plain-swap _ _ _ _ _ _ (c .before .before .before .before .before .match .keys5) (c .before .before .before .before .byte9 .ensures) (c .before .before .start .ensures) (c .before .moved-to2 .ensures) (c .in-phase .ensures)
+returns-5 c =
+    plain-swap _ _ _ _ _ _ (c .before .before .before .before .before .match .keys5) (c .before .before .before .before .byte9 .ensures)
+    (c .before .before .start .ensures) (c .before .moved-to2 .ensures) (c .in-phase .ensures)
 
 copy-requires : tie.Need-copy-requires
 copy-requires c κs = search needs
@@ -133,10 +146,14 @@ job-at-requires : tie.Need-job-at-requires
 job-at-requires c κs = search needs
 
 returns-6 : tie.Need-returns-6
-returns-6 c = plain-begin _ _ _ _ _ _ (c .before .before .before .before .before .before .match .keys6) (c .before .before .before .copy .ensures) (c .before .clear .ensures) (c .job-at .ensures)
+returns-6 c =
+    plain-begin _ _ _ _ _ _ (c .before .before .before .before .before .before .match .keys6) (c .before .before .before .copy .ensures)
+    (c .before .clear .ensures) (c .job-at .ensures)
 
 returns-7 : tie.Need-returns-7
-returns-7 c = plain-rest _ _ _ _ _ _ _ (omega arith) (c .match .rest .0 .0 .0 .0 .0 .1) (c .match .rest .0 .0 .0 .0 .1) (c .match .rest .0 .0 .0 .1) (c .match .rest .0 .0 .1) (c .match .rest .0 .1) (c .match .rest .1)
+returns-7 c =
+    plain-rest _ _ _ _ _ _ _ (omega arith) (c .match .rest .0 .0 .0 .0 .0 .1) (c .match .rest .0 .0 .0 .0 .1) (c .match .rest .0 .0 .0 .1)
+    (c .match .rest .0 .0 .1) (c .match .rest .0 .1) (c .match .rest .1)
 
 pub plain-command-spec : {M : Type 1} → statement M
 plain-command-spec =

@@ -17,7 +17,10 @@ plain-requires : tie.Need-plain-requires
 plain-requires c κs = search needs
 
 returns-2 : tie.Need-returns-2
-returns-2 c = other-plain _ _ _ _ _ _ (c .before .before .before .before .before .before .before .before .before .before .before .before .before .enum-told2 .given .1) (c .plain .ensures)
+returns-2 c =
+    other-plain _ _ _ _ _ _
+    (c .before .before .before .before .before .before .before .before .before .before .before .before .before .enum-told2 .given .1)
+    (c .plain .ensures)
 
 enum-known-phase : tie.Need-enum-known-phase
 enum-known-phase c = search needs
@@ -32,7 +35,9 @@ read-by-requires : tie.Need-read-by-requires
 read-by-requires c κs = search needs
 
 returns-3 : tie.Need-returns-3
-returns-3 c = other-read _ _ _ _ _ (c .before .before .before .before .before .before .before .phase .given .1) (c .before .before .before .before .wide .ensures) (c .before .before .before .read-tick .ensures) (c .read-by .ensures)
+returns-3 c =
+    other-read _ _ _ _ _ (c .before .before .before .before .before .before .before .phase .given .1)
+    (c .before .before .before .before .wide .ensures) (c .before .before .before .read-tick .ensures) (c .read-by .ensures)
 
 enum-told-3 : tie.Need-enum-told-3
 enum-told-3 c = search needs
@@ -47,7 +52,10 @@ transact-requires : tie.Need-transact-requires
 transact-requires c κs = search needs
 
 returns-5 : tie.Need-returns-5
-returns-5 c = other-transaction _ _ _ _ _ _ (c .before .before .before .before .before .before .before .before .before .before .before .before .before .before .phase2 .given .1) (c .transact .ensures)
+returns-5 c =
+    other-transaction _ _ _ _ _ _
+    (c .before .before .before .before .before .before .before .before .before .before .before .before .before .before .phase2 .given .1)
+    (c .transact .ensures)
 
 pub other-spec : {M : Type 1} → statement M
 other-spec =

@@ -32,14 +32,28 @@ check-requires c κs = search needs
 
 returns-2 : tie.Need-returns-2
 unfolding againRead
-returns-2 c = rw (c .before .before .before .before .before .before .before .before .before .read2 .given .1, ← c .before .before .before .before .before .before .before .block .ensures, ← c .before .before .before .before .before .before .block-place .ensures, ← c .before .before .before .before .u32-at .ensures, eq-eqb _ _ (c .before .before .before .if1 .taken), ← c .check .ensures)
+returns-2 c = rw (
+  c .before .before .before .before .before .before .before .before .before .read2 .given .1,
+  ← c .before .before .before .before .before .before .before .block .ensures,
+  ← c .before .before .before .before .before .before .block-place .ensures,
+  ← c .before .before .before .before .u32-at .ensures,
+  eq-eqb _ _ (c .before .before .before .if1 .taken),
+  ← c .check .ensures,
+)
 
 restart-requires : tie.Need-restart-requires
 restart-requires c κs = search needs
 
 returns-3 : tie.Need-returns-3
 unfolding againRead
-returns-3 c = rw (c .before .before .before .before .before .before .before .before .before .read2 .given .1, ← c .before .before .before .before .before .before .before .block .ensures, ← c .before .before .before .before .before .before .block-place .ensures, ← c .before .before .before .before .u32-at .ensures, ne-eqb _ _ (c .before .before .before .if1 .left), ← c .restart .ensures)
+returns-3 c = rw (
+  c .before .before .before .before .before .before .before .before .before .read2 .given .1,
+  ← c .before .before .before .before .before .before .before .block .ensures,
+  ← c .before .before .before .before .before .before .block-place .ensures,
+  ← c .before .before .before .before .u32-at .ensures,
+  ne-eqb _ _ (c .before .before .before .if1 .left),
+  ← c .restart .ensures,
+)
 
 pub again-read-spec : {M : Type 1} → statement M
 again-read-spec =

@@ -34,7 +34,13 @@ next-requires c κs = search needs
 
 returns-2 : tie.Need-returns-2
 unfolding checkedBy
-returns-2 c = rw (c .before .before .before .before .before .before .access2 .given .1, ← c .before .before .before .before .block-place .ensures, c .before .set-u8x128 .ensures, c .before .before .wrapping-add-u8 .ensures, c .next .ensures)
+returns-2 c = rw (
+  c .before .before .before .before .before .before .access2 .given .1,
+  ← c .before .before .before .before .block-place .ensures,
+  c .before .set-u8x128 .ensures,
+  c .before .before .wrapping-add-u8 .ensures,
+  c .next .ensures,
+)
 
 pub check-spec : {M : Type 1} → statement M
 check-spec =

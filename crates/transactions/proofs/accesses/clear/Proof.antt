@@ -32,7 +32,9 @@ loop-less c = search needs
 
 loop-again : tie.Need-loop-again Inv-loop μ-loop
 unfolding cleared
-loop-again c = let l = c .before .before .before .before .loop in (omega arith, rw (add-one, ← l .inv .1, ← c .before .before .block-place .ensures, c .set-u8x128 .ensures))
+loop-again c =
+    let l = c .before .before .before .before .loop in
+    (omega arith, rw (add-one, ← l .inv .1, ← c .before .before .block-place .ensures, c .set-u8x128 .ensures))
 
 returns : tie.Need-returns Inv-loop μ-loop
 returns c = let l = c .before .loop in let q : l .b ≡ 16 = omega (arith, c .loop-test) in rw q at (l .inv .1)

@@ -43,14 +43,43 @@ inner-requires c κs = search needs
 
 returns : tie.Need-returns
 unfolding afterCopy
-returns c = rw (← c .before .before .before .before .before .before .before .before .before .before .before .before .before .before .before .before .before .block .ensures, ← c .before .before .before .before .before .before .before .before .before .before .before .before .before .before .before .before .block-place .ensures, ← c .before .before .before .before .before .before .before .before .before .before .before .before .before .before .u32-at .ensures, ← c .before .before .before .before .before .before .before .before .before .before .before .before .before .low-byte .ensures, ← c .before .before .before .before .before .before .before .before .before .before .before .before .slot .ensures, ← c .before .before .before .before .before .before .before .before .before .before .before .quarter .ensures, ← c .before .before .before .before .before .before .before .before .before .u8-at .ensures, ← c .before .before .before .before .before .before .before .before .slot2 .ensures, ← c .before .before .before .before .before .u32-at2 .ensures, ← c .before .before .next .ensures, eq-eqb _ _ (c .before .if1 .taken), c .before .before .before .set-u32x384 .ensures, c .inner .ensures)
+returns c = rw (
+  ← c .before .before .before .before .before .before .before .before .before .before .before .before .before .before .before .before .before .block .ensures,
+  ← c .before .before .before .before .before .before .before .before .before .before .before .before .before .before .before .before .block-place .ensures,
+  ← c .before .before .before .before .before .before .before .before .before .before .before .before .before .before .u32-at .ensures,
+  ← c .before .before .before .before .before .before .before .before .before .before .before .before .before .low-byte .ensures,
+  ← c .before .before .before .before .before .before .before .before .before .before .before .before .slot .ensures,
+  ← c .before .before .before .before .before .before .before .before .before .before .before .quarter .ensures,
+  ← c .before .before .before .before .before .before .before .before .before .u8-at .ensures,
+  ← c .before .before .before .before .before .before .before .before .slot2 .ensures,
+  ← c .before .before .before .before .before .u32-at2 .ensures,
+  ← c .before .before .next .ensures,
+  eq-eqb _ _ (c .before .if1 .taken),
+  c .before .before .before .set-u32x384 .ensures,
+  c .inner .ensures,
+)
 
 inner-requires-2 : tie.Need-inner-requires-2
 inner-requires-2 c κs = search needs
 
 returns-2 : tie.Need-returns-2
 unfolding afterCopy
-returns-2 c = rw (← c .before .before .before .before .before .before .before .before .before .before .before .before .before .before .before .before .before .block .ensures, ← c .before .before .before .before .before .before .before .before .before .before .before .before .before .before .before .before .block-place .ensures, ← c .before .before .before .before .before .before .before .before .before .before .before .before .before .before .u32-at .ensures, ← c .before .before .before .before .before .before .before .before .before .before .before .before .before .low-byte .ensures, ← c .before .before .before .before .before .before .before .before .before .before .before .before .slot .ensures, ← c .before .before .before .before .before .before .before .before .before .before .before .quarter .ensures, ← c .before .before .before .before .before .before .before .before .before .u8-at .ensures, ← c .before .before .before .before .before .before .before .before .slot2 .ensures, ← c .before .before .before .before .before .u32-at2 .ensures, ← c .before .before .next .ensures, ne-eqb _ _ (c .before .if1 .left), c .before .before .before .set-u32x384 .ensures, c .inner2 .ensures, c .before .before .next .ensures)
+returns-2 c = rw (
+  ← c .before .before .before .before .before .before .before .before .before .before .before .before .before .before .before .before .before .block .ensures,
+  ← c .before .before .before .before .before .before .before .before .before .before .before .before .before .before .before .before .block-place .ensures,
+  ← c .before .before .before .before .before .before .before .before .before .before .before .before .before .before .u32-at .ensures,
+  ← c .before .before .before .before .before .before .before .before .before .before .before .before .before .low-byte .ensures,
+  ← c .before .before .before .before .before .before .before .before .before .before .before .before .slot .ensures,
+  ← c .before .before .before .before .before .before .before .before .before .before .before .quarter .ensures,
+  ← c .before .before .before .before .before .before .before .before .before .u8-at .ensures,
+  ← c .before .before .before .before .before .before .before .before .slot2 .ensures,
+  ← c .before .before .before .before .before .u32-at2 .ensures,
+  ← c .before .before .next .ensures,
+  ne-eqb _ _ (c .before .if1 .left),
+  c .before .before .before .set-u32x384 .ensures,
+  c .inner2 .ensures,
+  c .before .before .next .ensures,
+)
 
 pub copy-spec : {M : Type 1} → statement M
 copy-spec =

@@ -34,7 +34,14 @@ inner-requires-2 c κs = search needs
 
 returns-2 : tie.Need-returns-2
 unfolding firstRead
-returns-2 c = rw (c .before .before .before .before .before .before .before .before .read2 .given .1, ← c .before .before .before .before .before .before .block .ensures, ← c .before .before .before .before .before .block-place .ensures, c .before .set-u32x128 .ensures, c .before .before .before .set-u8x128 .ensures, c .inner2 .ensures)
+returns-2 c = rw (
+  c .before .before .before .before .before .before .before .before .read2 .given .1,
+  ← c .before .before .before .before .before .before .block .ensures,
+  ← c .before .before .before .before .before .block-place .ensures,
+  c .before .set-u32x128 .ensures,
+  c .before .before .before .set-u8x128 .ensures,
+  c .inner2 .ensures,
+)
 
 pub first-read-spec : {M : Type 1} → statement M
 first-read-spec =

@@ -18,7 +18,8 @@ inner-requires c κs = search needs
 
 returns : tie.Need-returns
 unfolding gotBy
-returns c = rw (← c .before .before .before .before .store-for .ensures, ← c .before .before .before .slot .ensures, ← c .before .u32-at .ensures, c .inner .ensures)
+returns c =
+    rw (← c .before .before .before .before .store-for .ensures, ← c .before .before .before .slot .ensures, ← c .before .u32-at .ensures, c .inner .ensures)
 
 pub get-spec : {M : Type 1} → statement M
 get-spec =

@@ -24,7 +24,14 @@ goes-on-requires c κs = search needs
 
 returns : tie.Need-returns
 unfolding afterPut
-returns c = rw (← c .before .before .before .before .before .before .before .store-for .ensures, ← c .before .before .before .before .before .before .slot .ensures, ← c .before .before .before .before .before .slot2 .ensures, ← c .before .before .before .u32-at .ensures, c .before .set-u32x384 .ensures, c .goes-on .ensures)
+returns c = rw (
+  ← c .before .before .before .before .before .before .before .store-for .ensures,
+  ← c .before .before .before .before .before .before .slot .ensures,
+  ← c .before .before .before .before .before .slot2 .ensures,
+  ← c .before .before .before .u32-at .ensures,
+  c .before .set-u32x384 .ensures,
+  c .goes-on .ensures,
+)
 
 pub put-spec : {M : Type 1} → statement M
 put-spec =

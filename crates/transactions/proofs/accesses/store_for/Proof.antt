@@ -17,7 +17,13 @@ low-byte-requires : tie.Need-low-byte-requires
 low-byte-requires c κs = search needs
 
 returns : tie.Need-returns
-returns c = rw (← c .before .before .before .before .before .before .block-place .ensures, ← c .before .before .before .before .u8-at .ensures, lt-ltb _ _ (c .before .before .before .if1 .taken), ← c .before .u32-at .ensures, ← c .low-byte .ensures)
+returns c = rw (
+  ← c .before .before .before .before .before .before .block-place .ensures,
+  ← c .before .before .before .before .u8-at .ensures,
+  lt-ltb _ _ (c .before .before .before .if1 .taken),
+  ← c .before .u32-at .ensures,
+  ← c .low-byte .ensures,
+)
 
 quarter-requires : tie.Need-quarter-requires
 quarter-requires c κs = search needs
@@ -26,7 +32,13 @@ u8-at-requires-2 : tie.Need-u8-at-requires-2
 u8-at-requires-2 c κs = search needs
 
 returns-2 : tie.Need-returns-2
-returns-2 c = rw (← c .before .before .before .before .before .before .block-place .ensures, ← c .before .before .before .before .u8-at .ensures, le-ltb _ _ (c .before .before .before .if1 .left), ← c .before .before .quarter .ensures, ← c .u8-at2 .ensures)
+returns-2 c = rw (
+  ← c .before .before .before .before .before .before .block-place .ensures,
+  ← c .before .before .before .before .u8-at .ensures,
+  le-ltb _ _ (c .before .before .before .if1 .left),
+  ← c .before .before .quarter .ensures,
+  ← c .u8-at2 .ensures,
+)
 
 pub store-for-spec : {M : Type 1} → statement M
 store-for-spec =

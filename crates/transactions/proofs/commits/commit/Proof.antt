@@ -26,14 +26,24 @@ job-at-requires c κs = search needs
 
 returns-2 : tie.Need-returns-2
 unfolding commitBy
-returns-2 c = rw (sym (c .before .before .before .before .before .before .untouched .ensures) ∙ c .before .before .before .before .before .if1 .left, sym (c .before .before .before .before .spent .ensures) ∙ c .before .before .before .if2 .taken, c .before .count .ensures, c .job-at .ensures)
+returns-2 c = rw (
+  sym (c .before .before .before .before .before .before .untouched .ensures) ∙ c .before .before .before .before .before .if1 .left,
+  sym (c .before .before .before .before .spent .ensures) ∙ c .before .before .before .if2 .taken,
+  c .before .count .ensures,
+  c .job-at .ensures,
+)
 
 gather-requires : tie.Need-gather-requires
 gather-requires c κs = search needs
 
 returns-3 : tie.Need-returns-3
 unfolding commitBy
-returns-3 c = rw (sym (c .before .before .before .before .before .before .before .before .before .untouched .ensures) ∙ c .before .before .before .before .before .before .before .before .if1 .left, sym (c .before .before .before .before .before .before .before .spent .ensures) ∙ c .before .before .before .before .before .before .if2 .left, ← c .gather .ensures)
+returns-3 c = rw (
+  sym (c .before .before .before .before .before .before .before .before .before .untouched .ensures)
+      ∙ c .before .before .before .before .before .before .before .before .if1 .left,
+  sym (c .before .before .before .before .before .before .before .spent .ensures) ∙ c .before .before .before .before .before .before .if2 .left,
+  ← c .gather .ensures,
+)
 
 pub commit-spec : {M : Type 1} → statement M
 commit-spec =

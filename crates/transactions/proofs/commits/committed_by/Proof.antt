@@ -25,7 +25,12 @@ done-requires c κs = search needs
 
 returns-2 : tie.Need-returns-2
 unfolding committedBy
-returns-2 c = rw (c .before .before .before .before .before .before .before .exchanged2 .given .1, c .before .before .before .before .before .if1 .taken, ← c .before .before .take-back .ensures, ← c .done .ensures)
+returns-2 c = rw (
+  c .before .before .before .before .before .before .before .exchanged2 .given .1,
+  c .before .before .before .before .before .if1 .taken,
+  ← c .before .before .take-back .ensures,
+  ← c .done .ensures,
+)
 
 count-requires : tie.Need-count-requires
 count-requires c κs = search needs
@@ -35,7 +40,12 @@ restart-requires c κs = search needs
 
 returns-3 : tie.Need-returns-3
 unfolding committedBy
-returns-3 c = rw (c .before .before .before .before .before .before .before .exchanged2 .given .1, c .before .before .before .before .before .if1 .left, ← c .before .before .before .count .ensures, ← c .restart .ensures)
+returns-3 c = rw (
+  c .before .before .before .before .before .before .before .exchanged2 .given .1,
+  c .before .before .before .before .before .if1 .left,
+  ← c .before .before .before .count .ensures,
+  ← c .restart .ensures,
+)
 
 enum-known-exchanged-3 : tie.Need-enum-known-exchanged-3
 enum-known-exchanged-3 c = search needs

@@ -10,7 +10,8 @@ use Rattle.transactions.proofs.commits.gather.Tie as tie
 
 abbrev Inv-loop : tie.InvT-loop
 Inv-loop copies names₀ olds₀ news₀ inits₀ overlapped₀ kinds remembered p n₀ b₀ names olds news inits overlapped n b =
-    (b ≤ 16) × (gathering n names olds news inits overlapped ≡ gatheredTo copies kinds remembered p b (gathering 0 names₀ olds₀ news₀ inits₀ overlapped₀))
+    (b ≤ 16)
+    × (gathering n names olds news inits overlapped ≡ gatheredTo copies kinds remembered p b (gathering 0 names₀ olds₀ news₀ inits₀ overlapped₀))
 
 abbrev μ-loop : tie.MeasureT-loop
 μ-loop copies names₀ olds₀ news₀ inits₀ overlapped₀ kinds remembered p n₀ b₀ names olds news inits overlapped n b =
@@ -31,7 +32,9 @@ loop-less c = search needs
 
 loop-again : tie.Need-loop-again Inv-loop μ-loop
 unfolding gatheredTo
-loop-again c = let l = c .before .before .before .before .before .before .before .loop in (omega (arith, c .before .before .before .before .before .before .loop-test), rw (add-one, ← l .inv .1) (c .gather-one .ensures))
+loop-again c =
+    let l = c .before .before .before .before .before .before .before .loop in
+    (omega (arith, c .before .before .before .before .before .before .loop-test), rw (add-one, ← l .inv .1) (c .gather-one .ensures))
 
 returns : tie.Need-returns Inv-loop μ-loop
 returns c = let l = c .before .loop in let q : l .b ≡ 16 = omega (arith, c .loop-test) in rw q at (l .inv .1)

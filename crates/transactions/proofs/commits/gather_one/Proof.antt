@@ -32,7 +32,15 @@ next-requires c κs = search needs
 
 returns-2 : tie.Need-returns-2
 unfolding gatheredOne
-returns-2 c = rw (← c .before .before .before .before .before .before .before .before .before .before .before .before .before .block-place .ensures, ← c .before .before .before .before .before .before .before .before .before .before .before .u8-at .ensures, ne-eqb _ _ (c .before .before .before .before .before .before .before .before .before .before .if1 .left), ← c .before .before .before .before .before .before .before .before .u32-at .ensures, ← c .before .before .new-bank .ensures, c .next .ensures, ← c .before .enter .ensures)
+returns-2 c = rw (
+  ← c .before .before .before .before .before .before .before .before .before .before .before .before .before .block-place .ensures,
+  ← c .before .before .before .before .before .before .before .before .before .before .before .u8-at .ensures,
+  ne-eqb _ _ (c .before .before .before .before .before .before .before .before .before .before .if1 .left),
+  ← c .before .before .before .before .before .before .before .before .u32-at .ensures,
+  ← c .before .before .new-bank .ensures,
+  c .next .ensures,
+  ← c .before .enter .ensures,
+)
 
 pub gather-one-spec : {M : Type 1} → statement M
 gather-one-spec =

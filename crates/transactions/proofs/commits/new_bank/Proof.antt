@@ -26,7 +26,13 @@ wrapping-add-u32-requires : tie.Need-wrapping-add-u32-requires
 wrapping-add-u32-requires c κs = search needs
 
 returns-2 : tie.Need-returns-2
-returns-2 c = rw (le-ltb _ _ (c .before .before .before .before .before .if1 .left), ← c .before .before .before .before .quarter .ensures, ← c .before .before .u8-at .ensures, ← c .before .wider .ensures .0, c .wrapping-add-u32 .ensures)
+returns-2 c = rw (
+  le-ltb _ _ (c .before .before .before .before .before .if1 .left),
+  ← c .before .before .before .before .quarter .ensures,
+  ← c .before .before .u8-at .ensures,
+  ← c .before .wider .ensures .0,
+  c .wrapping-add-u32 .ensures,
+)
 
 pub new-bank-spec : {M : Type 1} → statement M
 new-bank-spec =

@@ -32,7 +32,13 @@ is-spent-requires : tie.Need-is-spent-requires Inv-loop μ-loop
 is-spent-requires c κs = search needs
 
 returns : tie.Need-returns Inv-loop μ-loop
-returns c = let l = c .before .before .before .before .before .before .before .before .loop in sym (l .inv .1 ∙ spent-stops _ _ _ 16 (l .b) (omega (arith, c .before .before .before .before .before .before .before .loop-test)) (rw (← c .before .before .before .before .before .before .block-place .ensures, ← c .before .before .before .before .u8-at .ensures, ← c .before .before .u32-at .ensures) (sym (c .before .is-spent .ensures) ∙ c .if1 .taken)))
+returns c =
+    let l = c .before .before .before .before .before .before .before .before .loop in
+    sym (l .inv .1 ∙ spent-stops _ _ _ 16 (l .b) (omega (arith, c .before .before .before .before .before .before .before .loop-test)) (rw (
+      ← c .before .before .before .before .before .before .block-place .ensures,
+      ← c .before .before .before .before .u8-at .ensures,
+      ← c .before .before .u32-at .ensures,
+    ) (sym (c .before .is-spent .ensures) ∙ c .if1 .taken)))
 
 add-b : tie.Need-add-b Inv-loop μ-loop
 add-b c = search needs
@@ -41,7 +47,15 @@ loop-less : tie.Need-loop-less Inv-loop μ-loop
 loop-less c = search needs
 
 loop-again : tie.Need-loop-again Inv-loop μ-loop
-loop-again c = let l = c .before .before .before .before .before .before .before .before .loop in (omega (arith, c .before .before .before .before .before .before .before .loop-test), l .inv .1 ∙ spent-goes-on _ _ _ 16 (l .b) (omega (arith, c .before .before .before .before .before .before .before .loop-test)) (rw (← c .before .before .before .before .before .before .block-place .ensures, ← c .before .before .before .before .u8-at .ensures, ← c .before .before .u32-at .ensures) (sym (c .before .is-spent .ensures) ∙ c .if1 .left)))
+loop-again c =
+    let l = c .before .before .before .before .before .before .before .before .loop in (
+      omega (arith, c .before .before .before .before .before .before .before .loop-test),
+      l .inv .1 ∙ spent-goes-on _ _ _ 16 (l .b) (omega (arith, c .before .before .before .before .before .before .before .loop-test)) (rw (
+        ← c .before .before .before .before .before .before .block-place .ensures,
+        ← c .before .before .before .before .u8-at .ensures,
+        ← c .before .before .u32-at .ensures,
+      ) (sym (c .before .is-spent .ensures) ∙ c .if1 .left)),
+    )
 
 returns-2 : tie.Need-returns-2 Inv-loop μ-loop
 unfolding spentFrom

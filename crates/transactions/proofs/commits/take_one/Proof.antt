@@ -29,7 +29,15 @@ set-u8x32-requires c κs = search needs
 
 returns-2 : tie.Need-returns-2
 unfolding takenOne
-returns-2 c = rw (← c .before .before .before .before .before .before .before .before .before .block-place .ensures, ← c .before .before .before .before .before .before .before .u8-at .ensures, le-ltb _ _ (c .before .before .before .before .before .before .if1 .left), ← c .before .before .before .before .before .quarter .ensures, ← c .before .before .before .u32-at .ensures, ← c .before .before .low-byte .ensures, c .set-u8x32 .ensures)
+returns-2 c = rw (
+  ← c .before .before .before .before .before .before .before .before .before .block-place .ensures,
+  ← c .before .before .before .before .before .before .before .u8-at .ensures,
+  le-ltb _ _ (c .before .before .before .before .before .before .if1 .left),
+  ← c .before .before .before .before .before .quarter .ensures,
+  ← c .before .before .before .u32-at .ensures,
+  ← c .before .before .low-byte .ensures,
+  c .set-u8x32 .ensures,
+)
 
 pub take-one-spec : {M : Type 1} → statement M
 take-one-spec =

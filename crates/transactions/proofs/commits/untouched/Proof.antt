@@ -27,7 +27,11 @@ u8-at-requires : tie.Need-u8-at-requires Inv-loop μ-loop
 u8-at-requires c κs = search needs
 
 returns : tie.Need-returns Inv-loop μ-loop
-returns c = let l = c .before .before .before .before .before .loop in sym (l .inv .1 ∙ untouched-stops _ _ 16 (l .b) (omega (arith, c .before .before .before .before .loop-test)) (rw (← c .before .before .before .block-place .ensures, ← c .before .u8-at .ensures) (c .if1 .taken)))
+returns c =
+    let l = c .before .before .before .before .before .loop in
+    sym (l .inv .1
+    ∙ untouched-stops _ _ 16 (l .b) (omega (arith, c .before .before .before .before .loop-test))
+    (rw (← c .before .before .before .block-place .ensures, ← c .before .u8-at .ensures) (c .if1 .taken)))
 
 add-b : tie.Need-add-b Inv-loop μ-loop
 add-b c = search needs
@@ -36,7 +40,13 @@ loop-less : tie.Need-loop-less Inv-loop μ-loop
 loop-less c = search needs
 
 loop-again : tie.Need-loop-again Inv-loop μ-loop
-loop-again c = let l = c .before .before .before .before .before .loop in (omega (arith, c .before .before .before .before .loop-test), l .inv .1 ∙ untouched-goes-on _ _ 16 (l .b) (omega (arith, c .before .before .before .before .loop-test)) (rw (← c .before .before .before .block-place .ensures, ← c .before .u8-at .ensures) (c .if1 .left)))
+loop-again c =
+    let l = c .before .before .before .before .before .loop in (
+      omega (arith, c .before .before .before .before .loop-test),
+      l .inv .1
+          ∙ untouched-goes-on _ _ 16 (l .b) (omega (arith, c .before .before .before .before .loop-test))
+          (rw (← c .before .before .before .block-place .ensures, ← c .before .u8-at .ensures) (c .if1 .left)),
+    )
 
 returns-2 : tie.Need-returns-2 Inv-loop μ-loop
 unfolding untouchedFrom

@@ -13,7 +13,9 @@ returns : tie.Need-returns
 returns c = include-same _ _ (sym (c .before .has .ensures) ∙ c .if1 .taken)
 
 with-requires : tie.Need-with-requires
-with-requires c κs = room-left _ (c .before .before .args .x) (viewNumbers (c .before .before .args .self)) (sym (c .before .has .ensures) ∙ c .if1 .left) (c .before .before .pre)
+with-requires c κs =
+    room-left _ (c .before .before .args .x) (viewNumbers (c .before .before .args .self)) (sym (c .before .has .ensures) ∙ c .if1 .left)
+    (c .before .before .pre)
 
 returns-2 : tie.Need-returns-2
 returns-2 c = c .with .ensures ∙ include-more _ _ (sym (c .before .before .has .ensures) ∙ c .before .if1 .left)
