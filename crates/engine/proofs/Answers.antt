@@ -1,7 +1,7 @@
 -- The model's answer, case by case, and what each `return` of the two entries gives.
 use Prim.Native.Nat.{ℕ, _<_, _≤_}
-use mathlib.Core.Path.{_≡_, refl, sym, ap, _∙_, subst}
-use mathlib.Core.Bool.{Bool, true, false}
+use mathlib.Core.Path.{_≡_, sym, ap, _∙_, subst}
+use mathlib.Core.Bool.{Bool}
 use mathlib.Core.List.{List}
 use borrow.Author.Tests.{le-leb, lt-leb}
 use lib.Dec.{leb}
@@ -18,7 +18,7 @@ use Rattle.commands.specs.declared.Fault.{Fault}
 use Rattle.sheet.specs.declared.check.Verdict.the-variants.{Accepted, TurnedDown}
 use Rattle.report.specs.Text.{Reported}
 use Rattle.report.proofs.Model.{answer-written, answer-too-short}
-use Rattle.engine.specs.Contract.{Checks, ChecksFor, RunsFor, answer, answerOf}
+use Rattle.engine.specs.Contract.{Checks, RunsFor, answer, answerOf}
 use Rattle.engine.specs.Flat.{Ran}
 use Rattle.engine.proofs.Final.{same-text}
 

@@ -1,6 +1,6 @@
 -- What each statement of an exchange leaves, over the flat arrays: the next step, and the arrays that it writes.
 use Prim.Native.Nat.{ℕ, _+_, _*_}
-use mathlib.Core.Bool.{Bool, true, false, not, _&&_, _||_}
+use mathlib.Core.Bool.{Bool, true, false, _||_}
 use mathlib.Core.List.{List}
 use lib.Dec.{eqb}
 use Rattle.model.specs.Lists.{at, replace}
@@ -10,7 +10,6 @@ use Rattle.exchanges.specs.Reading.{owned, savedFor}
 use Rattle.exchanges.specs.declared.exchange.Step.{Step}
 use Rattle.exchanges.specs.declared.exchange.Step.the-variants.{Start, Test, Load, Look, Fetch, Save, Fail}
 use Rattle.exchanges.specs.declared.exchange.Step.the-variants.{Mark, Install, Commit, Clean, CleanMark}
-use Rattle.exchanges.specs.declared.exchange.Found.{Found}
 use Rattle.exchanges.specs.declared.exchange.Exchanged.{Exchanged}
 use Rattle.exchanges.specs.declared.exchange.Exchanged.the-variants.{Goes, Finds, Ends}
 

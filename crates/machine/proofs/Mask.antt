@@ -1,14 +1,14 @@
 -- The highest set bit of a mask of eight, by its leading zeros; the powers of two that are the tasks' bits.
-use mathlib.Core.Path.{_≡_, refl, sym, ap, _∙_, subst}
+use mathlib.Core.Path.{_≡_, refl, sym, _∙_, subst}
 use mathlib.Core.Logic.{_⊎_, inl, inr}
-use mathlib.Core.List.{List, [], _∷_}
-use Prim.Native.Nat.{ℕ, zero, suc, _+_, _-_, _*_, _/_, _^_, _≤_, _<_}
+use mathlib.Core.List.{[], _∷_}
+use Prim.Native.Nat.{ℕ, zero, suc, _+_, _-_, _/_, _^_, _≤_, _<_}
 use native.Mathlib.Nat.{le-trans, lt-of-not-le, not-le-of-lt, pow-le-pow-right, pow-suc, div-eq-of-lt-le}
 use native.Mathlib.Nat.{div-eq-of-lt, lt-of-lt-of-le, eq-or-lt-of-le, le-of-suc-le-suc, not-suc-le-zero}
 use native.Mathlib.Omega.{arith}
 use borrow.Author.Tests.{ne-eqb}
 use lib.Count.{leadingZeros, leading-top}
-use lib.Dec.{lit<, lit≤, eqb}
+use lib.Dec.{lit<, lit≤}
 use lib.ListN.{getD}
 use Rattle.machine.specs.World.{topOf}
 

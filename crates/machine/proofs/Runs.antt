@@ -11,7 +11,6 @@ use lib.ListN.{length, getD, set, replicate}
 use lib.Seq.{set-getD, set-set, getD-set-same}
 use Rattle.model.specs.Lists.{at}
 use Rattle.model.specs.Command as M
-use Rattle.model.proofs.Lists.{test?}
 use Rattle.commands.specs.View.{viewCommand}
 use Rattle.commands.specs.declared.Command.{Command}
 use Rattle.commands.specs.declared.Command.the-variants as C
@@ -23,7 +22,7 @@ use Rattle.jobs.specs.Jobs.{jobAt}
 use Rattle.jobs.specs.declared.Phase.the-variants as P
 use Rattle.jobs.specs.declared.Job.{Job}
 use Rattle.machine.specs.declared.releases.Coming.{Coming}
-use Rattle.machine.specs.declared.releases.Coming.the-variants.{Nothing, Later, Due}
+use Rattle.machine.specs.declared.releases.Coming.the-variants.{Nothing, Due}
 
 pub pending-view : (vs : List ℕ) (c : Command) (next : ℕ) → pendingAt (M.found (viewCommand vs c) next) ≡ pendingBy c next
 pending-view vs (C.Word v) next = refl

@@ -12,7 +12,7 @@ use Rattle.commands.specs.declared.Command.{Command}
 use Rattle.commands.specs.declared.Command.the-variants as C
 use Rattle.exchanges.specs.Places.{if}
 use Rattle.jobs.specs.Jobs.{job, jobAt, counted}
-use Rattle.statements.specs.Statements.{Arrays, arrays, Turn, turn, statement}
+use Rattle.statements.specs.Statements.{Arrays, arrays, Turn, statement}
 use Rattle.jobs.specs.declared.Phase.{Phase}
 use Rattle.jobs.specs.declared.Phase.the-variants as P
 use Rattle.jobs.specs.declared.Job.{Job}

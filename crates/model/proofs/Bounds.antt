@@ -1,6 +1,6 @@
 -- Runs in which the bounds of the rates are reached, by computation: readings of 2 ticks and of 3, exchanges of 13 and 22.
 use Prim.Native.Nat.{ℕ}
-use mathlib.Core.Bool.{true, false}
+use mathlib.Core.Bool.{false}
 use mathlib.Core.Path.{_≡_, refl}
 use mathlib.Core.List.{List, [], _∷_, _++_}
 use mathlib.Core.Option.{some}

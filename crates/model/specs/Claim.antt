@@ -12,8 +12,8 @@ use Rattle.model.specs.Word.{Memory, currentOf}
 use Rattle.model.specs.Transaction.{blockIn}
 use Rattle.model.specs.Machine.{startMachine}
 use Rattle.model.specs.Answer.{finalOf}
-use Rattle.model.specs.Arguments.{Pair, Arguments, swapOf}
-use Rattle.model.specs.Plain.{Contents, Result, result, plainly}
+use Rattle.model.specs.Arguments.{Pair, swapOf}
+use Rattle.model.specs.Plain.{Contents, result, plainly}
 use Rattle.model.specs.History.{Operation, History, operationAt, historyOf}
 
 -- A RUN'S CONTENTS are those of the W and B lines

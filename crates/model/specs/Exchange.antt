@@ -1,7 +1,7 @@
 -- SWAP of k words by task p, one step a tick: Start, Test, Load, Look, Fetch, Save, Fail, Mark, Install, Commit, Clean with its Mark.
 use Prim.Native.Nat.{ℕ, suc}
 use mathlib.Core.Bool.{Bool, true, false, not, _&&_, _||_}
-use mathlib.Core.List.{List, []}
+use mathlib.Core.List.{List}
 use lib.Dec.{eqb}
 use lib.ListN.{length}
 use Rattle.model.specs.Lists.{at, replace}

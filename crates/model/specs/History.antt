@@ -1,6 +1,6 @@
 -- The history of a run: its operations with task, arguments, first and last tick, commit and answers,
 -- read off the statements that the run does.
-use Prim.Native.Nat.{ℕ, zero, suc}
+use Prim.Native.Nat.{ℕ}
 use mathlib.Core.Bool.{Bool, true, false}
 use mathlib.Core.List.{List, [], _∷_, _++_}
 use mathlib.Core.Option.{Option, none, some}

@@ -1,18 +1,18 @@
 -- Ticks: releases arrive, the highest task with an unfinished job does one statement, until the run stops.
 use Prim.Native.Nat.{ℕ, zero, suc, _+_, _*_, _-_}
-use mathlib.Core.Bool.{Bool, true, false, not, _&&_}
+use mathlib.Core.Bool.{Bool, true, false, _&&_}
 use mathlib.Core.List.{List, [], _∷_, _++_, map}
 use lib.Dec.{eqb, ltb}
 use lib.ListN.{length, replicate}
-use Rattle.model.specs.Ceilings.{maxWords, maxBlocks, maxTasks, registers, savePlaces, blockValues}
+use Rattle.model.specs.Ceilings.{maxWords, maxBlocks, maxTasks, savePlaces, blockValues}
 use Rattle.model.specs.Lists.{at, replace}
 use Rattle.model.specs.Command.{Release, Block, Outside, READ, PAIR, SWAP, BEGIN, BodyCommand, LOAD, ADD, outside, inside}
 use Rattle.model.specs.Sheet.{Sheet}
-use Rattle.model.specs.Word.{Word, freshWord, Memory, memory, Reading, loading, Read, reads, gives, readTick}
+use Rattle.model.specs.Word.{Word, freshWord, Memory, memory, loading, Read, reads, gives, readTick}
 use Rattle.model.specs.Exchange.{Entry, entry, Exchange, exchangeOf, commitSaidYes, Exchanged, goes, ends, exchangeTick, start}
 use Rattle.model.specs.Arguments.{Pair, Arguments, readOf, swapOf, transactionOf, untilCommit}
 use Rattle.model.specs.Job.{between, Phase, idle, plain, reading, exchanging, transacting, noJob}
-use Rattle.model.specs.Job.{noCounts, ticks, Task, task, counting, inPhase, rest, done, doneBy, started}
+use Rattle.model.specs.Job.{noCounts, ticks, Task, task, counting, inPhase, done, doneBy, started}
 use Rattle.model.specs.Job.{Deed, nothingDone, began, readGave, swapCommitted, swapAnswered, Turn, turn}
 use Rattle.model.specs.Transaction.{bankValue, freshTransaction, within, loaded, added, transactionTick}
 

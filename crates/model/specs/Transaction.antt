@@ -1,13 +1,13 @@
 -- Transactions: BEGIN, GET, PUT, COMMIT with all their ticks, the stale restart, gather, spent, old stores taken back.
 use Prim.Native.Nat.{ℕ, suc, _+_, _*_, _/_, _%_}
-use mathlib.Core.Bool.{Bool, true, false, not, _&&_, _||_}
+use mathlib.Core.Bool.{Bool, true, false, _||_}
 use mathlib.Core.List.{List, [], _∷_}
 use lib.Dec.{eqb}
 use lib.ListN.{replicate}
 use Rattle.model.specs.Ceilings.{maxWords, maxBlocks, blockValues, lastVersion, valueRange}
 use Rattle.model.specs.Lists.{at, replace}
 use Rattle.model.specs.Command.{Access, GET, PUT, Block, Inside, access, COMMIT, BodyCommand, LOAD, ADD, outside, inside}
-use Rattle.model.specs.Word.{Memory, currentOf, stored, setStored, Reading, loading, Read, reads, gives, readTick}
+use Rattle.model.specs.Word.{Memory, currentOf, stored, setStored, loading, Read, reads, gives, readTick}
 use Rattle.model.specs.Exchange.{Entry, entry, Exchange, exchangeOf, commitSaidYes, Exchanged, goes, ends, exchangeTick}
 use Rattle.model.specs.Job.{Touched, untouched, remembered, copied, Transaction, Inner, between, first, copying, again, committing}
 use Rattle.model.specs.Job.{transacting, job, rejected, Task, withJob, counting, rest, done, doneBy, ended, Deed, nothingDone}

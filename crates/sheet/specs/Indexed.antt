@@ -5,7 +5,7 @@ use mathlib.Core.Bool.{Bool, true, false}
 use mathlib.Core.List.{List, [], _∷_}
 use lib.Dec.{eqb}
 use lib.ListN.{length, getD, set, replicate}
-use Rattle.model.specs.Command.{Block, Command, WORD, BLOCK, TASK, RELEASE, END, body}
+use Rattle.model.specs.Command.{Command, WORD, BLOCK, TASK, RELEASE, END, body}
 use Rattle.model.specs.Sheet.{verdict, accepted, sheetOf, bodyAt, releasesAt, commandsAt}
 use Rattle.sheet.specs.declared.index.Sheet.{Sheet}
 

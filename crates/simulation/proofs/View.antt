@@ -1,9 +1,8 @@
 -- The model's memory and tasks that flat arrays hold.
 use Prim.Native.Nat.{ℕ, zero, suc}
 use mathlib.Core.Bool.{not}
-use mathlib.Core.List.{List, [], map}
+use mathlib.Core.List.{List, []}
 use lib.Dec.{eqb}
-use lib.ListN.{length}
 use Rattle.model.specs.Lists.{at}
 use Rattle.model.specs.Command as C
 use Rattle.model.specs.Sheet.{bodyAt}
@@ -11,7 +10,7 @@ use Rattle.model.specs.Word as W
 use Rattle.model.specs.Exchange as X
 use Rattle.model.specs.Job as J
 use Rattle.memory.specs.Packed.{unpack}
-use Rattle.memory.specs.Rows.{row, rows}
+use Rattle.memory.specs.Rows.{row}
 use Rattle.commands.specs.View.{viewAccess}
 use Rattle.jobs.specs.Jobs.{Entries}
 use Rattle.exchanges.specs.declared.read.Reading.{Reading}

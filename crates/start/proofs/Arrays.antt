@@ -1,21 +1,20 @@
 -- What the crate's functions read and fill, joined to the model.
 use Prim.Native.Nat.{ℕ, zero, suc, _+_, _*_, _-_, _/_, _%_, _<_, _≤_}
 use mathlib.Core.Path.{_≡_, refl, sym, ap, _∙_, subst}
-use mathlib.Core.Bool.{true, false}
 use mathlib.Core.List.{List, [], _∷_, map}
 use native.Mathlib.Omega.{arith}
 use borrow.Author.Tests.{lt-ltb, le-ltb}
 use lib.ListN.{length, getD, set, length-map, length-set}
 use Rattle.model.specs.Lists.{at, replace}
-use Rattle.model.specs.Command.{Block, bigEndian, operand, blockFrom, noBlock}
-use Rattle.model.specs.Sheet.{Sheet, sheetOf, verdict, accepted}
+use Rattle.model.specs.Command.{Block, bigEndian, operand, noBlock}
+use Rattle.model.specs.Sheet.{Sheet, sheetOf}
 use Rattle.model.specs.Machine.{copiesOf}
 use Rattle.model.specs.Word.{freshWord}
-use Rattle.model.proofs.Lists.{same?, at-map, at-past, replace-same, replace-other, length-replace}
+use Rattle.model.proofs.Lists.{same?, at-map, at-past, replace-same, replace-other}
 use Rattle.model.proofs.Fit.Sheet.{SheetFit, blockAt}
 use Rattle.model.proofs.Fit.Accepted.{accepted-fit}
-use Rattle.memory.specs.Packed.{unpack, packed}
-use Rattle.memory.specs.Rows.{row, rows}
+use Rattle.memory.specs.Packed.{unpack}
+use Rattle.memory.specs.Rows.{row}
 use Rattle.commands.specs.Stages.{valuesFrom}
 use Rattle.sheet.specs.Indexed.{IsWord, IsBlock}
 use Rattle.sheet.proofs.Declared.{block-of, fits}

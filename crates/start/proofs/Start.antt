@@ -1,11 +1,9 @@
 -- Arrays that hold these numbers are the model's memory at the start.
 use Prim.Native.Nat.{ℕ, zero, suc, _+_, _*_, _-_, _/_, _%_, _<_, _≤_}
 use mathlib.Core.Path.{_≡_, refl, sym, ap, _∙_}
-use mathlib.Core.Bool.{true, false}
 use mathlib.Core.List.{List, [], _∷_, _++_, map}
 use native.Mathlib.Omega.{arith}
 use borrow.Author.Tests.{lt-ltb, le-ltb}
-use lib.Dec.{ltb}
 use lib.ListN.{length, getD, replicate, length-map, length-append, length-replicate}
 use lib.Seq.{ext-getD, getD-append-add}
 use Rattle.model.specs.Lists.{at}
@@ -17,7 +15,6 @@ use Rattle.model.specs.Machine.{startMemory, filled, banksFrom, zeros, startVal
 use Rattle.model.proofs.Lists.{at-append, at-replicate, at-past, at-map}
 use Rattle.model.proofs.Fit.Elements.{below?, at-filled}
 use Rattle.model.proofs.Fit.Sheet.{SheetFit}
-use Rattle.model.proofs.Fit.Memory.{MemoryFit}
 use Rattle.model.proofs.Fit.Start.{filled-size, start-memory-fit}
 use Rattle.memory.specs.Rows.{row, rowsFrom, rows}
 use Rattle.memory.proofs.Rows.{at-row, at-rows, length-row}

@@ -3,12 +3,10 @@ use Prim.Native.Nat.{ℕ, _<_}
 use mathlib.Core.Path.{_≡_}
 use mathlib.Core.List.{List, map}
 use lib.ListN.{length}
-use Rattle.model.specs.Sheet.{Sheet, sheetOf, verdict, accepted}
+use Rattle.model.specs.Sheet.{sheetOf, verdict, accepted}
 use Rattle.model.specs.Machine.{startMemory, copiesOf}
-use Rattle.model.specs.Word.{freshWord}
 use Rattle.memory.specs.Packed.{unpack}
 use Rattle.memory.specs.Rows.{row, rows}
-use Rattle.start.specs.Start.{cellStart}
 use Rattle.start.specs.declared.Counts.{Counts}
 
 -- the sheet is accepted, and these are the numbers of its words, blocks and tasks

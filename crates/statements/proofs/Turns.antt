@@ -20,9 +20,9 @@ use Rattle.commands.specs.declared.Opcode.the-variants.{Known, Refused}
 use Rattle.commands.specs.declared.Access.{Access}
 use Rattle.commands.proofs.Decoding.{cases, load-command, sum-command, read-command, pair-command}
 use Rattle.commands.proofs.Decoding.{swap-command, begin-command, get-command, put-command, commit-command}
-use Rattle.exchanges.specs.Places.{nextOf, Went, went}
+use Rattle.exchanges.specs.Places.{nextOf, went}
 use Rattle.exchanges.specs.Reading.{afterReading}
-use Rattle.exchanges.specs.Exchange.{Left, exchanged, afterStart, afterExchange}
+use Rattle.exchanges.specs.Exchange.{exchanged, afterStart, afterExchange}
 use Rattle.jobs.specs.Jobs.{jobAt, movedTo, inPhase, added, copied, Entries, afterDone, answered, readBy, swapBy}
 use Rattle.transactions.specs.Blocks.{bankOf, namedBlock, cleared}
 use Rattle.transactions.specs.Accesses.{goesOn, Touching, firstRead, Accessed, accessTick, Checked, againRead}
@@ -36,7 +36,6 @@ use Rattle.exchanges.specs.declared.read.Reading.{Reading}
 use Rattle.exchanges.specs.declared.read.Reading.the-variants.{Load}
 use Rattle.exchanges.specs.declared.read.Read.{Read}
 use Rattle.exchanges.specs.declared.exchange.Step.{Step}
-use Rattle.exchanges.specs.declared.exchange.Step.the-variants.{Start}
 use Rattle.exchanges.specs.declared.exchange.Exchanged.{Exchanged}
 use Rattle.exchanges.specs.declared.exchange.Exchanged.the-variants.{Goes}
 use Rattle.jobs.specs.declared.Inner.{Inner}

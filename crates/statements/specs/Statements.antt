@@ -1,6 +1,5 @@
 -- One statement of a task over all arrays: the command at work outside and inside a transaction, and each phase of a job.
 use Prim.Native.Nat.{ℕ, _+_, _*_}
-use mathlib.Core.Bool.{Bool, true, false}
 use mathlib.Core.List.{List}
 use Rattle.model.specs.Lists.{at, replace}
 use Rattle.model.specs.Command as M

@@ -1,6 +1,6 @@
 -- The blocks of a transaction in flat arrays, sixteen a task: kind 0 is untouched, 1 is remembered, 2 + k is copied into slot k.
 use Prim.Native.Nat.{ℕ, zero, suc, _+_, _*_, _-_, _/_, _%_}
-use mathlib.Core.Bool.{Bool, true, false, _&&_}
+use mathlib.Core.Bool.{Bool, true, false}
 use mathlib.Core.List.{List}
 use lib.Dec.{eqb, ltb}
 use Rattle.model.specs.Lists.{at, replace}

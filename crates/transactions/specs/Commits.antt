@@ -1,6 +1,6 @@
 -- What COMMIT leaves, and each tick of its exchange.
 use Prim.Native.Nat.{ℕ, _*_}
-use mathlib.Core.Bool.{Bool, true, false}
+use mathlib.Core.Bool.{true, false}
 use mathlib.Core.List.{List}
 use Rattle.exchanges.specs.Places.{if, Went, went}
 use Rattle.jobs.specs.Jobs.{job, jobAt, withValue, counted, afterDone, Entries, entries}

@@ -2,7 +2,7 @@
 -- and so does what others have loaded.
 use Prim.Native.Nat.{ℕ, _+_, _<_, _≤_}
 use mathlib.Core.Bool.{Bool, true, false, true≢false}
-use mathlib.Core.Path.{_≡_, refl, sym, _∙_, ap, subst}
+use mathlib.Core.Path.{_≡_, refl, sym, _∙_, subst}
 use mathlib.Core.Logic.{_≢_}
 use mathlib.Core.List.{List, _∷_}
 use mathlib.Core.Option.{Option, none, some}
@@ -10,9 +10,9 @@ use native.Mathlib.Omega.{arith}
 use lib.Dec.{eqb}
 use lib.ListN.{length, length-map}
 use Rattle.model.specs.Lists.{at, replace}
-use Rattle.model.specs.Command.{SWAP, Inside, BodyCommand, outside}
+use Rattle.model.specs.Command.{SWAP, BodyCommand, outside}
 use Rattle.model.specs.Word.{Word, Memory, statusOf, setStatus, currentOf, Reading, loading, looking, fetching}
-use Rattle.model.specs.Exchange.{Entry, Step, start, save, commit, Exchange, commitBy, cleanBy, exchangeTick}
+use Rattle.model.specs.Exchange.{Entry, Step, start, commit, Exchange, commitBy, cleanBy, exchangeTick}
 use Rattle.model.specs.Job.{between, first, copying, again, committing, Phase, idle, plain, exchanging, transacting, Task}
 use Rattle.model.specs.Job.{reading as readingPhase}
 use Rattle.model.specs.Transaction.{bank, blockOf}

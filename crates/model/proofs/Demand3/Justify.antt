@@ -8,7 +8,7 @@ use mathlib.Core.Option.{none, some}
 use native.Mathlib.Omega.{arith}
 use lib.ListN.{length}
 use Rattle.model.specs.Lists.{at}
-use Rattle.model.specs.Command.{Inside, access, COMMIT, BodyCommand, LOAD, ADD, outside, inside}
+use Rattle.model.specs.Command.{access, COMMIT, BodyCommand, LOAD, ADD, outside, inside}
 use Rattle.model.specs.Sheet.{Sheet}
 use Rattle.model.specs.Word.{Memory, currentOf, Reading, Read, reads, gives, readTick}
 use Rattle.model.specs.Exchange.{Step, start, Exchange, Exchanged, goes, ends, exchangeTick}

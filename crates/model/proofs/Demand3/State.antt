@@ -11,7 +11,7 @@ use Rattle.model.specs.Lists.{replace}
 use Rattle.model.specs.Sheet.{Sheet}
 use Rattle.model.specs.Word.{Memory, currentOf}
 use Rattle.model.specs.Job.{Task, counting, ticks}
-use Rattle.model.specs.Machine.{Machine, noTask, taskAt, unfinished, running, move}
+use Rattle.model.specs.Machine.{Machine, noTask, taskAt, running, move}
 use Rattle.model.specs.History.{Operation, History, observed}
 use Rattle.model.specs.Arguments.{Arguments}
 use Rattle.model.proofs.Lists.{same?, replace-same, replace-other, map-replace}

@@ -7,7 +7,7 @@ use lib.ListN.{length, replicate, getD}
 use Rattle.model.specs.Lists.{at}
 use Rattle.model.specs.Command.{Block, Release, BodyCommand, Command, WORD, BLOCK, TASK, RELEASE}
 use Rattle.model.specs.Command.{END, body, blockFrom, Row, table, operand, bigEndian, noBlock}
-use Rattle.model.specs.Sheet.{Sheet, Declared, declares, inOpenBody, declare, declared, accepted, verdict, sheetOf}
+use Rattle.model.specs.Sheet.{Sheet, Declared, declares, declare, declared, accepted, verdict, sheetOf}
 use Rattle.model.specs.Transaction.{bankValue}
 use Rattle.model.specs.Machine.{noTask, taskAt, filled, zeros, copiesOf, banksFrom, tasksFrom, startMemory, startMachine, run, startValues}
 use Rattle.model.specs.Fault.{Known}

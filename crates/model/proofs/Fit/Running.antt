@@ -7,12 +7,12 @@ use mathlib.Core.Logic.{_≢_}
 use mathlib.Core.List.{List, [], _∷_}
 use native.Mathlib.Omega.{arith}
 use lib.ListN.{length}
-use borrow.Author.Tests.{lt-ltb, ltb-true, ltb-false, le-ltb}
+use borrow.Author.Tests.{lt-ltb, ltb-true, ltb-false}
 use Rattle.model.specs.Lists.{at}
 use Rattle.model.specs.Job.{Task}
 use Rattle.model.specs.Machine.{Machine, noTask, taskAt, unfinished, runsBefore, Running, nobody, running}
 use Rattle.model.specs.Machine.{firstBy, firstOf, candidate, runningFrom, runningOf}
-use Rattle.model.proofs.Lists.{at-past, same?, test?}
+use Rattle.model.proofs.Lists.{at-past, same?}
 use Rattle.model.proofs.Fit.Elements.{below?}
 
 -- THE ORDER OF URGENCY, now by task number

@@ -9,7 +9,7 @@ use Rattle.model.specs.Lists.{at}
 use Rattle.model.specs.Command.{Block, BodyCommand, noBlock}
 use Rattle.model.specs.Sheet.{Sheet}
 use Rattle.model.specs.Word.{Word, freshWord}
-use Rattle.model.specs.Job.{idle, Task, task, noCounts, noJob}
+use Rattle.model.specs.Job.{Task, task, noCounts, noJob}
 use Rattle.model.specs.Machine.{noTask, taskAt, filled, zeros, copiesOf, banksFrom, tasksFrom, startMemory, startMachine, startValues}
 use Rattle.model.proofs.Lists.{at-append, at-map, at-replicate}
 use Rattle.model.proofs.Fit.Elements.{append-each, replicate-each, at-filled}

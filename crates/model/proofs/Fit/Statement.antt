@@ -2,7 +2,7 @@
 use Prim.Native.Nat.{ℕ, _≤_}
 use mathlib.Core.Path.{_≡_, refl, sym, _∙_, ap, subst}
 use mathlib.Core.Bool.{true, true≢false}
-use mathlib.Core.List.{List, [], _∷_, _++_}
+use mathlib.Core.List.{List, [], _∷_}
 use native.Mathlib.Omega.{arith}
 use lib.ListN.{length}
 use Rattle.model.specs.Lists.{at}
@@ -10,7 +10,7 @@ use Rattle.model.specs.Command.{Outside, READ, PAIR, SWAP, BEGIN, BodyCo
 use Rattle.model.specs.Fault.{Body}
 use Rattle.model.specs.Sheet.{after, inBody, transaction, afterBody, afterOutside}
 use Rattle.model.specs.Word.{Memory, loading, readTick}
-use Rattle.model.specs.Exchange.{Entry, entry, exchangeOf, start, exchangeTick}
+use Rattle.model.specs.Exchange.{Entry, exchangeOf, start, exchangeTick}
 use Rattle.model.specs.Job.{Phase, idle, plain, reading, exchanging, transacting, Task, rest}
 use Rattle.model.specs.Transaction.{loaded, added}
 use Rattle.model.specs.Machine.{plainTick, statement, outsideTick, recorded}

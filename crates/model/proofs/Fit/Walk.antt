@@ -11,11 +11,11 @@ use borrow.Author.Tests.{ltb-true, leb-true, eqb-true}
 use Rattle.model.specs.Lists.{at}
 use Rattle.model.specs.Command.{Block, Release, BodyCommand, LOAD, ADD, outside, inside}
 use Rattle.model.specs.Command.{Command, WORD, BLOCK, TASK, RELEASE, END, body, noBlock}
-use Rattle.model.specs.Fault.{Section, Body, Known, words?, blocks?, body?, releases?, mayEnd, bodiesOver, before, inPlace}
+use Rattle.model.specs.Fault.{Section, Known, words?, blocks?, body?, releases?, mayEnd, bodiesOver, before, inPlace}
 use Rattle.model.specs.Fault.{underCeiling, inRange, rising, faultOf, outsideTransaction, inPlaceOutside, inPlaceBody, underCeilingBody}
-use Rattle.model.specs.Sheet.{Declared, declares, inOpenBody, declare, declared, after, inBody, end?}
+use Rattle.model.specs.Sheet.{Declared, declares, inOpenBody, declare, declared, after, end?}
 use Rattle.model.proofs.Fit.Elements.{and-left, and-right, or-cases, first-each}
-use Rattle.model.proofs.Fit.Body.{Faultless, passedOf}
+use Rattle.model.proofs.Fit.Body.{passedOf}
 use Rattle.model.proofs.Fit.Sheet.{BodyFit, Rises}
 use Rattle.model.proofs.Fit.Reading.{Good, ending, going}
 use Rattle.model.proofs.Fit.Declared.{EightValues, InSection, BlockFit, DeclaredHere, in-words}

@@ -1,5 +1,5 @@
 -- Releases arrive and a task is chosen: memory and clock stay, idle jobs may start; whoever would run before the running task is idle.
-use Prim.Native.Nat.{ℕ, _<_}
+use Prim.Native.Nat.{ℕ}
 use mathlib.Core.Bool.{Bool, true, false}
 use mathlib.Core.Path.{_≡_, refl, _∙_, ap}
 use mathlib.Core.Logic.{_≢_}

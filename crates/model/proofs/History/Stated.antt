@@ -14,7 +14,7 @@ use Rattle.model.specs.Word.{current}
 use Rattle.model.specs.Machine.{run, startMachine}
 use Rattle.model.specs.Plain.{Contents}
 use Rattle.model.specs.History.{History, operationAt, historyOf}
-use Rattle.model.specs.Claim.{Counted, each, Sequence, noMore, then, Once, RespectsTime, WholeOperations}
+use Rattle.model.specs.Claim.{each, Sequence, noMore, then, Once, RespectsTime, WholeOperations}
 use Rattle.model.proofs.Fit.Elements.{and-left, and-right, or-cases, or-left, or-right}
 use Rattle.model.proofs.WholeCases.{counted, timely, fed}
 use Rattle.model.proofs.Sheets.{body₁, bodyTwoWords, against}

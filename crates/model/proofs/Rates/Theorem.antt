@@ -1,11 +1,11 @@
 -- The rates: in every run of an accepted sheet, with whatever limit, READs and exchanges take no more ticks of their own than they may.
-use Prim.Native.Nat.{ℕ, suc, _+_, _*_, _<_, _≤_}
+use Prim.Native.Nat.{ℕ, suc, _<_, _≤_}
 use mathlib.Core.Path.{_≡_, sym, _∙_, ap, subst, fun-ext}
 use mathlib.Core.List.{List}
 use mathlib.Core.Option.{none, some}
 use Rattle.model.specs.Sheet.{Sheet, sheetOf, accepted, verdict}
 use Rattle.model.specs.Word.{loading}
-use Rattle.model.specs.Machine.{taskAt, Running, runningOf, run, startMachine}
+use Rattle.model.specs.Machine.{taskAt, Running, run, startMachine}
 use Rattle.model.specs.History.{Operation}
 use Rattle.model.specs.Rates.{mostRead, mostExchange, runningIn, ownBefore, ownTicks, Committing, Starts, Ends}
 use Rattle.model.specs.Rates.{ReadsBank, Loads, Gives, IsAt, NoneIn, ReadTakes, ownAtEnd, Rates}

@@ -4,14 +4,12 @@ use mathlib.Core.Bool.{Bool, true, false, true≢false}
 use mathlib.Core.Path.{_≡_, refl, sym, _∙_, subst}
 use mathlib.Core.Logic.{_≢_}
 use mathlib.Core.List.{[]}
-use mathlib.Core.Option.{some}
 use native.Mathlib.Omega.{arith}
-use lib.Dec.{eqb}
 use lib.ListN.{length}
 use Rattle.model.specs.Lists.{at}
 use Rattle.model.specs.Word.{Memory, statusOf, currentOf}
-use Rattle.model.specs.Exchange.{Step, start, test, load, look, fetch, fail, mark, install, commit, save}
-use Rattle.model.specs.Exchange.{clean, cleanMark, Exchange, Exchanged, ends, saidYes, commitSaidYes}
+use Rattle.model.specs.Exchange.{commit}
+use Rattle.model.specs.Exchange.{Exchange, Exchanged, ends, saidYes, commitSaidYes}
 use Rattle.model.specs.Job.{Transaction, committing, transacting, Task, Turn, turn, rest, Deed}
 use Rattle.model.specs.Transaction.{bank, stays, takenBack, transactionTick, committingBy, committedIf}
 use Rattle.model.specs.History.{Operation, eventOf}

@@ -1,7 +1,6 @@
 -- A statement of the running task keeps the invariant of the transaction layer, and a bank word rises only where a transaction commits that has PUT
 -- its block.
 use Prim.Native.Nat.{ℕ, _<_, _≤_}
-use mathlib.Core.Bool.{true}
 use mathlib.Core.Path.{_≡_, refl}
 use mathlib.Core.Logic.{_≢_}
 use mathlib.Core.List.{List, []}
@@ -13,9 +12,8 @@ use Rattle.model.specs.Job.{copied, Transaction, Inner, Phase, idle, pla
 use Rattle.model.specs.Transaction.{storeOf, touchedOf}
 use Rattle.model.specs.Machine.{taskAt, noTask, statement}
 use Rattle.model.specs.History.{Operation, eventOf}
-use Rattle.model.proofs.Lists.{replace-same, replace-other, same?, test?, impossible}
+use Rattle.model.proofs.Lists.{replace-same, replace-other, same?, impossible}
 use Rattle.model.proofs.Fit.Memory.{MemoryFit}
-use Rattle.model.proofs.Fit.Transaction.{copied?}
 use Rattle.model.proofs.Transactions.Facts.{bankIn, transaction-facts, Change, unchanged, slotsOf}
 use Rattle.model.proofs.Transactions.Facts.{block, slot, Owners, TaskFacts, Transactions}
 use Rattle.model.proofs.Transactions.Given.{Given}
