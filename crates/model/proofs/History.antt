@@ -3,7 +3,6 @@
 -- the claim about any history; the search of WholeCases decides it. Stated histories with orders in which it holds and does not hold
 pub mod Ordered
 pub mod Counted
-pub mod Example
 pub mod Tests
 pub mod Search
 pub mod Stated

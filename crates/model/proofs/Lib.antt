@@ -6,6 +6,7 @@ pub mod Decimal
 pub mod Bytes
 pub mod Sheets
 pub mod WholeCases
+pub mod ClaimCases
 pub mod Cases
 pub mod Bounds
 -- well formed machines

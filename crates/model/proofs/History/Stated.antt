@@ -1,4 +1,4 @@
--- What Example.antt states is so of the claim itself: the test `stands` decides whether it holds in an order, and the runs have these histories.
+-- What ClaimCases.antt states is so of the claim itself: the test `stands` decides whether it holds in an order, and the runs have these histories.
 use Prim.Native.Nat.{ℕ}
 use mathlib.Core.Bool.{Bool, true, false, not, _&&_, true≢false, false≢true}
 use mathlib.Core.Path.{_≡_, refl, sym, _∙_, subst}
@@ -21,7 +21,7 @@ use Rattle.model.proofs.Sheets.{body₁, bodyTwoWords, against}
 use Rattle.model.proofs.Bytes.{word, task, release, end, read}
 use Rattle.model.proofs.History.Ordered.{Ordered, whole-operations}
 use Rattle.model.proofs.History.Counted.{in-counted, counted-counts}
-use Rattle.model.proofs.History.Example.{allAmong, once, replayed, stands, Stated, agrees, allAgree, reads, P4, cut, P5, table, all-agree}
+use Rattle.model.proofs.ClaimCases.{allAmong, once, replayed, stands, Stated, agrees, allAgree, reads, P4, cut, P5, table, all-agree}
 use Rattle.model.proofs.History.Tests.{both, contents-equal, contents-same, timely-told, timely-found}
 use Rattle.model.proofs.History.Search.{fed-told, fed-found}
 

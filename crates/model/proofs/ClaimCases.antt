@@ -1,5 +1,5 @@
 -- Stated histories, each with an order of its operations: one table says in which order the claim holds, and one fact over the table
--- says that the test `stands` gives these answers, by computation. Stated.antt proves that the test decides the claim in that order.
+-- says that the test `stands` gives these answers, by computation. History/Stated.antt proves that the test decides the claim in that order.
 use Prim.Native.Nat.{ℕ}
 use mathlib.Core.Bool.{Bool, true, false, not, _&&_}
 use mathlib.Core.Path.{_≡_, refl}
