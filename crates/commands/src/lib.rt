@@ -8,7 +8,7 @@ ghost use Rattle.commands.specs.View.{viewRefusal, viewCommand, viewDeco
 ghost use Rattle.commands.specs.Stages.{indexOf, widthAt, widthOf, commandOf, accessFrom, ByteSays, valuesFrom};
 
 pub struct Release {
-    pub tick: u16,
+    pub tick: u32,
     pub task: u8,
 }
 
@@ -193,12 +193,6 @@ fn wide(x: u8) -> u32
     x as u32
 }
 
-fn half(x: u8) -> u16
-    ensures { λ r. ⌜ (r ≡ x) × (r < 256) ⌝ }
-{
-    x as u16
-}
-
 // The operand bytes of an entry.
 pub fn width(i: usize) -> usize
     requires { ⌜ i < 14 ⌝ }
@@ -226,11 +220,11 @@ pub fn byte(s: &[u8], at: usize) -> u8
 }
 
 // The big-endian number in two bytes, and in four.
-fn value2(s: &[u8], at: usize) -> u16
+fn value2(s: &[u8], at: usize) -> u32
     requires { ⌜ at ≤ length (now s) + 36 ⌝ }
     ensures { λ r. ⌜ r ≡ bigEndian (now (s .entry)) at 2 ⌝ }
 {
-    half(byte(s, at)) * 256 + half(byte(s, at + 1))
+    wide(byte(s, at)) * 256 + wide(byte(s, at + 1))
 }
 
 pub fn value4(s: &[u8], at: usize) -> u32

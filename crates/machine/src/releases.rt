@@ -4,7 +4,6 @@ ghost use Rattle.model.specs.Command.{commandAt};
 ghost use Rattle.machine.specs.World.{noRelease, pendingBy, pendingAt, comingBy, stopsBy};
 use commands::Command;
 use commands::Decoded;
-use exchanges::places;
 
 // The next release, decoded once: whether there is one, its tick and task, and the place after it.
 pub struct Pending {
@@ -38,7 +37,7 @@ fn pending_by(command: Command, next: usize) -> Pending
     match command {
         Command::Release(release) => Pending {
             some: true,
-            tick: places::half(release.tick),
+            tick: release.tick,
             task: release.task,
             after: next,
         },

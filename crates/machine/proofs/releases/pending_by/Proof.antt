@@ -24,17 +24,14 @@ others (Body c) next h = refl
 enum-known-command : tie.Need-enum-known-command
 enum-known-command c = search needs
 
-half-requires : tie.Need-half-requires
-half-requires c κs = search needs
-
 no-release-requires : tie.Need-no-release-requires
 no-release-requires c κs = search needs
 
 returns : tie.Need-returns
-returns c = rw (c .before .before .command .given .1, c .half .ensures)
+returns c = rw (c .before .before .command .given .1)
 
 returns-2 : tie.Need-returns-2
 returns-2 c = rw (c .no-release .ensures) (others (c .before .before .args .command) _ (c .before .match .keys2))
 
 pub pending-by-spec : {M : Type 1} → statement M
-pending-by-spec = tie.close (tie.spec enum-known-command half-requires no-release-requires returns returns-2)
+pending-by-spec = tie.close (tie.spec enum-known-command no-release-requires returns returns-2)
