@@ -7,6 +7,7 @@ ghost use Rattle.model.specs.Refusal.{number};
 ghost use Rattle.commands.specs.View.{viewRefusal, viewCommand, viewDecoded};
 ghost use Rattle.commands.specs.Stages.{indexOf, widthAt, widthOf, commandOf, accessFrom, ByteSays, valuesFrom};
 
+// The tick has 32 bits, though two bytes hold it: so the operands of all commands lie at one place of the enum.
 pub struct Release {
     pub tick: u32,
     pub task: u8,

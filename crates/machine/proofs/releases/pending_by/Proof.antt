@@ -28,7 +28,7 @@ no-release-requires : tie.Need-no-release-requires
 no-release-requires c κs = search needs
 
 returns : tie.Need-returns
-returns c = rw (c .before .before .command .given .1)
+returns c = rw (c .before .command .given .1)
 
 returns-2 : tie.Need-returns-2
 returns-2 c = rw (c .no-release .ensures) (others (c .before .before .args .command) _ (c .before .match .keys2))
