@@ -30,7 +30,7 @@ pub record FlatRun (s : List ℕ) (limit : ℕ) (text : List ℕ) : Type 0 where
       text ≡ reportText (last .cells) (last .status) (last .saves) (last .stores) (last .registers) (last .counts) (totals index ended)
 
 -- what the run leaves in the buffer
-pub record Ran (s : List ℕ) (limit : ℕ) (before after : List ℕ) (length : ℕ) : Type 0 where
+pub record Ran (s : List ℕ) (limit : ℕ) (before after : List ℕ) (answer : ℕ) : Type 0 where
   pub text : List ℕ
   pub run : FlatRun s limit text
-  pub reported : Reported text before after length
+  pub reported : Reported text before after answer

@@ -38,10 +38,10 @@ fn is_end(c: Command) -> bool
 }
 
 // A byte may not follow END.
-fn at_end(next: usize, length: usize) -> Verdict
-    ensures { λ r. ⌜ viewVerdict r ≡ atEnd (ltb next length) next ⌝ }
+fn at_end(next: usize, size: usize) -> Verdict
+    ensures { λ r. ⌜ viewVerdict r ≡ atEnd (ltb next size) next ⌝ }
 {
-    if next < length {
+    if next < size {
         return Verdict::TurnedDown(Fault {
             refusal: Refusal::ByteAfterEnd,
             place: next,

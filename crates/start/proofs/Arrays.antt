@@ -26,7 +26,7 @@ use Rattle.start.proofs.Start.{cells-started, stores-started}
 -- ONE AFTER ANOTHER: the first n elements are those of f
 pub record Filled {A : Type 0} (size : ℕ) (view : ℕ → A) (f : ℕ → A) (l : List ℕ) (n : ℕ) : Type 0 where
   pub most : n ≤ size
-  pub length : lib.ListN.length l ≡ size
+  pub sized : length l ≡ size
   pub each : (i : ℕ) → i < n → view (at 0 l i) ≡ f i
 
 pub filled-next : {A : Type 0} {size : ℕ} {view : ℕ → A} {f : ℕ → A} {l : List ℕ} {n : ℕ} → Filled size view f l n → n < size → (v : ℕ) → view v ≡ f n
@@ -35,15 +35,15 @@ unfolding replace
 filled-next {size = size} {view} {f} {l} {n} h less v e =
     record {
       most = omega arith;
-      length = length-set l n v ∙ h .length;
+      sized = length-set l n v ∙ h .sized;
       each = λ i b.
           same? i n
-          (λ z. ap view (ap (λ (k : ℕ). at 0 (set l n v) k) z ∙ replace-same 0 l n v (rw (h .length) less)) ∙ e ∙ ap f (sym z))
+          (λ z. ap view (ap (λ (k : ℕ). at 0 (set l n v) k) z ∙ replace-same 0 l n v (rw (h .sized) less)) ∙ e ∙ ap f (sym z))
           (λ z. ap view (replace-other 0 l n i v z) ∙ h .each i (omega (arith, z)));
     }
 
 pub nothing-filled : {A : Type 0} (size : ℕ) (view : ℕ → A) (f : ℕ → A) {l : List ℕ} → length l ≡ size → Filled size view f l 0
-nothing-filled size view f e = record { most = omega arith; length = e; each = λ i h. absurd (omega arith) }
+nothing-filled size view f e = record { most = omega arith; sized = e; each = λ i h. absurd (omega arith) }
 
 pub full : {A : Type 0} {size : ℕ} {view : ℕ → A} {f : ℕ → A} {l : List ℕ} {n : ℕ} → Filled size view f l n → size ≤ n → Filled size view f l size
 full {size = size} {view} {f} {l} {n} h e = let z : n ≡ size = omega (arith, h .most) in subst (λ (k : ℕ). Filled size view f l k) z h
@@ -70,13 +70,13 @@ module _ {s : List ℕ} {n : Counts} (c : Counted s n) where
   pub cells-filled : {l : List ℕ} → Filled 48 unpack (λ i. freshWord (cellStart (sheetOf s) i)) l 48 → Cells s l
   cells-filled {l} h =
       record {
-        size = h .length;
-        start = cells-started fit (map unpack l) (length-map l unpack ∙ h .length) (λ i b.
-            below-default (freshWord 0) (unpack 0) (map unpack l) i (rw (length-map l unpack, h .length) b) ∙ at-map unpack 0 l i ∙ h .each i b);
+        size = h .sized;
+        start = cells-started fit (map unpack l) (length-map l unpack ∙ h .sized) (λ i b.
+            below-default (freshWord 0) (unpack 0) (map unpack l) i (rw (length-map l unpack, h .sized) b) ∙ at-map unpack 0 l i ∙ h .each i b);
       }
 
   pub stores-filled : {l : List ℕ} → Filled 384 (λ v. v) (storedStart (sheetOf s)) l 384 → Stores s l
-  stores-filled {l} h = record { size = h .length; start = stores-started fit l (h .length) (h .each) }
+  stores-filled {l} h = record { size = h .sized; start = stores-started fit l (h .sized) (h .each) }
 
   -- NUMBERS OF THE SHEET
   pub is-word : {w : ℕ} → w < n .words → IsWord s w
