@@ -67,7 +67,7 @@ fn run_accepted(sheet: &[u8], limit: u32, buffer: &mut [u8]) -> usize
     let mut overlapped = [0u8; 64];
     let mut kinds = [0u8; 128];
     let mut remembered = [0u32; 128];
-    let mut counts = [0u32; 32];
+    let mut counts = [0u32; 64];
     let ended = machine::run::run(
         sheet,
         &bodies,

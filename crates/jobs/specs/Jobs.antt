@@ -46,7 +46,7 @@ inBody (M.refused f place) = false
 
 -- one more of a task's jobs finished (0), jobs spent (1), rejected commits (2) or ticks used (3)
 unfoldable pub counted : List ℕ → ℕ → ℕ → List ℕ
-counted counts p n = replace counts (4 * p + n) ((at 0 counts (4 * p + n) + 1) % 4294967296)
+counted counts p n = replace counts (8 * p + n) ((at 0 counts (8 * p + n) + 1) % 4294967296)
 
 unfoldable pub added : List ℕ → ℕ → ℕ → ℕ → List ℕ
 added registers p r q = replace registers (8 * p + r) ((at 0 registers (8 * p + r) + at 0 registers (8 * p + q)) % 4294967296)

@@ -119,12 +119,12 @@ pub fn in_body(sheet: &[u8], place: usize) -> bool
 }
 
 // One more of a task's jobs finished (0), jobs spent (1), rejected commits (2) or ticks used (3).
-pub fn count(counts: &mut [u32; 32], p: u8, n: u8)
+pub fn count(counts: &mut [u32; 64], p: u8, n: u8)
     ensures { λ r. ⌜ now (counts .exit) ≡ counted (now (counts .entry)) p n ⌝ }
 {
-    let s = places::quarter(p, n);
+    let s = places::slot(p, n);
     let before = memory::u32_at(&*counts, s);
-    memory::set_u32x32(&mut *counts, s, std::num::wrapping_add_u32(before, 1));
+    memory::set_u32x64(&mut *counts, s, std::num::wrapping_add_u32(before, 1));
 }
 
 pub fn set_register(registers: &mut [u32; 64], p: u8, register: u8, value: u32)
@@ -184,7 +184,7 @@ pub fn enter(
 }
 
 // The command is done: the job goes on with the next, or is finished.
-pub fn done(sheet: &[u8], counts: &mut [u32; 32], p: u8, place: usize, pairs: u8) -> Job
+pub fn done(sheet: &[u8], counts: &mut [u32; 64], p: u8, place: usize, pairs: u8) -> Job
     ensures { λ r. ⌜ went r (now (counts .exit)) ≡ afterDone (now (sheet .entry)) (now (counts .entry)) p place pairs ⌝ }
 {
     if in_body(sheet, place) {
@@ -198,7 +198,7 @@ pub fn done(sheet: &[u8], counts: &mut [u32; 32], p: u8, place: usize, pairs: u8
 fn give(
     sheet: &[u8],
     registers: &mut [u32; 64],
-    counts: &mut [u32; 32],
+    counts: &mut [u32; 64],
     p: u8,
     place: usize,
     pairs: u8,
@@ -214,7 +214,7 @@ fn give(
 pub fn read_by(
     sheet: &[u8],
     registers: &mut [u32; 64],
-    counts: &mut [u32; 32],
+    counts: &mut [u32; 64],
     p: u8,
     job: Job,
     register: u8,
@@ -245,7 +245,7 @@ pub fn read_by(
 pub fn swap_by(
     sheet: &[u8],
     registers: &mut [u32; 64],
-    counts: &mut [u32; 32],
+    counts: &mut [u32; 64],
     p: u8,
     job: Job,
     register: u8,

@@ -190,7 +190,7 @@ zeros n = replicate n 0
 abbrev pub startArrays : List ℕ → List ℕ → List ℕ → Arrays
 startArrays cells stores copies =
     arrays cells (zeros 8) (zeros 64) stores (zeros 64) (zeros 64) copies (zeros 64) (zeros 64) (zeros 64) (zeros 64) (zeros 64) (zeros 128)
-    (zeros 128) (zeros 32)
+    (zeros 128) (zeros 64)
 
 abbrev pub startWorld : Arrays → ℕ → World
 startWorld a place = world a (replicate 8 noJob) 0 place 0 0

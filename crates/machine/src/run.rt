@@ -126,7 +126,7 @@ fn lowered(mask: u32, bit: u32) -> u32
 }
 
 // A tick used.
-fn used(counts: &mut [u32; 32], p: u8, phase: Phase)
+fn used(counts: &mut [u32; 64], p: u8, phase: Phase)
     ensures { λ r. ⌜ now (counts .exit) ≡ tickedBy (unfinishedJob phase) (now (counts .entry)) p ⌝ }
 {
     if unfinished(phase) {
@@ -153,7 +153,7 @@ pub fn run(
     overlapped: &mut [u8; 64],
     kinds: &mut [u8; 128],
     remembered: &mut [u32; 128],
-    counts: &mut [u32; 32],
+    counts: &mut [u32; 64],
     first: usize,
     limit: u32,
 ) -> Ended

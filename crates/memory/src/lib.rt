@@ -138,12 +138,6 @@ pub fn set_u8x128(s: &mut [u8; 128], i: usize, v: u8)
     set_u8(s, i, v);
 }
 
-pub fn set_u32x32(s: &mut [u32; 32], i: usize, v: u32)
-    ensures { λ r. ⌜ now (s .exit) ≡ replace (now (s .entry)) i v ⌝ }
-{
-    set_u32(s, i, v);
-}
-
 pub fn set_u32x64(s: &mut [u32; 64], i: usize, v: u32)
     ensures { λ r. ⌜ now (s .exit) ≡ replace (now (s .entry)) i v ⌝ }
 {

@@ -14,7 +14,7 @@ use Rattle.model.specs.Plain.{Contents, result, plainly}
 use Rattle.model.specs.History.{Operation, History, operationAt}
 use Rattle.model.specs.Claim.{Interfered, EndedBefore}
 use Rattle.model.specs.Arguments.{Pair, readOf, swapOf}
-use Rattle.model.proofs.WholeCases.{sameContents, counted, timely, fed}
+use Rattle.model.proofs.WholeCases.{sameContents, countedFrom, timely, fed}
 
 -- THE TEST
 unfoldable pub allAmong : List ℕ → List ℕ → Bool
@@ -35,8 +35,8 @@ replayed h d (a ∷ l) c = timely h a l && fed (replayed h d l) h a (operationAt
 
 -- the order has each operation that counts once and no other, and replays
 unfoldable pub stands : History → Contents → Contents → List ℕ → Bool
-unfolding once allAmong counted replayed
-stands h c d l = once l && allAmong (counted 0 (h .began)) l && allAmong l (counted 0 (h .began)) && replayed h d l c
+unfolding once allAmong countedFrom replayed
+stands h c d l = once l && allAmong (countedFrom 0 (h .began)) l && allAmong l (countedFrom 0 (h .began)) && replayed h d l c
 
 -- STATED: a history, the contents at first and at last, an order, and whether the claim holds in that order
 pub record Stated : Type 0 where
@@ -55,8 +55,8 @@ unfolding agrees stands
 allAgree [] = true
 allAgree (s ∷ l) = agrees (s .holds) (stands (s .history) (s .first) (s .last) (s .order)) && allAgree l
 
-abbrev pairOf : ℕ → ℕ → ℕ → Pair
-pairOf w o n = record { word = w; old = o; new = n }
+abbrev pairWith : ℕ → ℕ → ℕ → Pair
+pairWith w o n = record { word = w; old = o; new = n }
 
 abbrev wordsAre : List ℕ → Contents
 wordsAre l = record { words = l; blocks = [] }
@@ -73,10 +73,10 @@ reads l b = record { history = historyReads; first = wordsAre (12 ∷ []); last 
 
 -- P4: task 0 exchanges 12 for 5 in word 0. Task 1 comes after its Commit, finds 5 instead of 12 and says no; only the answers decide the order.
 abbrev lowerP4 : Operation
-lowerP4 = record { task = 0; arguments = swapOf (pairOf 0 12 5 ∷ []); last = some 22; committed = true; spent = false; answers = 1 ∷ [] }
+lowerP4 = record { task = 0; arguments = swapOf (pairWith 0 12 5 ∷ []); last = some 22; committed = true; spent = false; answers = 1 ∷ [] }
 
 abbrev upperP4 : Operation
-upperP4 = record { task = 1; arguments = swapOf (pairOf 0 12 7 ∷ []); last = some 21; committed = false; spent = false; answers = 0 ∷ [] }
+upperP4 = record { task = 1; arguments = swapOf (pairWith 0 12 7 ∷ []); last = some 21; committed = false; spent = false; answers = 0 ∷ [] }
 
 abbrev historyP4 : History
 historyP4 =
@@ -87,7 +87,7 @@ P4 l b = record { history = historyP4; first = wordsAre (12 ∷ []); last = word
 
 -- P4 cut short after task 0's Commit: its exchange has not ended but counts, and is the only one
 abbrev lowerCut : Operation
-lowerCut = record { task = 0; arguments = swapOf (pairOf 0 12 5 ∷ []); last = none; committed = true; spent = false; answers = 1 ∷ [] }
+lowerCut = record { task = 0; arguments = swapOf (pairWith 0 12 5 ∷ []); last = none; committed = true; spent = false; answers = 1 ∷ [] }
 
 abbrev historyCut : History
 historyCut = record { began = replicate 3 none ++ some lowerCut ∷ replicate 7 none; latest = 3 ∷ replicate 7 0 }
@@ -98,11 +98,11 @@ cut l b = record { history = historyCut; first = wordsAre (12 ∷ []); last = wo
 -- P5: task 1 also names word 1, which is 22 and not 0, so its no rests on that word. Task 0's word was 12 all the while:
 -- its no rests on the free answer alone, since task 1's exchange with a changing pair on word 0 began inside it.
 abbrev lowerP5 : Operation
-lowerP5 = record { task = 0; arguments = swapOf (pairOf 0 12 5 ∷ []); last = some 31; committed = false; spent = false; answers = 0 ∷ [] }
+lowerP5 = record { task = 0; arguments = swapOf (pairWith 0 12 5 ∷ []); last = some 31; committed = false; spent = false; answers = 0 ∷ [] }
 
 abbrev upperP5 : ℕ → Operation
 upperP5 v =
-    record { task = 1; arguments = swapOf (pairOf 0 12 v ∷ pairOf 1 0 7 ∷ []); last = some 28; committed = false; spent = false; answers = 0 ∷ [] }
+    record { task = 1; arguments = swapOf (pairWith 0 12 v ∷ pairWith 1 0 7 ∷ []); last = some 28; committed = false; spent = false; answers = 0 ∷ [] }
 
 abbrev historyP5 : ℕ → History
 historyP5 v =
@@ -147,9 +147,9 @@ reads-apart = record { operation = a-read 1; is = refl; last = 1; lasts = refl; 
 P5-interfered : Interfered (historyP5 7) 3 lowerP5
 unfolding at
 P5-interfered = record {
-  pairs = pairOf 0 12 5 ∷ [];
+  pairs = pairWith 0 12 5 ∷ [];
   is = refl;
-  named = pairOf 0 12 5;
+  named = pairWith 0 12 5;
   names = inl refl;
   last = 31;
   lasts = refl;
@@ -159,9 +159,9 @@ P5-interfered = record {
   higher = omega arith;
   after = omega arith;
   before = omega arith;
-  otherPairs = pairOf 0 12 7 ∷ pairOf 1 0 7 ∷ [];
+  otherPairs = pairWith 0 12 7 ∷ pairWith 1 0 7 ∷ [];
   otherIs = refl;
-  changing = pairOf 0 12 7;
+  changing = pairWith 0 12 7;
   changes = inl refl;
   on = refl;
   differs = omega arith;

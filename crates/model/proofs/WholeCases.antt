@@ -42,10 +42,10 @@ unfoldable pub listedBy : Bool → ℕ → List ℕ → List ℕ
 listedBy true i l = i ∷ l
 listedBy false i l = l
 
-unfoldable pub counted : ℕ → List (Option Operation) → List ℕ
+unfoldable pub countedFrom : ℕ → List (Option Operation) → List ℕ
 unfolding listedBy
-counted i [] = []
-counted i (o ∷ l) = listedBy (countedBy o) i (counted (suc i) l)
+countedFrom i [] = []
+countedFrom i (o ∷ l) = listedBy (countedBy o) i (countedFrom (suc i) l)
 
 -- TIME: none of these operations ended before tick a
 unfoldable pub lastBefore : ℕ → Option ℕ → Bool
@@ -121,10 +121,10 @@ unfolding ordered
 orderedAll h d l c = ordered (length l) h d l c
 
 unfoldable pub whole : List ℕ → ℕ → Bool
-unfolding counted orderedAll at current each historyOf run startMachine sheetOf
+unfolding countedFrom orderedAll at current each historyOf run startMachine sheetOf
 whole sheet limit =
     let h : History = historyOf limit (startMachine (sheetOf sheet)) in
-    orderedAll h (contentsOf (sheetOf sheet) (run limit (startMachine (sheetOf sheet)) .memory)) (counted 0 (h .began))
+    orderedAll h (contentsOf (sheetOf sheet) (run limit (startMachine (sheetOf sheet)) .memory)) (countedFrom 0 (h .began))
     (declaredContents (sheetOf sheet))
 
 -- THE SHEETS: task 1 comes when the exchange of sheet A's task is installed and not yet committed
@@ -158,9 +158,9 @@ zeroBlock : List ℕ
 zeroBlock = block 0 (replicate 8 0)
 
 -- task 0 PUTs block 1 in two transactions; task 1 GETs it between the two PUTs of the second one
-takenBack : List ℕ
+slotsReused : List ℕ
 unfolding zeroBlock
-takenBack =
+slotsReused =
     zeroBlock ++ zeroBlock
     ++ task ++ load 0 5 ++ begin ++ put 1 0 0 ++ commit ++ load 0 6 ++ begin ++ put 1 0 0 ++ put 1 1 0 ++ commit
     ++ task ++ begin ++ get 0 1 0 ++ get 1 1 1 ++ commit
@@ -185,7 +185,7 @@ ownCopy = zeroBlock ++ task ++ load 0 5 ++ begin ++ put 0 0 0 ++ get 1 0 0 ++ co
 
 -- THE TABLE, and beside each sheet the slips that leave its run without an order
 pub table : List (List ℕ)
-unfolding marking reading givenBack overtaken sameValue takenBack restarting lostAnswer ownCopy
+unfolding marking reading givenBack overtaken sameValue slotsReused restarting lostAnswer ownCopy
 table =
     -- Mark skipped when the marker may still fail, Mark before Install dropped, Commit that ignores the status
     marking
@@ -198,7 +198,7 @@ table =
     -- Install comparing only the value
     ∷ sameValue
     -- old stores taken back by block number
-    ∷ takenBack
+    ∷ slotsReused
     -- a restart that keeps the copies' slots as used
     ∷ restarting
     -- answers of a lost pass kept

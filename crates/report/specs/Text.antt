@@ -3,7 +3,7 @@ use Prim.Native.Nat.{ℕ, min, _<_, _≤_}
 use mathlib.Core.Path.{_≡_}
 use mathlib.Core.List.{List, [], _∷_, _++_}
 use lib.Dec.{leb}
-use lib.ListN.{length}
+use lib.ListN.{length, take}
 use Rattle.model.specs.Ceilings.{maxWords, maxBlocks, maxTasks}
 use Rattle.model.specs.Sheet.{Sheet}
 use Rattle.model.specs.Job.{countList}
@@ -14,9 +14,13 @@ use Rattle.memory.specs.Rows.{row}
 use Rattle.memory.specs.Held.{memoryOf}
 use Rattle.report.specs.declared.Totals.{Totals}
 
--- a task's T line with its row of four counts, and its R line with its row of eight registers
+-- how many counts of a task's row its T line shows
+abbrev pub shown : ℕ
+shown = 4
+
+-- a task's T line with the first of its row of eight counts, and its R line with its row of eight registers
 abbrev pub taskLinesOf : List ℕ → List ℕ → ℕ → List ℕ
-taskLinesOf registers counts p = line 0x54 (p ∷ row 4 p counts) ++ line 0x52 (p ∷ row 8 p registers)
+taskLinesOf registers counts p = line 0x54 (p ∷ take shown (row 8 p counts)) ++ line 0x52 (p ∷ row 8 p registers)
 
 -- of what the totals name, and no more than the arrays hold
 unfoldable pub reportText : (cells status saves stores registers counts : List ℕ) → Totals → List ℕ
@@ -38,7 +42,7 @@ pub record Holds (s : Sheet) (m : Machine) (cells status saves stores registers 
   pub tasks : t .tasks ≡ length (s .bodies)
   pub memory : m .memory ≡ memoryOf cells status saves stores
   pub registerRows : (p : ℕ) → p < length (s .bodies) → taskAt (m .tasks) p .job .registers ≡ row 8 p registers
-  pub countRows : (p : ℕ) → p < length (s .bodies) → countList (taskAt (m .tasks) p .counts) ≡ row 4 p counts
+  pub countRows : (p : ℕ) → p < length (s .bodies) → countList (taskAt (m .tasks) p .counts) ≡ take shown (row 8 p counts)
   pub now : m .now ≡ t .now
   pub dropped : m .dropped ≡ t .dropped
 

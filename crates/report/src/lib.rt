@@ -117,34 +117,30 @@ fn block_lines(
     next
 }
 
+// How many counts of a task's row its T line shows.
+const SHOWN: usize = 4;
+
 // The T line and the R line of a task.
 fn task_line(
     buffer: &mut [u8],
     place: usize,
     registers: &[u32; 64],
-    counts: &[u32; 32],
+    counts: &[u32; 64],
     task: usize,
 ) -> usize
     requires { ⌜ (task < 8) × (place + 158 ≤ farthest) ⌝ }
     ensures { λ r. ⌜ Written 158 (taskLinesOf (now (registers .entry)) (now (counts .entry)) task) (now (buffer .entry)) (now (buffer .exit)) place r ⌝ }
 {
-    let next = text::row_line(&mut *buffer, place, b'T', task as u32, counts, 4 * task, 4);
-    text::row_line(
-        &mut *buffer,
-        next,
-        b'R',
-        task as u32,
-        registers,
-        8 * task,
-        8,
-    )
+    let row = 8 * task;
+    let next = text::row_line(&mut *buffer, place, b'T', task as u32, counts, row, SHOWN);
+    text::row_line(&mut *buffer, next, b'R', task as u32, registers, row, 8)
 }
 
 fn task_lines(
     buffer: &mut [u8],
     place: usize,
     registers: &[u32; 64],
-    counts: &[u32; 32],
+    counts: &[u32; 64],
     tasks: usize,
 ) -> usize
     requires { ⌜ (tasks ≤ 8) × (place + 158 * tasks ≤ farthest) ⌝ }
@@ -176,7 +172,7 @@ fn write(
     saves: &[u32; 64],
     stores: &[u32; 384],
     registers: &[u32; 64],
-    counts: &[u32; 32],
+    counts: &[u32; 64],
     totals: Totals,
 ) -> usize
     ensures { λ r. ⌜ Written 3848 (reportText (now (cells .entry)) (now (status .entry)) (now (saves .entry)) (now (stores .entry)) (now (registers .entry)) (now (counts .entry)) totals) (now (buffer .entry)) (now (buffer .exit)) 0 r ⌝ }
@@ -205,7 +201,7 @@ pub fn report(
     saves: &[u32; 64],
     stores: &[u32; 384],
     registers: &[u32; 64],
-    counts: &[u32; 32],
+    counts: &[u32; 64],
     totals: Totals,
     buffer: &mut [u8],
 ) -> usize

@@ -42,7 +42,7 @@ use Rattle.simulation.proofs.Parts.{Sizes, partsOf, sharedOf, AtWork, S
 abbrev pub inside : List ℕ → List C.BodyCommand → Arrays → ℕ → Job → J.Inner → J.Task
 inside sheet body a p j i =
     task body (bodyAt sheet (j .at)) (J.transacting (transactionOf sheet j (partsOf a p)) i) (row 8 p (a .registers)) [] (row 4 p (a .copies))
-    (row 4 p (a .counts))
+    (row 8 p (a .counts))
 
 module _ (sheet : List ℕ) (body : List C.BodyCommand) (a : Arrays) (p : ℕ) (j : Job) (i : J.Inner) (s : Sizes a) (below : p < 8)
     (work : AtWork sheet j) where

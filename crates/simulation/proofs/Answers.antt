@@ -34,10 +34,10 @@ use Rattle.simulation.proofs.Done.{done-same, done-size, done-others, d
 abbrev pub outside : List ℕ → List BodyCommand → Arrays → ℕ → Job → J.Phase → J.Task
 outside sheet body a p j f =
     task body (bodyAt sheet (j .at)) f (row 8 p (a .registers)) (pairsOf (j .pairs) (row 8 p (a .names)) (row 8 p (a .olds)) (row 8 p (a .news)))
-    (row 4 p (a .copies)) (row 4 p (a .counts))
+    (row 4 p (a .copies)) (row 8 p (a .counts))
 
 module _ (sheet : List ℕ) (body : List BodyCommand) (a : Arrays) (p : ℕ) (j : Job) (f : J.Phase) (s : Sizes a) (below : p < 8)
-    (few : at 0 (row 4 p (a .counts)) 0 < 4294967295) (work : AtWork sheet j) where
+    (few : at 0 (row 8 p (a .counts)) 0 < 4294967295) (work : AtWork sheet j) where
   -- registers are written and the command is done
   pub registers-done : {d : J.Deed} (rs : List ℕ) → length rs ≡ length (a .registers) → ((q : ℕ) → q ≢ p → row 8 q rs ≡ row 8 q (a .registers))
       → Unloaded (j .pairs) (partsOf a p)

@@ -55,7 +55,7 @@ module _ (sheet : List ℕ) (body : List C.BodyCommand) (a : Arrays) (p : ℕ) (
       }
 
 module _ (sheet : List ℕ) (body : List C.BodyCommand) (a : Arrays) (p : ℕ) (j : Job) (s : Sizes a) (below : p < 8)
-    (few : (n : ℕ) → n < 4 → at 0 (row 4 p (a .counts)) n < 4294967295) (f : PassFits a p) (words blocks : ℕ) (most : blocks ≤ 16) (next : ℕ) where
+    (few : (n : ℕ) → n < 4 → at 0 (row 8 p (a .counts)) n < 4294967295) (f : PassFits a p) (words blocks : ℕ) (most : blocks ≤ 16) (next : ℕ) where
   abbrev going : Job
   going = movedTo (inPhase j (Transaction Between)) next
 
@@ -116,7 +116,7 @@ PassFound sheet words blocks x (C.found (C.RELEASE r) next) = Unit {0}
 PassFound sheet words blocks x (C.found C.END next) = Unit {0}
 
 pub between-tick : (sheet : List ℕ) (body : List C.BodyCommand) (a : Arrays) (p : ℕ) (j : Job) → Sizes a → p < 8
-    → ((n : ℕ) → n < 4 → at 0 (row 4 p (a .counts)) n < 4294967295) → PassFits a p
+    → ((n : ℕ) → n < 4 → at 0 (row 8 p (a .counts)) n < 4294967295) → PassFits a p
     → (words blocks : ℕ) → blocks ≤ 16 → (o : C.Found) → C.commandAt sheet (j .at) ≡ o
     → PassFound sheet words blocks (transactionOf sheet j (partsOf a p)) o
     → Simulated sheet body a p (betweenBy sheet a p (inPhase j (Transaction Between)) o)

@@ -70,7 +70,7 @@ quotient v h d = let z : v / 256 < 16777216 = omega arith in omega arith
 
 module _ (sheet : List ℕ) (body : List C.BodyCommand) (a : Arrays) (p : ℕ) (j : Job) (i : J.Inner) (s : Sizes a) (below : p < 8)
     (work : AtWork sheet j)
-    (few : (n : ℕ) → n < 4 → at 0 (row 4 p (a .counts)) n < 4294967295) (f : PassFits a p) where
+    (few : (n : ℕ) → n < 4 → at 0 (row 8 p (a .counts)) n < 4294967295) (f : PassFits a p) where
   abbrev t : J.Task
   t = inside sheet body a p j i
 
@@ -87,7 +87,7 @@ module _ (sheet : List ℕ) (body : List C.BodyCommand) (a : Arrays) (p : ℕ) (
   done-inside : (y : Parts)
       → J.doneBy (J.rest (bodyAt sheet (j .at))) t (y .registers) [] (y .copies)
       ≡ taskOf sheet body (afterDone sheet (a .counts) p (j .next) 0 .next)
-      (withCounts y (row 4 p (afterDone sheet (a .counts) p (j .next) 0 .array)))
+      (withCounts y (row 8 p (afterDone sheet (a .counts) p (j .next) 0 .array)))
   done-inside y =
       rw (sym work)
       (ap (λ (ps : List X.Entry). J.doneBy (bodyAt sheet (j .next)) t (y .registers) ps (y .copies)) (sym (no-pairs (y .names) (y .olds) (y .news)))

@@ -21,18 +21,18 @@ use Rattle.simulation.proofs.View.{Parts, pairsOf, task, taskOf, withCo
 use Rattle.simulation.proofs.Body.{bodyBy, body-at}
 use Rattle.simulation.proofs.Parts.{Unloaded, JobShape, counted-same, counted-other, counted-size, counted-others}
 
-module _ (sheet : List ℕ) (counts : List ℕ) (p place pairs : ℕ) (size : length counts ≡ 32) (below : p < 8) where
+module _ (sheet : List ℕ) (counts : List ℕ) (p place pairs : ℕ) (size : length counts ≡ 64) (below : p < 8) where
   abbrev goneOn : Bool → Went Job
   goneOn t = if t (went (jobAt Phase.Plain place pairs) counts) (went (jobAt Phase.Idle place pairs) (counted counts p 0))
 
   module _ (body l : List BodyCommand) (f : J.Phase) (r : List ℕ) (q : List X.Entry) (c : List ℕ) (x : Parts)
-      (few : at 0 (row 4 p counts) 0 < 4294967295) where
+      (few : at 0 (row 8 p counts) 0 < 4294967295) where
     -- the task once its command is done, with those commands left
     abbrev left : List BodyCommand → J.Task
-    left bs = J.doneBy bs (task body l f r q c (row 4 p counts)) (x .registers) (pairsOf pairs (x .names) (x .olds) (x .news)) (x .copies)
+    left bs = J.doneBy bs (task body l f r q c (row 8 p counts)) (x .registers) (pairsOf pairs (x .names) (x .olds) (x .news)) (x .copies)
 
     abbrev viewed : Bool → J.Task
-    viewed t = taskOf sheet body (goneOn t .next) (withCounts x (row 4 p (goneOn t .array)))
+    viewed t = taskOf sheet body (goneOn t .next) (withCounts x (row 8 p (goneOn t .array)))
 
     done-on : (b : BodyCommand) (bs : List BodyCommand) → bodyAt sheet place ≡ b ∷ bs → left (b ∷ bs) ≡ viewed true
     unfolding J.doneBy
@@ -58,7 +58,7 @@ module _ (sheet : List ℕ) (counts : List ℕ) (p place pairs : ℕ) (size : le
     done-found (found END n) e = done-over
 
     pub done-same : left (bodyAt sheet place)
-        ≡ taskOf sheet body (afterDone sheet counts p place pairs .next) (withCounts x (row 4 p (afterDone sheet counts p place pairs .array)))
+        ≡ taskOf sheet body (afterDone sheet counts p place pairs .next) (withCounts x (row 8 p (afterDone sheet counts p place pairs .array)))
     unfolding afterDone
     done-same = ap left (body-at sheet place) ∙ done-found (commandAt sheet place) (body-at sheet place)
 
@@ -70,11 +70,11 @@ module _ (sheet : List ℕ) (counts : List ℕ) (p place pairs : ℕ) (size : le
   unfolding afterDone
   done-size = size-if (inBody (commandAt sheet place))
 
-  others-if : (n : ℕ) → n ≢ p → (t : Bool) → row 4 n (goneOn t .array) ≡ row 4 n counts
+  others-if : (n : ℕ) → n ≢ p → (t : Bool) → row 8 n (goneOn t .array) ≡ row 8 n counts
   others-if n d true = refl
   others-if n d false = counted-others counts p 0 size below (omega arith) n d
 
-  pub done-others : (n : ℕ) → n ≢ p → row 4 n (afterDone sheet counts p place pairs .array) ≡ row 4 n counts
+  pub done-others : (n : ℕ) → n ≢ p → row 8 n (afterDone sheet counts p place pairs .array) ≡ row 8 n counts
   unfolding afterDone
   done-others n d = others-if n d (inBody (commandAt sheet place))
 

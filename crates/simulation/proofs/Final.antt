@@ -3,8 +3,7 @@ use Prim.Native.Nat.{ℕ, zero, suc, _-_, _<_, _≤_}
 use mathlib.Core.Path.{_≡_, refl, sym, ap, _∙_, subst}
 use mathlib.Core.List.{List, [], _∷_}
 use native.Mathlib.Omega.{arith}
-use lib.ListN.{length, getD}
-use lib.Seq.{ext-getD}
+use lib.ListN.{length, getD, take}
 use Rattle.model.specs.Lists.{at}
 use Rattle.model.specs.Sheet.{Sheet, sheetOf, verdict, accepted}
 use Rattle.model.specs.Job.{Task, countList}
@@ -28,21 +27,18 @@ use Rattle.simulation.proofs.Start.{Starts, start-same, start-sound}
 pub record Holds (s : Sheet) (m : Machine) (b : Arrays) (e : Ended) : Type 0 where
   pub memory : m .memory ≡ sharedOf b
   pub registers : (p : ℕ) → p < length (s .bodies) → taskAt (m .tasks) p .job .registers ≡ row 8 p (b .registers)
-  pub counts : (p : ℕ) → p < length (s .bodies) → countList (taskAt (m .tasks) p .counts) ≡ row 4 p (b .counts)
+  pub counts : (p : ℕ) → p < length (s .bodies) → countList (taskAt (m .tasks) p .counts) ≡ take 4 (row 8 p (b .counts))
   pub now : m .now ≡ e .ticks
   pub dropped : m .dropped ≡ e .dropped
 
--- a row of four
-four : (l : List ℕ) → length l ≡ 4 → at 0 l 0 ∷ at 0 l 1 ∷ at 0 l 2 ∷ at 0 l 3 ∷ [] ≡ l
+-- the first four of a row
+four : (l : List ℕ) → 4 ≤ length l → at 0 l 0 ∷ at 0 l 1 ∷ at 0 l 2 ∷ at 0 l 3 ∷ [] ≡ take 4 l
 unfolding at
-four l e = ext-getD 0 (getD l 0 0 ∷ getD l 1 0 ∷ getD l 2 0 ∷ getD l 3 0 ∷ []) l (sym e) each
-  where
-    each : (i : ℕ) → i < 4 → getD (getD l 0 0 ∷ getD l 1 0 ∷ getD l 2 0 ∷ getD l 3 0 ∷ []) i 0 ≡ getD l i 0
-    each zero h = refl
-    each (suc zero) h = refl
-    each (suc (suc zero)) h = refl
-    each (suc (suc (suc zero))) h = refl
-    each (suc (suc (suc (suc i)))) h = absurd (omega arith)
+four (a ∷ b ∷ c ∷ d ∷ l) h = refl
+four [] h = absurd (omega arith)
+four (a ∷ []) h = absurd (omega arith)
+four (a ∷ b ∷ []) h = absurd (omega arith)
+four (a ∷ b ∷ c ∷ []) h = absurd (omega arith)
 
 module _ (bytes : List ℕ) (small : (i : ℕ) → getD bytes i 0 < 256) (good : verdict bytes ≡ accepted) (limit : ℕ) (most : limit ≤ 65535)
     (bodies : List ℕ) (place : ℕ) (cells stores copies : List ℕ) (start : Starts bytes bodies place (sheetOf bytes) cells stores copies) where
@@ -67,7 +63,7 @@ module _ (bytes : List ℕ) (small : (i : ℕ) → getD bytes i 0 < 256) (good :
         counts = λ p h.
             ap (λ (m : Machine). countList (taskAt (m .tasks) p .counts)) last
             ∙ ap (λ (t : Task). countList (t .counts)) (task-at bytes bodies (length (s .bodies)) (c .bodies) b (f .jobs) p h)
-            ∙ four (row 4 p (b .counts)) (length-row 4 p (b .counts) (omega (arith, sized .counts, c .bodies)));
+            ∙ four (row 8 p (b .counts)) (omega (arith, length-row 8 p (b .counts) (omega (arith, sized .counts, c .bodies))));
         now = ap (λ (m : Machine). m .now) last;
         dropped = ap (λ (m : Machine). m .dropped) last;
       }

@@ -31,7 +31,7 @@ sizesOf a =
     ∷ length (a .kinds) ∷ length (a .remembered) ∷ length (a .counts) ∷ []
 
 abbrev pub Sized : Arrays → Type 0
-Sized a = sizesOf a ≡ 48 ∷ 8 ∷ 64 ∷ 384 ∷ 64 ∷ 64 ∷ 32 ∷ 64 ∷ 64 ∷ 64 ∷ 64 ∷ 64 ∷ 128 ∷ 128 ∷ 32 ∷ []
+Sized a = sizesOf a ≡ 48 ∷ 8 ∷ 64 ∷ 384 ∷ 64 ∷ 64 ∷ 32 ∷ 64 ∷ 64 ∷ 64 ∷ 64 ∷ 64 ∷ 128 ∷ 128 ∷ 64 ∷ []
 
 pub record Sizes (a : Arrays) : Type 0 where
   pub cells : length (a .cells) ≡ 48
@@ -48,12 +48,12 @@ pub record Sizes (a : Arrays) : Type 0 where
   pub overlapped : length (a .overlapped) ≡ 64
   pub kinds : length (a .kinds) ≡ 128
   pub remembered : length (a .remembered) ≡ 128
-  pub counts : length (a .counts) ≡ 32
+  pub counts : length (a .counts) ≡ 64
 
 pub sizes : (a : Arrays) → Sized a → Sizes a
 unfolding at
 sizes a e =
-    let size : (n : ℕ) → at 0 (sizesOf a) n ≡ at 0 (48 ∷ 8 ∷ 64 ∷ 384 ∷ 64 ∷ 64 ∷ 32 ∷ 64 ∷ 64 ∷ 64 ∷ 64 ∷ 64 ∷ 128 ∷ 128 ∷ 32 ∷ []) n =
+    let size : (n : ℕ) → at 0 (sizesOf a) n ≡ at 0 (48 ∷ 8 ∷ 64 ∷ 384 ∷ 64 ∷ 64 ∷ 32 ∷ 64 ∷ 64 ∷ 64 ∷ 64 ∷ 64 ∷ 128 ∷ 128 ∷ 64 ∷ []) n =
     λ n. ap (λ (l : List ℕ). at 0 l n) e in
     record {
       cells = size 0;
@@ -78,7 +78,7 @@ partsOf a p =
     record {
       registers = row 8 p (a .registers);
       copies = row 4 p (a .copies);
-      counts = row 4 p (a .counts);
+      counts = row 8 p (a .counts);
       kept = row 8 p (a .kept);
       names = row 8 p (a .names);
       olds = row 8 p (a .olds);
@@ -141,26 +141,26 @@ pub record Simulated (sheet : List ℕ) (body : List BodyCommand) (a : Arrays) (
   pub sizes : sizesOf (u .arrays) ≡ sizesOf a
   pub shape : JobShape sheet (u .job) (partsOf (u .arrays) p) (u .job .phase)
 
--- A COUNT RISES: n of the four counts of task p
-module _ (counts : List ℕ) (p n : ℕ) (size : length counts ≡ 32) (below : p < 8) (four : n < 4) where
-  counted-row : row 4 p (counted counts p n) ≡ replace (row 4 p counts) n ((at 0 counts (4 * p + n) + 1) % 4294967296)
+-- A COUNT RISES: number n in the row of task p
+module _ (counts : List ℕ) (p n : ℕ) (size : length counts ≡ 64) (below : p < 8) (eight : n < 8) where
+  counted-row : row 8 p (counted counts p n) ≡ replace (row 8 p counts) n ((at 0 counts (8 * p + n) + 1) % 4294967296)
   unfolding counted
-  counted-row = row-same 4 p n counts _ four
+  counted-row = row-same 8 p n counts _ eight
 
-  pub counted-same : at 0 (row 4 p counts) n < 4294967295 → at 0 (row 4 p (counted counts p n)) n ≡ suc (at 0 (row 4 p counts) n)
+  pub counted-same : at 0 (row 8 p counts) n < 4294967295 → at 0 (row 8 p (counted counts p n)) n ≡ suc (at 0 (row 8 p counts) n)
   counted-same h =
-      let s : length (row 4 p counts) ≡ 4 = length-row 4 p counts (omega arith) in
-      let e : at 0 (row 4 p counts) n ≡ at 0 counts (4 * p + n) = at-row 0 4 p n counts four in
-      let once : (at 0 counts (4 * p + n) + 1) % 4294967296 ≡ suc (at 0 (row 4 p counts) n) = omega arith in
-      ap (λ (l : List ℕ). at 0 l n) counted-row ∙ replace-same 0 (row 4 p counts) n _ (omega arith) ∙ once
+      let s : length (row 8 p counts) ≡ 8 = length-row 8 p counts (omega arith) in
+      let e : at 0 (row 8 p counts) n ≡ at 0 counts (8 * p + n) = at-row 0 8 p n counts eight in
+      let once : (at 0 counts (8 * p + n) + 1) % 4294967296 ≡ suc (at 0 (row 8 p counts) n) = omega arith in
+      ap (λ (l : List ℕ). at 0 l n) counted-row ∙ replace-same 0 (row 8 p counts) n _ (omega arith) ∙ once
 
-  pub counted-other : (m : ℕ) → m ≢ n → at 0 (row 4 p (counted counts p n)) m ≡ at 0 (row 4 p counts) m
-  counted-other m d = ap (λ (l : List ℕ). at 0 l m) counted-row ∙ replace-other 0 (row 4 p counts) n m _ d
+  pub counted-other : (m : ℕ) → m ≢ n → at 0 (row 8 p (counted counts p n)) m ≡ at 0 (row 8 p counts) m
+  counted-other m d = ap (λ (l : List ℕ). at 0 l m) counted-row ∙ replace-other 0 (row 8 p counts) n m _ d
 
   pub counted-size : length (counted counts p n) ≡ length counts
   unfolding counted
-  counted-size = length-replace counts (4 * p + n) _
+  counted-size = length-replace counts (8 * p + n) _
 
-  pub counted-others : (q : ℕ) → q ≢ p → row 4 q (counted counts p n) ≡ row 4 q counts
+  pub counted-others : (q : ℕ) → q ≢ p → row 8 q (counted counts p n) ≡ row 8 q counts
   unfolding counted
-  counted-others q d = row-other 4 p q n counts _ four d
+  counted-others q d = row-other 8 p q n counts _ eight d

@@ -61,7 +61,7 @@ unfolding added
 added-size registers p r q = length-replace registers _ _
 
 module _ (sheet : List ℕ) (body : List C.BodyCommand) (a : Arrays) (p : ℕ) (j : Job) (s : Sizes a) (below : p < 8)
-    (few : at 0 (row 4 p (a .counts)) 0 < 4294967295) (u : Unloaded (j .pairs) (partsOf a p)) (next : ℕ) where
+    (few : at 0 (row 8 p (a .counts)) 0 < 4294967295) (u : Unloaded (j .pairs) (partsOf a p)) (next : ℕ) where
   abbrev t : J.Task
   t = outside sheet body a p j J.plain
 
@@ -170,7 +170,7 @@ module _ (sheet : List ℕ) (body : List C.BodyCommand) (a : Arrays) (p : ℕ) (
 
 -- THE COMMAND AT WORK
 pub plain-tick : (sheet : List ℕ) (body : List C.BodyCommand) (a : Arrays) (p : ℕ) (j : Job) → Sizes a → p < 8
-    → at 0 (row 4 p (a .counts)) 0 < 4294967295 → Unloaded (j .pairs) (partsOf a p)
+    → at 0 (row 8 p (a .counts)) 0 < 4294967295 → Unloaded (j .pairs) (partsOf a p)
     → (words blocks : ℕ) (b : Body) → words ≤ 32 → j .pairs ≤ 8 → (length (b .pairs) < 8 → j .pairs < 8) → (f : C.Found)
     → C.commandAt sheet (j .at) ≡ f → FoundFits words blocks b f
     → Simulated sheet body a p (plainBy sheet a p (inPhase j Plain) f)

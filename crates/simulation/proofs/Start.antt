@@ -49,8 +49,8 @@ zero-row n p m h =
     ext-getD 0 (row n p (zeros m)) (zeros n) (short ∙ sym all)
     (λ i l. at-row 0 n p i (zeros m) (omega arith) ∙ at-replicate 0 0 m (n * p + i) (omega arith) ∙ sym (at-replicate 0 0 n i (omega arith)))
 
-nothing-counted : (i : ℕ) → i < 4 → at 0 (zeros 4) i ≡ 0
-nothing-counted i h = at-replicate 0 0 4 i h
+nothing-counted : (i : ℕ) → i < 8 → at 0 (zeros 8) i ≡ 0
+nothing-counted i h = at-replicate 0 0 8 i h
 
 no-job : (p : ℕ) → getD (replicate 8 noJob) p noJob ≡ noJob
 unfolding at
@@ -80,7 +80,6 @@ module _ (sheet bodies : List ℕ) (place : ℕ) (s : Sheet) (c : SheetFit s) (c
           rw (
             f .body p h,
             zero-row 8 p 64 (omega arith),
-            zero-row 4 p 32 (omega arith),
             f .copiesStart p below,
             no-pairs (zeros 8) (zeros 8) (zeros 8),
             nothing-counted 0 (omega arith),

@@ -68,7 +68,7 @@ module _ (sheet : List ℕ) (place words blocks : ℕ) (k : Known) (o : Open wor
   found-fits (C.found C.END next) e = tt
 
 module _ (sheet : List ℕ) (body : List C.BodyCommand) (a : Arrays) (p : ℕ) (j : Job) (s : Sizes a) (below : p < 8)
-    (few : (n : ℕ) → n < 4 → at 0 (row 4 p (a .counts)) n < 4294967295) (words blocks : ℕ) (mostWords : words ≤ 32) (mostBlocks : blocks ≤ 16) where
+    (few : (n : ℕ) → n < 4 → at 0 (row 8 p (a .counts)) n < 4294967295) (words blocks : ℕ) (mostWords : words ≤ 32) (mostBlocks : blocks ≤ 16) where
   abbrev pairs : List X.Entry
   pairs = pairsOf (j .pairs) (row 8 p (a .names)) (row 8 p (a .olds)) (row 8 p (a .news))
 

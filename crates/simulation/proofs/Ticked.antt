@@ -120,7 +120,7 @@ module _ (sheet bodies : List ℕ) (s : Sheet) (c : SheetFit s) (w : World) (g :
     task-range : TaskRange t
     task-range = subst TaskRange t-at (range .task p)
 
-    small : (i : ℕ) → i < 4 → at 0 (row 4 p (w .arrays .counts)) i < 4294967295
+    small : (i : ℕ) → i < 4 → at 0 (row 8 p (w .arrays .counts)) i < 4294967295
     small zero l = omega (arith, task-fit .counts, task-fit .ticks)
     small (suc zero) l = omega (arith, task-fit .counts, task-fit .ticks)
     small (suc (suc zero)) l = omega (arith, task-fit .counts, task-fit .ticks)
@@ -144,15 +144,15 @@ module _ (sheet bodies : List ℕ) (s : Sheet) (c : SheetFit s) (w : World) (g :
     abbrev after : Arrays
     after = withCounts (u .arrays) (counted (u .arrays .counts) p 3)
 
-    size : length (u .arrays .counts) ≡ 32
+    size : length (u .arrays .counts) ≡ 64
     size = sizes (u .arrays) (simulated .sizes ∙ g .sized) .counts
 
     counted-ticks : taskOf sheet body (u .job) (partsOf after p) ≡ J.counting J.ticks (taskOf sheet body (u .job) (partsOf (u .arrays) p))
     counted-ticks =
         let turned = statement-fit (c .blocks) (fit .memory) t (task-fit .registers) (task-fit .copies) p (task-fit .phase) in
         let ticks = ap (λ (z : Leaves). z .task .counts .ticks) (simulated .same) in
-        let few : at 0 (row 4 p (u .arrays .counts)) 3 < 4294967295 = omega (arith, turned .ticks, ticks, small 3 (omega arith)) in
-        ticked-task sheet body (u .job) (partsOf (u .arrays) p) (row 4 p (counted (u .arrays .counts) p 3))
+        let few : at 0 (row 8 p (u .arrays .counts)) 3 < 4294967295 = omega (arith, turned .ticks, ticks, small 3 (omega arith)) in
+        ticked-task sheet body (u .job) (partsOf (u .arrays) p) (row 8 p (counted (u .arrays .counts) p 3))
         (counted-other (u .arrays .counts) p 3 size (h .below) (omega arith) 0 (λ z. omega arith))
         (counted-other (u .arrays .counts) p 3 size (h .below) (omega arith) 1 (λ z. omega arith))
         (counted-other (u .arrays .counts) p 3 size (h .below) (omega arith) 2 (λ z. omega arith))
@@ -198,7 +198,7 @@ module _ (sheet bodies : List ℕ) (s : Sheet) (c : SheetFit s) (w : World) (g :
             jobs = length-set (w .jobs) p (u .job) ∙ g .jobs;
             shape = λ q l. same? q p
                 (λ e. rw (e, again)
-                (shape-counts sheet (u .job) (partsOf (u .arrays) p) (row 4 p (counted (u .arrays .counts) p 3)) (u .job .phase) (simulated .shape)))
+                (shape-counts sheet (u .job) (partsOf (u .arrays) p) (row 8 p (counted (u .arrays .counts) p 3)) (u .job .phase) (simulated .shape)))
                 (λ d. subst
                 (λ (x : Parts). JobShape sheet (getD (set (w .jobs) p (u .job)) q noJob) x (getD (set (w .jobs) p (u .job)) q noJob .phase))
                 (sym (others q d)) (rw (getD-set-other (w .jobs) p q (u .job) noJob d) (g .shape q l)));

@@ -65,7 +65,7 @@ fn plain_command(
     overlapped: &mut [u8; 64],
     kinds: &mut [u8; 128],
     remembered: &[u32; 128],
-    counts: &mut [u32; 32],
+    counts: &mut [u32; 64],
     p: u8,
     job: Job,
     at: usize,
@@ -163,7 +163,7 @@ pub fn plain(
     overlapped: &mut [u8; 64],
     kinds: &mut [u8; 128],
     remembered: &[u32; 128],
-    counts: &mut [u32; 32],
+    counts: &mut [u32; 64],
     p: u8,
     job: Job,
 ) -> Job

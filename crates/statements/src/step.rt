@@ -53,7 +53,7 @@ fn other(
     overlapped: &mut [u8; 64],
     kinds: &mut [u8; 128],
     remembered: &mut [u32; 128],
-    counts: &mut [u32; 32],
+    counts: &mut [u32; 64],
     p: u8,
     job: Job,
 ) -> Job
@@ -145,7 +145,7 @@ pub fn step(
     overlapped: &mut [u8; 64],
     kinds: &mut [u8; 128],
     remembered: &mut [u32; 128],
-    counts: &mut [u32; 32],
+    counts: &mut [u32; 64],
     p: u8,
     job: Job,
 ) -> Job

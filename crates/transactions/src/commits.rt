@@ -144,7 +144,7 @@ pub fn commit(
     overlapped: &mut [u8; 64],
     kinds: &[u8; 128],
     remembered: &[u32; 128],
-    counts: &mut [u32; 32],
+    counts: &mut [u32; 64],
     p: u8,
     job: Job,
 ) -> Job
@@ -211,7 +211,7 @@ pub fn committed_by(
     copies: &mut [u8; 32],
     kinds: &mut [u8; 128],
     remembered: &[u32; 128],
-    counts: &mut [u32; 32],
+    counts: &mut [u32; 64],
     p: u8,
     job: Job,
     exchanged: Exchanged,

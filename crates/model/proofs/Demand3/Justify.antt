@@ -36,7 +36,7 @@ use Rattle.model.proofs.History.Moves.{transactionSettles, commandSettl
 use Rattle.model.proofs.History.Noted.{latestOf}
 use Rattle.model.proofs.History.Linked.{Open, OpenBy, InOperation, givenTo}
 use Rattle.model.proofs.History.Hit.{Hit}
-use Rattle.model.proofs.History.Justified.{Found, Ground, differed, hit, Justified}
+use Rattle.model.proofs.History.Justified.{Stood, Ground, differed, hit, Justified}
 use Rattle.model.proofs.Fit.Running.{Foremost}
 use Rattle.model.proofs.History.Ticks.{MachineLinked, next-of}
 use Rattle.model.proofs.Demand3.Acts.{actIn, goes-on}
@@ -67,7 +67,7 @@ module _ {s : Sheet} (c : SheetFit s) (memories : ℕ → Memory) {m : Machine} 
 
   -- READ
   module _ (q w : ℕ) (i : Reading) (e : taskAt (m .tasks) p .job .phase ≡ readingPhase q w i) where
-    found : (v : ℕ) → readTick (m .memory) w i ≡ gives v → Found contents (latestOf h p) (m .now) w v
+    found : (v : ℕ) → readTick (m .memory) w i ≡ gives v → Stood contents (latestOf h p) (m .now) w v
     found v z =
         let seen = read-seen (ready c linked k now p r) (linked .linked) (next-of linked p r) now (k .past .past) q w i v e z in
         let f = job-as (ready c linked k now p r) (readingPhase q w i) e in

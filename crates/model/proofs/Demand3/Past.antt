@@ -21,7 +21,7 @@ use Rattle.model.proofs.Fit.Exchange.{entryOf, SamePairs}
 use Rattle.model.proofs.Exchanges.Act.{free, actAt, actOf, started?}
 use Rattle.model.proofs.Exchanges.Act.{exchanging as exchangingAct}
 use Rattle.model.proofs.Exchanges.Ground.{Busy, Passes, SeesNow}
-use Rattle.model.proofs.Exchanges.Ground.{History as Knowledge}
+use Rattle.model.proofs.Exchanges.Ground.{Knowledge}
 use Rattle.model.proofs.History.Exchange.{pairsOf}
 use Rattle.model.proofs.History.Moves.{given}
 use Rattle.model.proofs.History.Noted.{latestOf}

@@ -26,7 +26,7 @@ use Rattle.model.proofs.Transactions.Facts.{slotsOf, TaskFacts, Transac
 use Rattle.model.proofs.Transactions.Owners.{owners-stay}
 use Rattle.model.proofs.Transactions.Contents.{ext-at}
 use Rattle.model.proofs.Transactions.Machine.{statementOf, Later, statement-keeps}
-use Rattle.model.proofs.Transactions.Machine.{Running as RunningTask}
+use Rattle.model.proofs.Transactions.Machine.{RunningTask}
 use Rattle.model.proofs.Fit.Running.{Foremost}
 use Rattle.model.proofs.History.Arrive.{JobArrived, TaskArrived, waits, starts, Arrived}
 use Rattle.model.proofs.History.Statement.{moves}

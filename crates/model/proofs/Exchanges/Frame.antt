@@ -14,7 +14,7 @@ use Rattle.model.specs.Word.{setSave, own, current, Reading, loading, lo
 use Rattle.model.specs.Exchange.{Entry, Step, start, test, load, look, fetch, fail, mark, install, commit, save, clean, cleanMark, Exchange}
 use Rattle.model.proofs.Lists.{replace-same, replace-other, same?, impossible}
 use Rattle.model.proofs.Exchanges.Act.{Act, free, reading, exchanging, actAt}
-use Rattle.model.proofs.Exchanges.Invariant.{WellFormed, valid, held, Anyone, Loaded, Found, Settled}
+use Rattle.model.proofs.Exchanges.Invariant.{WellFormed, valid, held, Anyone, Loaded, FoundOld, Settled}
 use Rattle.model.proofs.Exchanges.Invariant.{AtStep, InReading, Knows, Rank, itself, idle, lower, Situation}
 use Rattle.model.proofs.Exchanges.Words.{own-valid, own-same, current-own, current-same}
 
@@ -98,8 +98,8 @@ module _ {p : ℕ} {m n : Memory} (F : Frame p m n) where
     loaded-frame L =
         record { well-formed = move-content p v clear (L .well-formed); looked = L .looked ∙ ap not (sym (own-frame clear (L .well-formed))) }
 
-    pub found-frame : {q : ℕ} {e : Entry} {i : ℕ} → saved (n .saves) q i ≡ saved (m .saves) q i → Found of (m .status) (m .saves) acts q e i
-        → Found of (n .status) (n .saves) (replace acts p v) q e i
+    pub found-frame : {q : ℕ} {e : Entry} {i : ℕ} → saved (n .saves) q i ≡ saved (m .saves) q i → FoundOld of (m .status) (m .saves) acts q e i
+        → FoundOld of (n .status) (n .saves) (replace acts p v) q e i
     found-frame s E =
         record { loaded = loaded-frame (E .loaded); was-old = current-frame clear (E .loaded .well-formed) ∙ E .was-old; kept-old = s ∙ E .kept-old }
 

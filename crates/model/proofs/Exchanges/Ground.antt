@@ -16,7 +16,7 @@ use Rattle.model.proofs.Exchanges.Act.{Act, free, reading, exchanging, 
 -- seen r c v: cell c had the current value v at the beginning of one of its ticks;
 -- hit r c: a task that r is below has begun, after it did, an exchange with a changing pair on cell c;
 -- pairs r: the pairs of its exchange.
-pub record History : Type 1 where
+pub record Knowledge : Type 1 where
   pub seen : ℕ → ℕ → ℕ → Type 0
   pub hit : ℕ → ℕ → Type 0
   pub pairs : ℕ → List Entry
@@ -26,7 +26,7 @@ pub data Grounds (seen : ℕ → ℕ → Type 0) (hit : ℕ → Type 0) (es : Li
   differs : (e v : ℕ) → e < length es → seen (entryOf es e .cell) v → v ≢ entryOf es e .old → Grounds seen hit es
   beaten : (e : ℕ) → e < length es → hit (entryOf es e .cell) → Grounds seen hit es
 
-abbrev pub GroundsOf : History → ℕ → Type 0
+abbrev pub GroundsOf : Knowledge → ℕ → Type 0
 GroundsOf H r = Grounds (H .seen r) (H .hit r) (H .pairs r)
 
 -- an uncleaned entry of the exchange has replaced that content of cell c
@@ -65,7 +65,7 @@ module _ (counts : ℕ → Word → Type 0) (seen : ℕ → ℕ → Type 0) (hit
   PastStep (clean j yes?) = yes? ≡ false → grounds
   PastStep (cleanMark j yes?) = (yes? ≡ false → grounds) × hit (entryAt x j .cell)
 
-module _ (below : ℕ → ℕ → Type 0) (H : History) (cells : List Word) (status : List ℕ) (saves : List (List ℕ)) (acts : List Act) (r : ℕ) where
+module _ (below : ℕ → ℕ → Type 0) (H : Knowledge) (cells : List Word) (status : List ℕ) (saves : List (List ℕ)) (acts : List Act) (r : ℕ) where
   pub record PastExchange (x : Exchange) : Type 0 where
     pub pairs : SamePairs (x .entries) (H .pairs r)
     pub counts : (e : ℕ) → uncleaned (stage x) ≤ e → e < x .i
@@ -84,7 +84,7 @@ module _ (below : ℕ → ℕ → Type 0) (H : History) (cells : List Word) (sta
   PastAct (exchanging x) = PastExchange x
 
 -- the grounds of all tasks
-pub record Past (below : ℕ → ℕ → Type 0) (H : History) (m : Memory) (acts : List Act) : Type 0 where
+pub record Past (below : ℕ → ℕ → Type 0) (H : Knowledge) (m : Memory) (acts : List Act) : Type 0 where
   pub knows : (r : ℕ) → PastAct below H (m .cells) (m .status) (m .saves) acts r (actAt acts r)
 
 -- WHAT IS ASKED OF A HISTORY
@@ -93,7 +93,7 @@ pub record Busy (acts : List Act) (r : ℕ) : Type 0 where
   pub act : actAt acts r ≡ exchanging exchange
 
 -- the history before and after a tick of p. Of tasks that do nothing to cells nothing is asked.
-pub record Passes (below : ℕ → ℕ → Type 0) (acts : List Act) (p : ℕ) (H H′ : History) : Type 0 where
+pub record Passes (below : ℕ → ℕ → Type 0) (acts : List Act) (p : ℕ) (H H′ : Knowledge) : Type 0 where
   pub seen : (r c v : ℕ) → actAt acts r ≢ free → H .seen r c v → H′ .seen r c v
   pub hit : (r c : ℕ) → Busy acts r → H .hit r c → H′ .hit r c
   pub pairs : (r : ℕ) → Busy acts r → H′ .pairs r ≡ H .pairs r
@@ -103,8 +103,8 @@ pub record Passes (below : ℕ → ℕ → Type 0) (acts : List Act) (p : ℕ) (
       → H′ .hit r (entryOf (H .pairs p) e .cell)
 
 -- the memory being m at the beginning of the tick, p's operation sees it
-abbrev pub SeesNow : Memory → ℕ → History → Type 0
+abbrev pub SeesNow : Memory → ℕ → Knowledge → Type 0
 SeesNow m p H′ = (c : ℕ) → H′ .seen p c (currentOf m c)
 
-pub past-at-first : {below : ℕ → ℕ → Type 0} {H : History} {m : Memory} (acts : List Act) → ((p : ℕ) → actAt acts p ≡ free) → Past below H m acts
+pub past-at-first : {below : ℕ → ℕ → Type 0} {H : Knowledge} {m : Memory} (acts : List Act) → ((p : ℕ) → actAt acts p ≡ free) → Past below H m acts
 past-at-first acts f = record { knows = λ r. rw (f r) tt }

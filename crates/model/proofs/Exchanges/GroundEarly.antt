@@ -13,11 +13,11 @@ use Rattle.model.proofs.Exchanges.Invariant.{Situation}
 use Rattle.model.proofs.Exchanges.Frame.{nobody-above}
 use Rattle.model.proofs.Exchanges.Early.{Follows}
 use Rattle.model.proofs.Fit.Exchange.{SamePairs}
-use Rattle.model.proofs.Exchanges.Ground.{History, GroundsOf, Replaces, CountsOn, there, replaced}
+use Rattle.model.proofs.Exchanges.Ground.{Knowledge, GroundsOf, Replaces, CountsOn, there, replaced}
 use Rattle.model.proofs.Exchanges.Ground.{was-hit, PastStep, PastExchange, PastAct, Past, Busy, Passes}
 use Rattle.model.proofs.Exchanges.GroundFrame.{HitBelow, UpholdsPast, grounds-later, pairs-later}
 
-module _ {below : ℕ → ℕ → Type 0} {m : Memory} {acts : List Act} {p : ℕ} {x : Exchange} (S : Situation below m acts p (exchanging x)) {H H′ : History}
+module _ {below : ℕ → ℕ → Type 0} {m : Memory} {acts : List Act} {p : ℕ} {x : Exchange} (S : Situation below m acts p (exchanging x)) {H H′ : Knowledge}
     (T : Passes below acts p H H′) (P : Past below H m acts) where
   abbrev pub Outcome-past : Memory → Act → Type 0
   Outcome-past n v = UpholdsPast below H′ m n acts p (exchanging x) v

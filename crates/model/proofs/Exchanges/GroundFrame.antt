@@ -14,7 +14,7 @@ use Rattle.model.proofs.Exchanges.Act.{Act, free, reading, exchanging, 
 use Rattle.model.proofs.Exchanges.Invariant.{WellFormed, valid, held, AtStep, InExchange, Knows, Rank, itself, idle, lower, Situation}
 use Rattle.model.proofs.Exchanges.Frame.{current-frame, lower-clear, Moved}
 use Rattle.model.proofs.Fit.Exchange.{SamePairs}
-use Rattle.model.proofs.Exchanges.Ground.{History, Grounds, differs, beaten, GroundsOf, ReplacedBy, CountsOn, there}
+use Rattle.model.proofs.Exchanges.Ground.{Knowledge, Grounds, differs, beaten, GroundsOf, ReplacedBy, CountsOn, there}
 use Rattle.model.proofs.Exchanges.Ground.{replaced, was-hit, PastStep, PastExchange, PastAct, Past, Busy, Passes}
 
 -- one of the cells that the exchange has come to was hit
@@ -24,14 +24,14 @@ pub record HitBelow (hit : ℕ → Type 0) (z : Exchange) : Type 0 where
   pub was : hit (entryAt z number .cell)
 
 -- what is asked of a statement of p that leads from the memory m and act v₀ to n and v
-pub record UpholdsPast (below : ℕ → ℕ → Type 0) (H′ : History) (m n : Memory) (acts : List Act) (p : ℕ) (v₀ v : Act) : Type 0 where
+pub record UpholdsPast (below : ℕ → ℕ → Type 0) (H′ : Knowledge) (m n : Memory) (acts : List Act) (p : ℕ) (v₀ v : Act) : Type 0 where
   pub content : (r c : ℕ) (w : Word) → Busy acts r → below r p → ((e : Entry) (i : ℕ) → w ≢ installed p e i) → cellOf m c ≡ w
       → CountsOn below (H′ .hit r) (n .cells) (replace acts p v) r c w
   pub cover : (r c : ℕ) (w : Word) → Busy acts r → below r p → ReplacedBy v₀ c w → CountsOn below (H′ .hit r) (n .cells) (replace acts p v) r c w
   pub marked : (r : ℕ) → r ≢ p → (statusOf n r ≡ statusOf m r) ⊎ ((z : Exchange) → actAt acts r ≡ exchanging z → below r p → HitBelow (H′ .hit r) z)
   pub own : PastAct below H′ (n .cells) (n .status) (n .saves) (replace acts p v) p v
 
-module _ {below : ℕ → ℕ → Type 0} {acts : List Act} {p : ℕ} {H H′ : History} (T : Passes below acts p H H′) where
+module _ {below : ℕ → ℕ → Type 0} {acts : List Act} {p : ℕ} {H H′ : Knowledge} (T : Passes below acts p H H′) where
   pub busy-not-free : {r : ℕ} → Busy acts r → actAt acts r ≢ free
   busy-not-free B f = impossible (cc (B .act))
 
@@ -48,7 +48,7 @@ module _ {below : ℕ → ℕ → Type 0} {acts : List Act} {p : ℕ} {H H′ : 
   pub seen-later : {r : ℕ} {c v : ℕ} → Busy acts r → H .seen r c v → H′ .seen r c v
   seen-later {r} {c} {v} B s = T .seen r c v (busy-not-free B) s
 
-module _ {below : ℕ → ℕ → Type 0} {m : Memory} {acts : List Act} {p : ℕ} {v₀ : Act} (S : Situation below m acts p v₀) {H H′ : History}
+module _ {below : ℕ → ℕ → Type 0} {m : Memory} {acts : List Act} {p : ℕ} {v₀ : Act} (S : Situation below m acts p v₀) {H H′ : Knowledge}
     (T : Passes below acts p H H′) {n : Memory} {v : Act} (M : Moved below m n acts p v) (U : UpholdsPast below H′ m n acts p v₀ v) where
   -- a task r below p
   module _ (r : ℕ) (b : below r p) (ne : r ≢ p) where

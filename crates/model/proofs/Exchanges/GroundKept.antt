@@ -20,14 +20,14 @@ use Rattle.model.proofs.Exchanges.Outcome.{tests-done, tests-on, loads,
 use Rattle.model.proofs.Exchanges.Outcome.{fails, marks, installs, misses, decides, decides-last, cleans, cleans-last, cleans-to-mark}
 use Rattle.model.proofs.Exchanges.Early.{follows-to, mine, at-step-as}
 use Rattle.model.proofs.Exchanges.Clean.{decided-cells, clean-entry}
-use Rattle.model.proofs.Exchanges.Ground.{History, GroundsOf, Replaces, CountsOn, there, was-hit, Past, Busy, Passes, SeesNow}
+use Rattle.model.proofs.Exchanges.Ground.{Knowledge, GroundsOf, Replaces, CountsOn, there, was-hit, Past, Busy, Passes, SeesNow}
 use Rattle.model.proofs.Exchanges.GroundFrame.{HitBelow, grounds-later}
 use Rattle.model.proofs.Exchanges.GroundEarly.{Outcome-past, running, past, past-step-as, gone-hit}
 use Rattle.model.proofs.Exchanges.GroundEarly.{still-counts, follow-pairs, replaced-on, same-past, quiet-past}
 use Rattle.model.proofs.Exchanges.GroundStatement.{changing-hits, marked-hit, load-past, look-own-past, look-other-past, fetch-past}
 use Rattle.model.proofs.Exchanges.GroundStatement.{save-past, differing-grounds, fail-past, mark-past, counts-on, install-past, miss-past}
 
-module _ {below : ℕ → ℕ → Type 0} {m : Memory} {acts : List Act} {p : ℕ} {x : Exchange} (S : Situation below m acts p (exchanging x)) {H H′ : History}
+module _ {below : ℕ → ℕ → Type 0} {m : Memory} {acts : List Act} {p : ℕ} {x : Exchange} (S : Situation below m acts p (exchanging x)) {H H′ : Knowledge}
     (T : Passes below acts p H H′) (P : Past below H m acts) where
   -- COMMIT
   decided-grounds : {n : Memory} {yes? : Bool} → x .step ≡ commit → Decides p m n yes? → yes? ≡ false → GroundsOf H′ p

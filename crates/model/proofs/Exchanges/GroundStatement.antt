@@ -19,13 +19,13 @@ use Rattle.model.proofs.Exchanges.Frame.{below-clear}
 use Rattle.model.proofs.Exchanges.Early.{follows-to, follows-onward, follows-noted, noted-here}
 use Rattle.model.proofs.Exchanges.Early.{from-zero, mine, inside, at-step-as, replaced-held}
 use Rattle.model.proofs.Fit.Exchange.{SamePairs}
-use Rattle.model.proofs.Exchanges.Ground.{History, differs, beaten, GroundsOf, CountsOn, there, replaced}
+use Rattle.model.proofs.Exchanges.Ground.{Knowledge, differs, beaten, GroundsOf, CountsOn, there, replaced}
 use Rattle.model.proofs.Exchanges.Ground.{was-hit, PastStep, PastExchange, Past, Busy, Passes, SeesNow}
 use Rattle.model.proofs.Exchanges.GroundFrame.{HitBelow, grounds-later, pairs-later, seen-later}
 use Rattle.model.proofs.Exchanges.GroundEarly.{Outcome-past, running, past, past-step-as, gone-hit}
 use Rattle.model.proofs.Exchanges.GroundEarly.{still-counts, follow-pairs, replaced-on, same-past, quiet-past}
 
-module _ {below : ℕ → ℕ → Type 0} {m : Memory} {acts : List Act} {p : ℕ} {x : Exchange} (S : Situation below m acts p (exchanging x)) {H H′ : History}
+module _ {below : ℕ → ℕ → Type 0} {m : Memory} {acts : List Act} {p : ℕ} {x : Exchange} (S : Situation below m acts p (exchanging x)) {H H′ : Knowledge}
     (T : Passes below acts p H H′) (P : Past below H m acts) where
   -- p's pairs as the history has them
   pub known : SamePairs (x .entries) (H′ .pairs p)

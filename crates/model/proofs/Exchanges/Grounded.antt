@@ -17,12 +17,12 @@ use Rattle.model.proofs.Exchanges.Outcome.{outcome}
 use Rattle.model.proofs.Exchanges.Frame.{frame-none, Moved}
 use Rattle.model.proofs.Exchanges.Kept.{quiet-moved, start-moved, read-loaded, actRead, reading-moved, exchange-moved}
 use Rattle.model.proofs.Fit.Exchange.{SamePairs}
-use Rattle.model.proofs.Exchanges.Ground.{History, GroundsOf, ReplacedBy, there, PastAct, Past, Passes, SeesNow}
+use Rattle.model.proofs.Exchanges.Ground.{Knowledge, GroundsOf, ReplacedBy, there, PastAct, Past, Passes, SeesNow}
 use Rattle.model.proofs.Exchanges.GroundFrame.{past-after}
 use Rattle.model.proofs.Exchanges.GroundKept.{exchange-upholds-past, no-grounds, NoGrounds}
 
 -- A TASK IN NO EXCHANGE
-module _ {below : ℕ → ℕ → Type 0} {m : Memory} {acts : List Act} {p : ℕ} {v₀ : Act} (S : Situation below m acts p v₀) (q : Quiet v₀) {H H′ : History}
+module _ {below : ℕ → ℕ → Type 0} {m : Memory} {acts : List Act} {p : ℕ} {v₀ : Act} (S : Situation below m acts p v₀) (q : Quiet v₀) {H H′ : Knowledge}
     (T : Passes below acts p H H′) (P : Past below H m acts) where
   pub quiet-past : {n : Memory} (v : Act) → Moved below m n acts p v → n .cells ≡ m .cells → ((r : ℕ) → r ≢ p → statusOf n r ≡ statusOf m r)
       → PastAct below H′ (n .cells) (n .status) (n .saves) (replace acts p v) p v → Past below H′ n (replace acts p v)
@@ -54,7 +54,7 @@ module _ {below : ℕ → ℕ → Type 0} {m : Memory} {acts : List Act} {p : �
       })
 
 -- READINGS
-module _ {below : ℕ → ℕ → Type 0} {m : Memory} {acts : List Act} {p : ℕ} (c : ℕ) {H H′ : History} (T : Passes below acts p H H′)
+module _ {below : ℕ → ℕ → Type 0} {m : Memory} {acts : List Act} {p : ℕ} (c : ℕ) {H H′ : Knowledge} (T : Passes below acts p H H′)
     (now : SeesNow m p H′) (P : Past below H m acts) where
   seen-before : {r : Reading} → Situation below m acts p (reading c r) → (v : ℕ) → H .seen p c v → H′ .seen p c v
   seen-before S v h = T .seen p c v (λ f. impossible (cc (S .act))) h
@@ -100,7 +100,7 @@ module _ {below : ℕ → ℕ → Type 0} {m : Memory} {acts : List Act} {p : �
       knows S = subst (λ (v : Act). Knows (λ r. below r p) (m .status) (m .saves) acts p v) (S .act) (S .invariant .knows p)
 
 -- EXCHANGES
-module _ {below : ℕ → ℕ → Type 0} {m : Memory} {acts : List Act} {p : ℕ} {H H′ : History} (T : Passes below acts p H H′) (now : SeesNow m p H′)
+module _ {below : ℕ → ℕ → Type 0} {m : Memory} {acts : List Act} {p : ℕ} {H H′ : Knowledge} (T : Passes below acts p H H′) (now : SeesNow m p H′)
     (P : Past below H m acts) where
   pub exchange-past : (x : Exchange) → Situation below m acts p (actOf x) → Room m p (x .entries)
       → (x .step ≡ start → Distinct (x .entries) × SamePairs (x .entries) (H′ .pairs p))

@@ -38,14 +38,14 @@ pub record Loaded (of : ℕ → Type 0) (status : List ℕ) (acts : List Act) (n
   pub looked : n .overlapped ≡ not (own status (n .init))
 
 -- entry e of task p once saved, the value found being the old one
-pub record Found (of : ℕ → Type 0) (status : List ℕ) (saves : List (List ℕ)) (acts : List Act) (p : ℕ) (n : Entry) (e : ℕ) : Type 0 where
+pub record FoundOld (of : ℕ → Type 0) (status : List ℕ) (saves : List (List ℕ)) (acts : List Act) (p : ℕ) (n : Entry) (e : ℕ) : Type 0 where
   pub loaded : Loaded of status acts n
   pub was-old : current status saves (n .init) ≡ n .old
   pub kept-old : saved saves p e ≡ n .old
 
 -- if the pair changes, the task whose content it replaces is marked
 pub record Settled (of : ℕ → Type 0) (status : List ℕ) (saves : List (List ℕ)) (acts : List Act) (p : ℕ) (n : Entry) (e : ℕ) : Type 0 where
-  pub found : Found of status saves acts p n e
+  pub found : FoundOld of status saves acts p n e
   pub marked : n .overlapped ≡ true → n .old ≢ n .new → at 0 status (n .init .task) ≡ 1
 
 module _ (of : ℕ → Type 0) (status : List ℕ) (saves : List (List ℕ)) (acts : List Act) (p : ℕ) where
@@ -57,7 +57,7 @@ module _ (of : ℕ → Type 0) (status : List ℕ) (saves : List (List ℕ)) (ac
   AtStep x fetch = Loaded of status acts (here x) × (here x .overlapped ≡ true)
   AtStep x (save v) = Loaded of status acts (here x) × (v ≡ current status saves (here x .init))
   AtStep x fail = Unit {0}
-  AtStep x mark = Found of status saves acts p (here x) (x .i) × (here x .overlapped ≡ true) × (here x .old ≢ here x .new)
+  AtStep x mark = FoundOld of status saves acts p (here x) (x .i) × (here x .overlapped ≡ true) × (here x .old ≢ here x .new)
   AtStep x install = Settled of status saves acts p (here x) (x .i)
   AtStep x commit = (x .i ≡ length (x .entries)) ⊎ (at 0 status p ≢ 0)
   AtStep x (clean j yes?) = (j < x .i) × (yes? ≡ eqb (at 0 status p) 2)

@@ -97,8 +97,8 @@ module _ {t k p : ℕ} {m : Memory} {x : Exchange} (h : Ticked t k p m x) where
   at-most-as : (s : Step) → x .step ≡ s → AtMost t k (x .i) (statusOf m p) s
   at-most-as s e = subst (λ (z : Step). AtMost t k (x .i) (statusOf m p) z) e (h .most)
 
-  noted-length : (e : Entry) → length (replace (x .entries) (x .i) e) ≡ k
-  noted-length e = length-replace (x .entries) (x .i) e ∙ h .size
+  init-length : (e : Entry) → length (replace (x .entries) (x .i) e) ≡ k
+  init-length e = length-replace (x .entries) (x .i) e ∙ h .size
 
   -- Clean goes by the bounds of its step or of its Mark's
   cleaned-most : {n : Memory} {j : ℕ} {yes? : Bool} → Cleans p m x j yes? n → (j < x .i) × (t + 2 * x .i ≤ 9 * k + 5 + 2 * j)
@@ -121,9 +121,9 @@ module _ {t k p : ℕ} {m : Memory} {x : Exchange} (h : Ticked t k p m x) where
   tick-most l (tests-done s e) = let b = at-most-as test s in record { size = h .size; most = tested (b .1) (b .0) }
   tick-most l (tests-on s g) =
       let b = at-most-as test s in record { size = h .size; most = (omega (arith, b .0, h .size, g .0), tested-on (b .1) (g .1)) }
-  tick-most l (loads s) = let b = at-most-as load s in record { size = noted-length _; most = (b .0, omega (arith, b .1)) }
-  tick-most l (looks-own s w) = let b = at-most-as look s in record { size = noted-length _; most = (b .0, omega (arith, b .1)) }
-  tick-most l (looks-other s w) = let b = at-most-as look s in record { size = noted-length _; most = (b .0, omega (arith, b .1)) }
+  tick-most l (loads s) = let b = at-most-as load s in record { size = init-length _; most = (b .0, omega (arith, b .1)) }
+  tick-most l (looks-own s w) = let b = at-most-as look s in record { size = init-length _; most = (b .0, omega (arith, b .1)) }
+  tick-most l (looks-other s w) = let b = at-most-as look s in record { size = init-length _; most = (b .0, omega (arith, b .1)) }
   tick-most l (fetches s) = let b = at-most-as fetch s in record { size = h .size; most = (b .0, omega (arith, b .1)) }
   tick-most l (saves-differing v s ne) =
       let b = at-most-as (save v) s in record { size = h .size; most = (omega (arith, b .0), omega (arith, b .0, b .1)) }

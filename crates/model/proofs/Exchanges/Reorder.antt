@@ -7,9 +7,9 @@ use Rattle.model.specs.Word.{Word, Memory, loading, looking, fetching}
 use Rattle.model.specs.Exchange.{Entry, Step, start, test, load, look, fetch, fail, mark, install, commit, save, clean, cleanMark, Exchange}
 use Rattle.model.proofs.Lists.{impossible}
 use Rattle.model.proofs.Exchanges.Act.{Act, free, reading, exchanging, actAt}
-use Rattle.model.proofs.Exchanges.Invariant.{WellFormed, valid, held, Loaded, Found, Settled, AtStep, Knows}
+use Rattle.model.proofs.Exchanges.Invariant.{WellFormed, valid, held, Loaded, FoundOld, Settled, AtStep, Knows}
 use Rattle.model.proofs.Exchanges.Invariant.{CoveredBy, Stands, stands, covered, Standing, Invariant}
-use Rattle.model.proofs.Exchanges.Ground.{History, GroundsOf, ReplacedBy, CountsOn, there, replaced, was-hit, PastStep, PastAct, Past}
+use Rattle.model.proofs.Exchanges.Ground.{Knowledge, GroundsOf, ReplacedBy, CountsOn, there, replaced, was-hit, PastStep, PastAct, Past}
 
 not-free : {v : Act} {x : Exchange} → v ≡ exchanging x → v ≢ free
 not-free e f = impossible (cc)
@@ -23,7 +23,7 @@ module _ {of of′ : ℕ → Type 0} (acts : List Act) (f : (r : ℕ) → actAt 
     loaded-reordered : {n : Entry} → Loaded of status acts n → Loaded of′ status acts n
     loaded-reordered L = record { well-formed = content-reordered (L .well-formed); looked = L .looked }
 
-    found-reordered : {n : Entry} {e : ℕ} → Found of status saves acts p n e → Found of′ status saves acts p n e
+    found-reordered : {n : Entry} {e : ℕ} → FoundOld of status saves acts p n e → FoundOld of′ status saves acts p n e
     found-reordered E = record { loaded = loaded-reordered (E .loaded); was-old = E .was-old; kept-old = E .kept-old }
 
     settled-reordered : {n : Entry} {e : ℕ} → Settled of status saves acts p n e → Settled of′ status saves acts p n e
@@ -101,7 +101,7 @@ module _ {below below′ : ℕ → ℕ → Type 0} (acts : List Act) (f : (r q :
   counts-reordered {r = r} {c} {w} n (replaced q b C) = replaced q (f r q n (at-work-replaced (actAt acts q) c w C) b) C
   counts-reordered n (was-hit h) = was-hit h
 
-  module _ (H : History) (cells : List Word) (status : List ℕ) (saves : List (List ℕ)) (r : ℕ) where
+  module _ (H : Knowledge) (cells : List Word) (status : List ℕ) (saves : List (List ℕ)) (r : ℕ) where
     past-step-reordered : (x : Exchange) → actAt acts r ≢ free → (s : Step)
         → PastStep (CountsOn below (H .hit r) cells acts r) (H .seen r) (H .hit r) (GroundsOf H r) status saves x s
         → PastStep (CountsOn below′ (H .hit r) cells acts r) (H .seen r) (H .hit r) (GroundsOf H r) status saves x s
@@ -131,5 +131,5 @@ module _ {below below′ : ℕ → ℕ → Type 0} (acts : List Act) (f : (r q :
           at-step = past-step-reordered x (not-free a) (x .step) (P .at-step);
         }
 
-  pub past-reordered : {H : History} {m : Memory} → Past below H m acts → Past below′ H m acts
+  pub past-reordered : {H : Knowledge} {m : Memory} → Past below H m acts → Past below′ H m acts
   past-reordered {H} {m} P = record { knows = λ r. past-act-reordered H (m .cells) (m .status) (m .saves) r (actAt acts r) refl (P .knows r) }

@@ -13,7 +13,7 @@ use Rattle.model.specs.Exchange.{Entry, Step, test, load, look, fetch, f
 use Rattle.model.specs.Exchange.{save, Exchange, changing, installed, to, onward, withInit, initLoaded}
 use Rattle.model.proofs.Lists.{replace-same, replace-other, same?, impossible}
 use Rattle.model.proofs.Exchanges.Act.{Act, exchanging, working, stageOf, undecided, uncleaned, here}
-use Rattle.model.proofs.Exchanges.Invariant.{WellFormed, held, Anyone, Loaded, Found, AtStep, InExchange, Situation, Room}
+use Rattle.model.proofs.Exchanges.Invariant.{WellFormed, held, Anyone, Loaded, FoundOld, AtStep, InExchange, Situation, Room}
 use Rattle.model.proofs.Exchanges.Words.{current-own, current-other, changes, unchanging}
 use Rattle.model.proofs.Exchanges.Frame.{frame-none, frame-cell, frame-save, frame-status, frame-mark, mark-keeps, kept-not-two}
 use Rattle.model.proofs.Exchanges.Frame.{move-content, current-frame, loaded-frame, found-frame, settled-frame, Moved, below-clear}
@@ -108,7 +108,7 @@ module _ {below : ℕ → ℕ → Type 0} {m : Memory} {acts : List Act} {p : �
 
     -- the value found is the old one
     save-found : (v : ℕ) (s : Step) → x .step ≡ save v → v ≡ here x .old
-        → Found (λ r. below r p) (m .status) (setSave m p (x .i) v .saves) (replace acts p (exchanging (to x s))) p (here x) (x .i)
+        → FoundOld (λ r. below r p) (m .status) (setSave m p (x .i) v .saves) (replace acts p (exchanging (to x s))) p (here x) (x .i)
     save-found v s e d =
         let h = at-step-as S (save v) e in
         let F = frame-save p m (x .i) v in

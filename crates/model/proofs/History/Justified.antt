@@ -26,7 +26,7 @@ use Rattle.model.proofs.History.Hit.{Hit}
 
 module _ (contents : ℕ → Contents) where
   -- the value v stood in word w at a tick from a to u
-  pub record Found (a u w v : ℕ) : Type 0 where
+  pub record Stood (a u w v : ℕ) : Type 0 where
     pub tick : ℕ
     pub from : a ≤ tick
     pub to : tick ≤ u
@@ -34,12 +34,12 @@ module _ (contents : ℕ → Contents) where
 
   -- a no's ground: a named word differed from its old value then, or the operation is hit on it
   pub data Ground (u p : ℕ) (h : History) (ps : List Pair) : Type 0 where
-    differed : (named : Pair) {v : ℕ} → In named ps → Found (latestOf h p) u (named .word) v → v ≢ named .old → Ground u p h ps
+    differed : (named : Pair) {v : ℕ} → In named ps → Stood (latestOf h p) u (named .word) v → v ≢ named .old → Ground u p h ps
     hit : (named : Pair) → In named ps → Hit h p (named .word) → Ground u p h ps
 
   pub record JustifiedRead (u p : ℕ) (h : History) (w v : ℕ) : Type 0 where
     pub still : contents u ≡ contents (suc u)
-    pub found : Found (latestOf h p) u w v
+    pub found : Stood (latestOf h p) u w v
 
   pub record JustifiedNo (u p : ℕ) (h : History) (ps : List Pair) : Type 0 where
     pub still : contents u ≡ contents (suc u)

@@ -12,7 +12,7 @@ use Rattle.model.specs.Plain.{Contents, result, plainly}
 use Rattle.model.specs.History.{Operation, History, operationAt}
 use Rattle.model.specs.Claim.{Replays, exactly, freely, Sequence, noMore, then, Once, EndedBefore, RespectsTime, WholeOperations}
 use Rattle.model.proofs.Fit.Elements.{and-left, and-right, or-cases, or-left, or-right}
-use Rattle.model.proofs.WholeCases.{sameNumbers, counted, timely, interfered, fed, next, ordered, orderedAll, whole}
+use Rattle.model.proofs.WholeCases.{sameNumbers, countedFrom, timely, interfered, fed, next, ordered, orderedAll, whole}
 use Rattle.model.proofs.History.Ordered.{Ordered, whole-operations}
 use Rattle.model.proofs.History.Counted.{counted-once, in-counted, counted-counts}
 use Rattle.model.proofs.History.Tests.{both, numbers-equal, numbers-same, contents-equal, contents-same}
@@ -94,7 +94,7 @@ module _ (go : Contents → Bool) (h : History) (a : ℕ) (c : Contents) where
 
 -- THE SEARCH: an order of the operations l that takes the contents c to d
 module _ (h : History) (d : Contents) where
-  pub record Found (l : List ℕ) (c : Contents) : Type 0 where
+  pub record OrderFound (l : List ℕ) (c : Contents) : Type 0 where
     pub order : List ℕ
     pub once : Once l → Once order
     pub all : (b : ℕ) → In b l → In b order
@@ -102,20 +102,20 @@ module _ (h : History) (d : Contents) where
     pub timely : RespectsTime h order
     pub replay : Sequence h order c d
 
-  module _ (n : ℕ) (go : List ℕ → Contents → Bool) (told : (l : List ℕ) (c : Contents) → length l ≡ n → go l c ≡ true → Found l c) where
-    next-told : (r l : List ℕ) (c : Contents) → length (r ++ l) ≡ suc n → next go h r l c ≡ true → Found (r ++ l) c
+  module _ (n : ℕ) (go : List ℕ → Contents → Bool) (told : (l : List ℕ) (c : Contents) → length l ≡ n → go l c ≡ true → OrderFound l c) where
+    next-told : (r l : List ℕ) (c : Contents) → length (r ++ l) ≡ suc n → next go h r l c ≡ true → OrderFound (r ++ l) c
     unfolding next
     next-told r [] c k e = absurd (false≢true e)
     next-told r (a ∷ l) c k e =
         or-cases (timely h a (r ++ l) && fed (go (r ++ l)) h a (operationAt h a) c) (next go h (r ++ (a ∷ [])) l c) e
         (λ t. first (timely-told h a (r ++ l) (and-left (timely h a (r ++ l)) (fed (go (r ++ l)) h a (operationAt h a) c) t))
         (fed-told (go (r ++ l)) h a c (operationAt h a) refl (and-right (timely h a (r ++ l)) _ t)))
-        (λ t. subst (λ (x : List ℕ). Found x c) (append-assoc r (a ∷ []) l) (next-told (r ++ (a ∷ [])) l c (rw (append-assoc r (a ∷ []) l) k) t))
+        (λ t. subst (λ (x : List ℕ). OrderFound x c) (append-assoc r (a ∷ []) l) (next-told (r ++ (a ∷ [])) l c (rw (append-assoc r (a ∷ []) l) k) t))
       where
         shorter : length (r ++ l) ≡ n
         shorter = let x = length-append r l in let y = length-append r (a ∷ l) in omega arith
 
-        first : ((b : ℕ) → In b (r ++ l) → EndedBefore h b a → ⊥) → Fed (go (r ++ l)) h a c → Found (r ++ (a ∷ l)) c
+        first : ((b : ℕ) → In b (r ++ l) → EndedBefore h b a → ⊥) → Fed (go (r ++ l)) h a c → OrderFound (r ++ (a ∷ l)) c
         first t f =
             let w = told (r ++ l) (f .leaves) shorter (f .follow) in
             record {
@@ -127,15 +127,15 @@ module _ (h : History) (d : Contents) where
               replay = then (f .replays) (w .replay);
             }
           where
-            all : (w : Found (r ++ l) (f .leaves)) (b : ℕ) → (b ≡ a) ⊎ In b (r ++ l) → In b (a ∷ w .order)
+            all : (w : OrderFound (r ++ l) (f .leaves)) (b : ℕ) → (b ≡ a) ⊎ In b (r ++ l) → In b (a ∷ w .order)
             all w b (inl e) = inl e
             all w b (inr i) = inr (w .all b i)
 
-            only : (w : Found (r ++ l) (f .leaves)) (b : ℕ) → In b (a ∷ w .order) → In b (r ++ (a ∷ l))
+            only : (w : OrderFound (r ++ l) (f .leaves)) (b : ℕ) → In b (a ∷ w .order) → In b (r ++ (a ∷ l))
             only w b (inl e) = rw e (in-this a l r)
             only w b (inr i) = in-with a l r b (w .only b i)
 
-  ordered-told : (n : ℕ) (l : List ℕ) (c : Contents) → length l ≡ n → ordered n h d l c ≡ true → Found l c
+  ordered-told : (n : ℕ) (l : List ℕ) (c : Contents) → length l ≡ n → ordered n h d l c ≡ true → OrderFound l c
   unfolding ordered
   ordered-told zero [] c k e =
       record { order = []; once = λ o. tt; all = λ b i. i; only = λ b i. i; timely = tt; replay = rw (contents-equal c d e) noMore }
@@ -188,10 +188,10 @@ module _ (h : History) (d : Contents) where
 
 -- THE SEARCH DECIDES THE CLAIM
 module _ (h : History) (c d : Contents) where
-  pub search-told : orderedAll h d (counted 0 (h .began)) c ≡ true → Ordered h c d
+  pub search-told : orderedAll h d (countedFrom 0 (h .began)) c ≡ true → Ordered h c d
   unfolding orderedAll
   search-told e =
-      let w = ordered-told h d (length (counted 0 (h .began))) (counted 0 (h .began)) c refl e in
+      let w = ordered-told h d (length (countedFrom 0 (h .began))) (countedFrom 0 (h .began)) c refl e in
       record {
         order = w .order;
         once = w .once (counted-once 0 (h .began));
@@ -201,10 +201,10 @@ module _ (h : History) (c d : Contents) where
         replay = w .replay;
       }
 
-  pub search-found : Ordered h c d → orderedAll h d (counted 0 (h .began)) c ≡ true
+  pub search-found : Ordered h c d → orderedAll h d (countedFrom 0 (h .began)) c ≡ true
   unfolding orderedAll
   search-found w =
-      ordered-found h d (length (counted 0 (h .began))) (counted 0 (h .began)) (w .order) c refl (counted-once 0 (h .began)) (w .once)
+      ordered-found h d (length (countedFrom 0 (h .began))) (countedFrom 0 (h .began)) (w .order) c refl (counted-once 0 (h .began)) (w .once)
       (λ b i. w .all b (counted-counts 0 (h .began) b b (omega arith) i)) (λ b i. in-counted 0 (h .began) b b (omega arith) (w .only b i)) (w .timely)
       (w .replay)
 

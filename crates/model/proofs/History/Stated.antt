@@ -16,7 +16,7 @@ use Rattle.model.specs.Plain.{Contents}
 use Rattle.model.specs.History.{History, operationAt, historyOf}
 use Rattle.model.specs.Claim.{each, Sequence, noMore, then, Once, RespectsTime, WholeOperations}
 use Rattle.model.proofs.Fit.Elements.{and-left, and-right, or-cases, or-left, or-right}
-use Rattle.model.proofs.WholeCases.{counted, timely, fed}
+use Rattle.model.proofs.WholeCases.{countedFrom, timely, fed}
 use Rattle.model.proofs.Sheets.{body₁, bodyTwoWords, against}
 use Rattle.model.proofs.Bytes.{word, task, release, end, read}
 use Rattle.model.proofs.History.Ordered.{Ordered, whole-operations}
@@ -92,18 +92,18 @@ pub record InOrder (h : History) (c d : Contents) (l : List ℕ) : Type 0 where
 
 module _ (h : History) (c d : Contents) where
   abbrev all : List ℕ → Bool
-  all l = allAmong (counted 0 (h .began)) l
+  all l = allAmong (countedFrom 0 (h .began)) l
 
   abbrev only : List ℕ → Bool
-  only l = allAmong l (counted 0 (h .began))
+  only l = allAmong l (countedFrom 0 (h .began))
 
   pub stands-told : (l : List ℕ) → stands h c d l ≡ true → InOrder h c d l
   unfolding stands
   stands-told l e =
       let x = and-left (once l && all l && only l) (replayed h d l c) e in
       let y = and-left (once l && all l) (only l) x in
-      let into = all-told (counted 0 (h .began)) l (and-right (once l) _ y) in
-      let from = all-told l (counted 0 (h .began)) (and-right (once l && all l) _ x) in
+      let into = all-told (countedFrom 0 (h .began)) l (and-right (once l) _ y) in
+      let from = all-told l (countedFrom 0 (h .began)) (and-right (once l && all l) _ x) in
       let r = replayed-told h d l c (and-right (once l && all l && only l) _ e) in
       record {
         claim = record {
@@ -121,8 +121,8 @@ module _ (h : History) (c d : Contents) where
   unfolding stands
   stands-found w =
       let l = w .order in
-      let into = all-found (counted 0 (h .began)) l (λ a i. w .all a (counted-counts 0 (h .began) a a (omega arith) i)) in
-      let from = all-found l (counted 0 (h .began)) (λ a i. in-counted 0 (h .began) a a (omega arith) (w .only a i)) in
+      let into = all-found (countedFrom 0 (h .began)) l (λ a i. w .all a (counted-counts 0 (h .began) a a (omega arith) i)) in
+      let from = all-found l (countedFrom 0 (h .began)) (λ a i. in-counted 0 (h .began) a a (omega arith) (w .only a i)) in
       both (once l && all l && only l) _
       (both (once l && all l) _ (both (once l) _ (once-found l (w .once)) into) from)
       (replayed-found h d l c (w .timely) (w .replay))

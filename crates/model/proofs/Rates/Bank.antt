@@ -22,19 +22,19 @@ use Rattle.model.proofs.Rates.Own.{other-task, own-none, own-runs, own-
 use Rattle.model.proofs.Rates.Run.{who}
 
 -- task t is at step r of a reading for access a
-pub record At (t : Task) (a : Access) (r : Reading) : Type 0 where
+pub record AtBankStep (t : Task) (a : Access) (r : Reading) : Type 0 where
   pub transaction : Transaction
   pub inner : Inner
   pub phase : t .job .phase ≡ transacting transaction inner
   pub does : BankStep transaction (t .job .commands) inner a r
 
-abbrev pub In : Machine → ℕ → Access → Reading → Type 0
-In m p a r = At (taskAt (m .tasks) p) a r
+abbrev pub BankStepIn : Machine → ℕ → Access → Reading → Type 0
+BankStepIn m p a r = AtBankStep (taskAt (m .tasks) p) a r
 
 -- under way: t ticks of its own done
 pub record Underway (p : ℕ) (a : Access) (t : ℕ) (m : Machine) : Type 0 where
   pub step : Reading
-  pub inside : In m p a step
+  pub inside : BankStepIn m p a step
   pub read : Reads (bank (blockOf a)) t step
 
 -- its statement gives the value
@@ -42,7 +42,7 @@ pub record Giving (p : ℕ) (m : Machine) : Type 0 where
   pub runs : runningOf m ≡ running p
   pub access : Access
   pub step : Reading
-  pub inside : In m p access step
+  pub inside : BankStepIn m p access step
   pub value : ℕ
   pub gives : readTick (m .memory) (bank (blockOf access)) step ≡ gives value
 
@@ -62,7 +62,7 @@ one-step e (secondReading a v r) (firstLoad b k d w) = impossible (cc)
 one-step e (secondReading a v r) (firstReading b s) = impossible (cc)
 one-step e (secondReading a v r) (secondReading b v′ s) = (cc, cc)
 
-one-reading : {t : Task} {a b : Access} {r s : Reading} → At t a r → At t b s → (a ≡ b) × (r ≡ s)
+one-reading : {t : Task} {a b : Access} {r s : Reading} → AtBankStep t a r → AtBankStep t b s → (a ≡ b) × (r ≡ s)
 one-reading h k = one-step (sym (h .phase) ∙ k .phase) (h .does) (k .does)
 
 -- Load goes on
@@ -70,20 +70,20 @@ load-goes : (m : Memory) (c : ℕ) → readTick m c loading ≡ reads (looking (
 unfolding readTick
 load-goes m c = refl
 
-loaded : (s : Reading) (m : Memory) (c : ℕ) → readTick m c loading ≡ reads s → looking (cellOf m c) ≡ s
-loaded s m c e = let z = sym (load-goes m c) ∙ e in cc
+loaded-word : (s : Reading) (m : Memory) (c : ℕ) → readTick m c loading ≡ reads s → looking (cellOf m c) ≡ s
+loaded-word s m c e = let z = sym (load-goes m c) ∙ e in cc
 
 -- a tick that goes on leaves the task at the next step
 module _ (p : ℕ) (m : Memory) (t : Task) (x : Transaction) where
   step-next : {i : Inner} {a : Access} {r s : Reading} → BankStep x (t .job .commands) i a r → readTick m (bank (blockOf a)) r ≡ reads s
-      → At (transactionTick p m t x i .task) a s
+      → AtBankStep (transactionTick p m t x i .task) a s
   unfolding transactionTick commandTick accessTick firstRead againRead
   step-next {s = s} (firstLoad a k c u) e =
-      rw (← loaded s m (bank (blockOf a)) e, c, u) (record { transaction = x; inner = first a _; phase = refl; does = firstReading a _ })
+      rw (← loaded-word s m (bank (blockOf a)) e, c, u) (record { transaction = x; inner = first a _; phase = refl; does = firstReading a _ })
   step-next {s = s} (firstReading a r) e = rw e (record { transaction = x; inner = first a s; phase = refl; does = firstReading a s })
   step-next {s = s} (secondReading a v r) e = rw e (record { transaction = x; inner = again a v s; phase = refl; does = secondReading a v s })
 
-ticked-at : {t : Task} {a : Access} {r : Reading} → At t a r → At (counting ticks t) a r
+ticked-at : {t : Task} {a : Access} {r : Reading} → AtBankStep t a r → AtBankStep (counting ticks t) a r
 ticked-at h = record { transaction = h .transaction; inner = h .inner; phase = h .phase; does = h .does }
 
 -- task q after its statement
@@ -95,7 +95,7 @@ module _ {p : ℕ} {a : Access} {t : ℕ} where
   underway-arrived : {m m′ : Machine} → Arrived m m′ → Underway p a t m → Underway p a t m′
   underway-arrived {m} {m′} h k = record { step = k .step; inside = go (h .task p .job); read = k .read }
     where
-      go : JobArrived (taskAt (m .tasks) p) (taskAt (m′ .tasks) p .job) → In m′ p a (k .step)
+      go : JobArrived (taskAt (m .tasks) p) (taskAt (m′ .tasks) p .job) → BankStepIn m′ p a (k .step)
       go (waits e) = record {
         transaction = k .inside .transaction;
         inner = k .inside .inner;
@@ -115,7 +115,7 @@ module _ {p : ℕ} {a : Access} {t : ℕ} where
     }
 
     -- TASK p RUNS, at step r
-    module _ (w : runningOf m ≡ running p) {r : Reading} (i : In m p a r) (k : Reads (bank (blockOf a)) t r) where
+    module _ (w : runningOf m ≡ running p) {r : Reading} (i : BankStepIn m p a r) (k : Reads (bank (blockOf a)) t r) where
       read-goes : (s : Reading) → readTick (m .memory) (bank (blockOf a)) r ≡ reads s → Underway p a (suc t) (move m (running p))
       unfolding move statement
       read-goes s e = record {
@@ -134,7 +134,7 @@ reads-not-gives e = impossible (cc)
 
 -- FROM ITS LOAD in tick u
 module _ {s : Sheet} (c : SheetFit s) (p u : ℕ) {a : Access} (runs-first : who c u ≡ running p)
-    (first-in : In (arrivedAt (startMachine s) u) p a loading) where
+    (first-in : BankStepIn (arrivedAt (startMachine s) u) p a loading) where
   abbrev own : ℕ → ℕ
   own n = ownBefore (who c) p u n
 

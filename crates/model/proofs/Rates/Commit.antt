@@ -25,21 +25,21 @@ use Rattle.model.proofs.Rates.Status.{status-stays}
 use Rattle.model.proofs.Rates.Run.{who, below-status}
 
 -- task p is in the exchange x of a COMMIT
-pub record In (m : Machine) (p : ℕ) (x : Exchange) : Type 0 where
+pub record InCommit (m : Machine) (p : ℕ) (x : Exchange) : Type 0 where
   pub transaction : Transaction
   pub phase : taskAt (m .tasks) p .job .phase ≡ transacting transaction (committing x)
 
 -- under way: t ticks of its own done, begun with those entries
 pub record Underway (p : ℕ) (es : List Entry) (t : ℕ) (m : Machine) : Type 0 where
   pub exchange : Exchange
-  pub inside : In m p exchange
+  pub inside : InCommit m p exchange
   pub ran : Ran p es t (m .memory) exchange
 
 -- its statement ends it
 pub record Ending (p : ℕ) (m : Machine) : Type 0 where
   pub runs : runningOf m ≡ running p
   pub exchange : Exchange
-  pub inside : In m p exchange
+  pub inside : InCommit m p exchange
   pub memory : Memory
   pub yes? : Bool
   pub ends : exchangeTick p (m .memory) exchange (exchange .step) ≡ ends memory yes?
@@ -76,7 +76,7 @@ module _ {p : ℕ} {es : List Entry} {t : ℕ} where
     }
 
     -- TASK p RUNS, in exchange x
-    module _ (r : runningOf m ≡ running p) {x : Exchange} (i : In m p x) where
+    module _ (r : runningOf m ≡ running p) {x : Exchange} (i : InCommit m p x) where
       committed-goes : {m′ : Memory} {x′ : Exchange} → exchangeTick p (m .memory) x (x .step) ≡ goes m′ x′ → Ran p es (suc t) m′ x′
           → Underway p es (suc t) (move m (running p))
       unfolding move statement transactionTick committingBy
@@ -105,14 +105,14 @@ start-goes : (p : ℕ) (m : Memory) (x : Exchange) → x .step ≡ start
 unfolding exchangeTick
 start-goes p m x e = rw e refl
 
-one-exchange : {m : Machine} {p : ℕ} {x y : Exchange} → In m p x → In m p y → x ≡ y
+one-exchange : {m : Machine} {p : ℕ} {x y : Exchange} → InCommit m p x → InCommit m p y → x ≡ y
 one-exchange i j = let e = sym (i .phase) ∙ j .phase in cc
 
 goes-not-ends : {A : Type 0} {m m′ : Memory} {x : Exchange} {yes? : Bool} → goes m x ≡ ends m′ yes? → A
 goes-not-ends e = impossible (cc)
 
 -- FROM ITS START in tick a
-module _ {s : Sheet} (c : SheetFit s) (p a : ℕ) {x : Exchange} (runs-first : who c a ≡ running p) (first : In (arrivedAt (startMachine s) a) p x)
+module _ {s : Sheet} (c : SheetFit s) (p a : ℕ) {x : Exchange} (runs-first : who c a ≡ running p) (first : InCommit (arrivedAt (startMachine s) a) p x)
     (at-start : x .step ≡ start) where
   abbrev own : ℕ → ℕ
   own n = ownBefore (who c) p a n

@@ -19,9 +19,8 @@ use Rattle.model.proofs.Rates.Own.{in-tick}
 use Rattle.model.proofs.Rates.Timely.{Rate, Fewer, timely-fewer}
 use Rattle.model.proofs.Rates.Run.{who, rated}
 use Rattle.model.proofs.Rates.Used.{ticks-used}
-use Rattle.model.proofs.Rates.Bank.{Giving, bank-rate, bank-fewer}
-use Rattle.model.proofs.Rates.Bank as bank
-use Rattle.model.proofs.Rates.Commit.{In, Ending, commit-rate, commit-fewer}
+use Rattle.model.proofs.Rates.Bank.{BankStepIn, Giving, bank-rate, bank-fewer}
+use Rattle.model.proofs.Rates.Commit.{InCommit, Ending, commit-rate, commit-fewer}
 
 module _ {s : Sheet} (c : SheetFit s) where
   same-runs : (u : ℕ) → runningIn (startMachine s) u ≡ who c u
@@ -55,7 +54,7 @@ module _ {s : Sheet} (c : SheetFit s) where
       (k .timely (o .task)))
 
   -- the reading of a bank word
-  reading-in : {p u : ℕ} (d : ReadsBank (startMachine s) p u) → bank.In (arrivedAt (startMachine s) u) p (d .access) (d .step)
+  reading-in : {p u : ℕ} (d : ReadsBank (startMachine s) p u) → BankStepIn (arrivedAt (startMachine s) u) p (d .access) (d .step)
   reading-in {p} {u} d =
       let e = in-tick (startMachine s) u .tasks in
       record { transaction = d .transaction; inner = d .inner; phase = rw e at (d .phase); does = rw e at (d .does) }
@@ -88,7 +87,7 @@ module _ {s : Sheet} (c : SheetFit s) where
       }
 
   module _ (p a : ℕ) (load : Loads (startMachine s) p a) where
-    loading-in : bank.In (arrivedAt (startMachine s) a) p (load .reads .access) loading
+    loading-in : BankStepIn (arrivedAt (startMachine s) a) p (load .reads .access) loading
     loading-in = rw (load .loads) at (reading-in (load .reads))
 
     ungiven : (n : ℕ) → NoneIn (Gives (startMachine s) p) a n → (u : ℕ) → a ≤ u → u < n → Giving p (arrivedAt (startMachine s) u) → ⊥
@@ -104,7 +103,7 @@ module _ {s : Sheet} (c : SheetFit s) where
     bank-in-fewer n h since = rw (same-own p a n) (bank-fewer c p a (sym (same-runs a) ∙ load .reads .runs) loading-in n h (ungiven n since))
 
   -- the exchange of a COMMIT
-  committing-in : {p u : ℕ} (d : Committing (startMachine s) p u) → In (arrivedAt (startMachine s) u) p (d .exchange)
+  committing-in : {p u : ℕ} (d : Committing (startMachine s) p u) → InCommit (arrivedAt (startMachine s) u) p (d .exchange)
   committing-in {p} {u} d = record { transaction = d .transaction; phase = rw (in-tick (startMachine s) u .tasks) at (d .phase) }
 
   ending : {p u : ℕ} → Ends (startMachine s) p u → Ending p (arrivedAt (startMachine s) u)

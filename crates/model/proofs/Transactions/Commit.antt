@@ -19,7 +19,7 @@ use Rattle.model.specs.Arguments.{transactionOf, untilCommit}
 use Rattle.model.proofs.Lists.{impossible}
 use Rattle.model.proofs.Fit.Exchange.{entryOf, SamePairs}
 use Rattle.model.proofs.Fit.Transaction.{touched?, copied?}
-use Rattle.model.proofs.Transactions.Facts.{bankIn, Change, unchanged, raised, PutAtWork, SameCopy, Beside, Agrees, PassFacts}
+use Rattle.model.proofs.Transactions.Facts.{bankIn, Change, unchanged, versionRaised, PutAtWork, SameCopy, Beside, Agrees, PassFacts}
 use Rattle.model.proofs.Transactions.Given.{Swapped}
 use Rattle.model.proofs.Transactions.Versions.{version-bank, store-bank}
 use Rattle.model.proofs.Transactions.Contents.{ext-at, length-each, at-each, each-same, commitBlock, length-commit, at-commit}
@@ -94,7 +94,7 @@ module _ {m n : Memory} {copies : List ℕ} {ts : List Touched} (C : Committed m
       go : (t : Touched) → at untouched ts b ≡ t → Change (bankIn m b) (bankIn n b)
       go untouched e = unchanged (committed-stays b (rw e))
       go (remembered v) e = unchanged (committed-stays b (rw e))
-      go (copied v k) e = raised (committed-raised b v k e)
+      go (copied v k) e = versionRaised (committed-raised b v k e)
 
   -- a block after the exchange
   block-after : (b : ℕ) (t : Touched) (c : Option (List ℕ)) {l : List BodyCommand} → (PutAtWork b l → ⊥) → at untouched ts b ≡ t

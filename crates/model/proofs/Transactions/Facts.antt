@@ -31,7 +31,7 @@ pub record Past (now v : ℕ) : Type 0 where
 -- what a tick does to the current value of a bank word
 pub data Change (before after : ℕ) : Type 0 where
   unchanged : after ≡ before → Change before after
-  raised : versionOf after ≡ suc (versionOf before) → Change before after
+  versionRaised : versionOf after ≡ suc (versionOf before) → Change before after
 
 -- OWNERS
 abbrev pub slotsBy : Bool → List ℕ → List Touched → List ℕ
@@ -55,9 +55,9 @@ pub data Owner : Type 0 where
   slot : ℕ → ℕ → Owner
 
 -- the owners in a sheet with that many blocks and tasks
-abbrev pub Declared : ℕ → ℕ → Owner → Type 0
-Declared blocks tasks (block b) = b < blocks
-Declared blocks tasks (slot p k) = (p < tasks) × (k < 4)
+abbrev pub OwnerDeclared : ℕ → ℕ → Owner → Type 0
+OwnerDeclared blocks tasks (block b) = b < blocks
+OwnerDeclared blocks tasks (slot p k) = (p < tasks) × (k < 4)
 
 abbrev pub place : (ℕ → ℕ) → (ℕ → List ℕ) → Owner → ℕ
 place banks slots (block b) = storeOf (banks b)
@@ -65,8 +65,8 @@ place banks slots (slot p k) = at 0 (slots p) k
 
 -- each owner has a store of its own
 pub record Owners (blocks tasks : ℕ) (banks : ℕ → ℕ) (slots : ℕ → List ℕ) : Type 0 where
-  pub different : (o u : Owner) → Declared blocks tasks o → Declared blocks tasks u → place banks slots o ≡ place banks slots u → o ≡ u
-  pub below : (o : Owner) → Declared blocks tasks o → place banks slots o < 48
+  pub different : (o u : Owner) → OwnerDeclared blocks tasks o → OwnerDeclared blocks tasks u → place banks slots o ≡ place banks slots u → o ≡ u
+  pub below : (o : Owner) → OwnerDeclared blocks tasks o → place banks slots o < 48
 
 -- THE PASS
 -- the command at work is a PUT to block b

@@ -28,7 +28,7 @@ abbrev pub statementOf : ℕ → Memory → List Task → Turn
 statementOf p m ts = statement p m (taskAt ts p) (taskAt ts p .job .phase)
 
 -- WHAT THE OTHER LAYERS SAY of a tick in which task p runs, in a sheet with that many words, blocks and tasks
-pub record Running (words blocks tasks p : ℕ) (m : Memory) (ts : List Task) (operations : ℕ → Operation) : Type 0 where
+pub record RunningTask (words blocks tasks p : ℕ) (m : Memory) (ts : List Task) (operations : ℕ → Operation) : Type 0 where
   pub fewWords : words ≤ 32
   pub fewBlocks : blocks ≤ 16
   pub declared : p < tasks
@@ -62,7 +62,7 @@ pub small : {blocks tasks p : ℕ} {m n : Memory} {slots : ℕ → List ℕ} {t 
 small {p = p} lt D C e b v k u =
     let h = rw e at (D .below (slot p k) (lt, omega (arith, C .blocksFit .slot b v k u, C .blocksFit .most))) in omega arith
 
-module _ {words blocks tasks p : ℕ} {m : Memory} {ts : List Task} {operations : ℕ → Operation} (R : Running words blocks tasks p m ts operations)
+module _ {words blocks tasks p : ℕ} {m : Memory} {ts : List Task} {operations : ℕ → Operation} (R : RunningTask words blocks tasks p m ts operations)
     (now : ℕ) where
   pub stated :
       Stated blocks p m (taskAt ts p) (operations p) (statementOf p m ts) (operationAfter p (eventOf now (statementOf p m ts .did)) (operations p))

@@ -13,7 +13,7 @@ use Rattle.model.specs.Word.{Memory}
 use Rattle.model.specs.Job.{Touched, untouched, remembered, copied}
 use Rattle.model.specs.Transaction.{bankValue, versionOf, storeOf, takenBack}
 use Rattle.model.proofs.Lists.{test?, impossible}
-use Rattle.model.proofs.Transactions.Facts.{bankIn, Owner, block, slot, Declared, place, Owners}
+use Rattle.model.proofs.Transactions.Facts.{bankIn, Owner, block, slot, OwnerDeclared, place, Owners}
 use Rattle.model.proofs.Transactions.Versions.{store-bank}
 use Rattle.model.proofs.Transactions.Frame.{Blocks}
 use Rattle.model.proofs.Transactions.Steps.{SlotsApart}
@@ -22,8 +22,8 @@ use Rattle.model.proofs.Transactions.Commit.{Committed}
 
 module _ {blocks tasks : ℕ} {banks banks′ : ℕ → ℕ} {slots slots′ : ℕ → List ℕ} where
   -- what an owner has now, another owner had before, and no two the same one
-  pub renamed : (f : Owner → Owner) → ((o : Owner) → Declared blocks tasks o → Declared blocks tasks (f o))
-      → ((o : Owner) → Declared blocks tasks o → place banks′ slots′ o ≡ place banks slots (f o))
+  pub renamed : (f : Owner → Owner) → ((o : Owner) → OwnerDeclared blocks tasks o → OwnerDeclared blocks tasks (f o))
+      → ((o : Owner) → OwnerDeclared blocks tasks o → place banks′ slots′ o ≡ place banks slots (f o))
       → ((o : Owner) → f (f o) ≡ o) → Owners blocks tasks banks slots → Owners blocks tasks banks′ slots′
   renamed f d p twice D =
       record {
@@ -35,7 +35,7 @@ module _ {blocks tasks : ℕ} {banks banks′ : ℕ → ℕ} {slots slots′ : �
       → Owners blocks tasks banks′ slots′
   owners-stay eb es D = renamed (λ o. o) (λ o i. i) same (λ o. refl) D
     where
-      same : (o : Owner) → Declared blocks tasks o → place banks′ slots′ o ≡ place banks slots o
+      same : (o : Owner) → OwnerDeclared blocks tasks o → place banks′ slots′ o ≡ place banks slots o
       same (block b) i = rw (eb b)
       same (slot p k) i = rw (es p)
 
@@ -76,16 +76,16 @@ module _ {blocks tasks : ℕ} {m n : Memory} {slots slots′ : ℕ → List ℕ}
   at-most : (b v k : ℕ) → at untouched ts b ≡ copied v k → k < 4
   at-most b v k e = omega (arith, B .slot b v k e, B .most)
 
-  stays-declared : (o : Owner) → Declared blocks tasks o → Declared blocks tasks (exchanged p ts o)
+  stays-declared : (o : Owner) → OwnerDeclared blocks tasks o → OwnerDeclared blocks tasks (exchanged p ts o)
   stays-declared (block b) i = go (at untouched ts b) refl
     where
-      go : (t : Touched) → at untouched ts b ≡ t → Declared blocks tasks (blockOwner p b t)
+      go : (t : Touched) → at untouched ts b ≡ t → OwnerDeclared blocks tasks (blockOwner p b t)
       go untouched e = i
       go (remembered v) e = i
       go (copied v k) e = (declared, at-most b v k e)
   stays-declared (slot q k) i = go (eqb q p) (holder ts k)
     where
-      go : (z : Bool) (h : Holder ts k) → Declared blocks tasks (slotOwnerBy z q h)
+      go : (z : Bool) (h : Holder ts k) → OwnerDeclared blocks tasks (slotOwnerBy z q h)
       go true (has b v e) = B .below b (rw e)
       go true (nobody f) = i
       go false h = i
@@ -107,7 +107,7 @@ module _ {blocks tasks : ℕ} {m n : Memory} {slots slots′ : ℕ → List ℕ}
       go e (has b v f) eh = rw (f, e)
       go e (nobody f) eh = rw (e, eq-eqb p p refl, eh)
 
-  same-place : (o : Owner) → Declared blocks tasks o → place (bankIn n) slots′ o ≡ place (bankIn m) slots (exchanged p ts o)
+  same-place : (o : Owner) → OwnerDeclared blocks tasks o → place (bankIn n) slots′ o ≡ place (bankIn m) slots (exchanged p ts o)
   same-place (block b) i = go (at untouched ts b) refl
     where
       go : (t : Touched) → at untouched ts b ≡ t → storeOf (bankIn n b) ≡ place (bankIn m) slots (blockOwner p b t)

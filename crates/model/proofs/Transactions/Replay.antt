@@ -25,14 +25,14 @@ use Rattle.model.proofs.Transactions.Gather.{nothing-touched}
 use Rattle.model.proofs.Transactions.Commit.{committed-nothing, commits-whole}
 use Rattle.model.proofs.Transactions.Committing.{TransactionYes, Effect, quiet, commits}
 use Rattle.model.proofs.Transactions.Statement.{transaction-fit}
-use Rattle.model.proofs.Transactions.Machine.{statementOf, Running, small, stated, block-stores}
+use Rattle.model.proofs.Transactions.Machine.{statementOf, RunningTask, small, stated, block-stores}
 
 cells-stay : {p : ℕ} {m n : Memory} {f : Phase} → ((x : Exchange) → SaysYes p m f x → ⊥) → Cells p m f n → (c : ℕ) → currentOf n c ≡ currentOf m c
 cells-stay none (same g h) = h
 cells-stay none (swapped x y i w) = absurd (none x y)
 
 module _ (s : Sheet) {tasks p : ℕ} {m : Memory} {ts : List Task} {operations : ℕ → Operation}
-    (R : Running (length (s .words)) (length (s .blocks)) tasks p m ts operations) where
+    (R : RunningTask (length (s .words)) (length (s .blocks)) tasks p m ts operations) where
   -- a statement that commits no transaction leaves every block's version and values: a pass that is stale, spent or rejected changes nothing
   pub block-stays : (TransactionYes p m (taskAt ts p) → ⊥) → (b : ℕ) → b < length (s .blocks) → blockIn (statementOf p m ts .memory) b ≡ blockIn m b
   block-stays none b lt = go (stated R 0 .effect)

@@ -12,7 +12,7 @@ use Rattle.model.specs.Command.{noBlock}
 use Rattle.model.proofs.Fit.Sheet.{SheetFit}
 use Rattle.model.proofs.Fit.Start.{start-task}
 use Rattle.model.proofs.History.Start.{bank-start, start-memory}
-use Rattle.model.proofs.Transactions.Facts.{bankIn, slotsOf, Owner, block, slot, Declared, place, Owners, Transactions}
+use Rattle.model.proofs.Transactions.Facts.{bankIn, slotsOf, Owner, block, slot, OwnerDeclared, place, Owners, Transactions}
 use Rattle.model.proofs.Transactions.Versions.{store-bank}
 
 module _ {s : Sheet} (c : SheetFit s) where
@@ -37,13 +37,13 @@ module _ {s : Sheet} (c : SheetFit s) where
   storeAt (block b) = 4 * length (s .bodies) + b
   storeAt (slot p k) = 4 * p + k
 
-  places : (o : Owner) → Declared (length (s .blocks)) (length (s .bodies)) o
+  places : (o : Owner) → OwnerDeclared (length (s .blocks)) (length (s .bodies)) o
       → place (bankIn (startMemory s)) (λ p. slotsOf (taskAt (startMachine s .tasks) p)) o ≡ storeAt o
   unfolding storeAt
   places (block b) h = bank-store b h
   places (slot p k) h = slot-store p k (h .0) (h .1)
 
-  apart : (o u : Owner) → Declared (length (s .blocks)) (length (s .bodies)) o → Declared (length (s .blocks)) (length (s .bodies)) u
+  apart : (o u : Owner) → OwnerDeclared (length (s .blocks)) (length (s .bodies)) o → OwnerDeclared (length (s .blocks)) (length (s .bodies)) u
       → storeAt o ≡ storeAt u → o ≡ u
   unfolding storeAt
   apart (block b) (block d) h k e = ap block (omega arith)
@@ -54,7 +54,7 @@ module _ {s : Sheet} (c : SheetFit s) where
       let z : i ≡ j = omega (arith, h .1, k .1) in
       rw (y, z)
 
-  in-range : (o : Owner) → Declared (length (s .blocks)) (length (s .bodies)) o → storeAt o < 48
+  in-range : (o : Owner) → OwnerDeclared (length (s .blocks)) (length (s .bodies)) o → storeAt o < 48
   unfolding storeAt
   in-range (block b) h = omega (arith, c .blocks, c .bodies)
   in-range (slot p k) h = omega (arith, c .bodies, h .0, h .1)

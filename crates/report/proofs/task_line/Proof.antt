@@ -1,4 +1,8 @@
 -- A T line with a row of counts, then an R line with a row of registers.
+use Prim.Native.Nat.{_*_}
+use native.Mathlib.Omega.{arith}
+use lib.ListN.{drop}
+use lib.Seq.{take-take}
 use borrow.Author.Needs.{needs}
 use Rattle.memory.specs.Rows.{row}
 use Rattle.report.proofs.Writing.{then}
@@ -28,7 +32,10 @@ same-length c = search needs
 
 returns : tie.Need-returns
 unfolding row
-returns c = then (c .before .before .before .before .before .before .before .row-line .ensures) (c .before .before .row-line2 .ensures)
+returns c =
+    let a = c .before .before .before .before .before .before .before .before .args in
+    rw (take-take 4 8 (drop (8 * a .task) (a .counts .now)) (omega arith))
+    (then (c .before .before .before .before .before .before .before .row-line .ensures) (c .before .before .row-line2 .ensures))
 
 pub task-line-spec : {M : Type 1} → statement M
 task-line-spec =
