@@ -1,5 +1,6 @@
 pub mod Ends
 pub mod Lists
+pub mod Sums
 -- the decimal numbers of a report
 pub mod Decimal
 -- by computation: demand 3 on small runs, document 01's figures, runs in which the bounds of the rates are reached

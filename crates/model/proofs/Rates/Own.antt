@@ -6,13 +6,14 @@ use mathlib.Core.Logic.{_≢_, _⊎_, inl, inr}
 use mathlib.Core.List.{List, [], _∷_}
 use native.Mathlib.Omega.{arith}
 use lib.Dec.{leb}
-use borrow.Author.Tests.{le-leb, lt-leb, eq-eqb, ne-eqb}
+use borrow.Author.Tests.{eq-eqb, ne-eqb}
 use Rattle.model.specs.Command.{Release}
 use Rattle.model.specs.Job.{Task}
 use Rattle.model.specs.Machine.{Machine, Running, nobody, running, runningOf, moveAny, move}
 use Rattle.model.specs.Machine.{tick, over, noneToCome, nobody?, runBy, run, arrive, enter}
 use Rattle.model.specs.Rates.{inTick, runningIn, isTask, oneIf, onlyIf, sumBefore, ownBefore}
 use Rattle.model.proofs.Lists.{test?}
+use Rattle.model.proofs.Sums.{sum-none, sum-next}
 use Rattle.model.proofs.Fit.Elements.{and-left, and-right}
 use Rattle.model.proofs.Fit.Running.{busy, running-foremost, nobody-none, none-nobody}
 use Rattle.model.proofs.History.Steps.{stateAfter, arrivedAt}
@@ -20,17 +21,6 @@ use Rattle.model.proofs.History.Steps.{stateAfter, arrivedAt}
 -- COUNTING
 pub other-task : {p q : ℕ} (r : Running) → q ≢ p → r ≡ running p → isTask q r ≡ false
 other-task {p} {q} r ne e = rw e (ne-eqb p q (λ z. ne (sym z)))
-
--- a sum over ticks, one tick at a time
-module _ (f : ℕ → ℕ) (a : ℕ) where
-  pub sum-none : (n : ℕ) → n ≤ a → sumBefore f a n ≡ 0
-  unfolding sumBefore
-  sum-none zero l = refl
-  sum-none (suc n) l = rw (lt-leb a n (omega arith), sum-none n (omega arith)) refl
-
-  pub sum-next : (n : ℕ) → a ≤ n → sumBefore f a (suc n) ≡ sumBefore f a n + f n
-  unfolding sumBefore
-  sum-next n l = rw (le-leb a n l) refl
 
 module _ (who : ℕ → Running) (p a : ℕ) where
   abbrev own : ℕ → ℕ

@@ -1,7 +1,6 @@
 -- `word_start` meets its contract.
 use mathlib.Core.Path.{_∙_}
 use Rattle.start.proofs.Arrays.{is-word, word-declared, word-none}
-use borrow.Author.Needs.{needs}
 use Rattle.start.proofs.word_start.Statement.{statement}
 use Rattle.start.proofs.word_start.Tie as tie
 

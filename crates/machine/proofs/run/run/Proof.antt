@@ -14,8 +14,8 @@ use types.Run.{OneOf, miss}
 use lib.Dec.{eqb}
 use lib.ListN.{length, set, length-set}
 use Prim.Native.Nat.{ℕ, _≤_, _<_, _-_, _+_, _*_}
-use mathlib.Core.List.{List, [], _∷_}
-use mathlib.Core.Path.{_≡_, refl, sym, ap, _∙_, subst}
+use mathlib.Core.List.{[], _∷_}
+use mathlib.Core.Path.{_≡_, refl, sym, ap, _∙_}
 use native.Mathlib.Omega.{arith}
 use Rattle.machine.proofs.run.run.Statement.{statement}
 use Rattle.machine.proofs.run.run.Tie as tie

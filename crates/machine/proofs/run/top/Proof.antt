@@ -1,6 +1,6 @@
 -- `top` meets its contract.
 use Rattle.machine.specs.World.{topOf}
-use Prim.Native.Nat.{ℕ, _<_}
+use Prim.Native.Nat.{_<_}
 use native.Mathlib.Omega.{arith}
 use mathlib.Core.Path.{sym, ap, _∙_}
 use Rattle.machine.proofs.Mask.{top-of, top-none, top-past}

@@ -2,9 +2,8 @@
 use borrow.Author.Needs.{needs}
 use Rattle.transactions.proofs.Walks.{spent-stops, spent-goes-on}
 use Rattle.transactions.specs.Blocks.{spentFrom}
-use Prim.Native.Nat.{ℕ, _≤_, _-_, _+_, _*_}
-use mathlib.Core.Bool.{true, false}
-use mathlib.Core.Path.{_≡_, refl, sym, _∙_}
+use Prim.Native.Nat.{_≤_, _-_, _+_, _*_}
+use mathlib.Core.Path.{_≡_, sym, _∙_}
 use native.Mathlib.Nat.{add-zero}
 use native.Mathlib.Omega.{arith}
 use Rattle.transactions.proofs.commits.spent.Statement.{statement}

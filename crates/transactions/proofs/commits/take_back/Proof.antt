@@ -1,7 +1,7 @@
 -- `take_back` meets its contract.
 use borrow.Author.Needs.{needs}
 use Rattle.transactions.specs.Blocks.{takenTo}
-use Prim.Native.Nat.{ℕ, _≤_, _-_, _+_}
+use Prim.Native.Nat.{_≤_, _-_}
 use mathlib.Core.Path.{_≡_, refl}
 use native.Mathlib.Numerals.{add-one}
 use native.Mathlib.Omega.{arith}
