@@ -6,9 +6,9 @@
 use libc::STDIN_FILENO;
 use libc::STDOUT_FILENO;
 
-fn print_report(report: &[u8], length: usize) {
-    if length <= report.len() {
-        io::write_all(STDOUT_FILENO, &report[..length]);
+fn print_report(report: &[u8], filled: usize) {
+    if filled <= report.len() {
+        io::write_all(STDOUT_FILENO, &report[..filled]);
     }
 }
 

@@ -40,7 +40,7 @@ pub fn check(sheet: &[u8]) -> Answer
     }
 }
 
-// The run of an accepted sheet; answers the report's length. All arrays stand on the stack: 4,648 bytes here, some 600 more for the
+// The run of an accepted sheet; answers the report's length. All arrays stand on the stack: 4,776 bytes here, some 600 more for the
 // index and the jobs.
 fn run_accepted(sheet: &[u8], limit: u32, buffer: &mut [u8]) -> usize
     requires { ⌜ verdict (now sheet) ≡ accepted ⌝ }
@@ -123,15 +123,15 @@ pub fn run(sheet: &[u8], limit: u64, buffer: &mut [u8]) -> Answer
         };
     }
     let room = buffer.len();
-    let length = run_accepted(sheet, limit as u32, &mut *buffer);
-    if room < length {
+    let needed = run_accepted(sheet, limit as u32, &mut *buffer);
+    if room < needed {
         return Answer {
             number: 10,
-            place: length,
+            place: needed,
         };
     }
     Answer {
         number: 0,
-        place: length,
+        place: needed,
     }
 }

@@ -207,7 +207,7 @@ pub fn report(
 ) -> usize
     ensures { λ r. ⌜ Reported (reportText (now (cells .entry)) (now (status .entry)) (now (saves .entry)) (now (stores .entry)) (now (registers .entry)) (now (counts .entry)) totals) (now (buffer .entry)) (now (buffer .exit)) r ⌝ }
 {
-    let length = write(
+    let needed = write(
         &mut buffer[..0],
         cells,
         status,
@@ -217,7 +217,7 @@ pub fn report(
         counts,
         totals,
     );
-    if length <= buffer.len() {
+    if needed <= buffer.len() {
         return write(
             &mut *buffer,
             cells,
@@ -229,5 +229,5 @@ pub fn report(
             totals,
         );
     }
-    length
+    needed
 }
