@@ -1,0 +1,41 @@
+-- `install` meets its contract.
+use Rattle.exchanges2.specs.Exchange.{afterInstall}
+use borrow.Author.Tests.{eq-eqb, ne-eqb}
+use borrow.Author.Needs.{needs}
+use Rattle.exchanges2.proofs.exchange.install.Statement.{statement}
+use Rattle.exchanges2.proofs.exchange.install.Tie as tie
+
+target-requires : tie.Need-target-requires
+target-requires c κs = search needs
+
+cast-cell : tie.Need-cast-cell
+cast-cell c = search needs
+
+cell-requires : tie.Need-cell-requires
+cell-requires c κs = search needs
+
+init-requires : tie.Need-init-requires
+init-requires c κs = search needs
+
+installed-requires : tie.Need-installed-requires
+installed-requires c κs = search needs
+
+set-cell-requires : tie.Need-set-cell-requires
+set-cell-requires c κs = search needs
+
+next-requires : tie.Need-next-requires
+next-requires c κs = search needs
+
+returns : tie.Need-returns
+unfolding afterInstall
+returns c = rw (← c .before .before .before .before .before .before .before .before .target .ensures, ← c .before .before .before .before .before .before .cell .ensures, ← c .before .before .before .before .before .init .ensures, eq-eqb _ _ (c .before .before .before .before .if1 .taken), ← c .before .before .before .installed .ensures, c .next .ensures, c .before .set-cell .ensures)
+
+next-requires-2 : tie.Need-next-requires-2
+next-requires-2 c κs = search needs
+
+returns-2 : tie.Need-returns-2
+unfolding afterInstall
+returns-2 c = rw (← c .before .before .before .before .before .target .ensures, ← c .before .before .before .cell .ensures, ← c .before .before .init .ensures, ne-eqb _ _ (c .before .if1 .left), c .next2 .ensures)
+
+pub install-spec : {M : Type 1} → statement M
+install-spec = tie.close (tie.spec target-requires cast-cell cell-requires init-requires installed-requires set-cell-requires next-requires returns next-requires-2 returns-2)

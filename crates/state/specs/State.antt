@@ -1,0 +1,145 @@
+-- What the two arrays of a run hold: what all tasks share, and one task's own record.
+use Prim.Native.Nat.{ℕ}
+use mathlib.Core.List.{List, [], _∷_}
+use Rattle.model.specs.Lists.{replace}
+use Rattle.state.specs.Parts.{part, words}
+
+-- WHAT ALL SHARE: packed cells; status; save places; the values of the block stores
+pub record Shared : Type 0 where
+  pub cells : List ℕ
+  pub status : List ℕ
+  pub saves : List ℕ
+  pub stores : List ℕ
+
+-- how many numbers each part has; a word takes two
+abbrev pub sharedSizes : List ℕ
+sharedSizes = 96 ∷ 8 ∷ 64 ∷ 384 ∷ []
+
+unfoldable pub shared : List ℕ → Shared
+unfolding part words
+shared m =
+    record {
+      cells = words (part 0 96 m);
+      status = part 96 8 m;
+      saves = part 104 64 m;
+      stores = part 168 384 m;
+    }
+
+abbrev pub setCell : Shared → ℕ → ℕ → Shared
+setCell m i x = record { cells = replace (m .cells) i x; status = m .status; saves = m .saves; stores = m .stores }
+
+abbrev pub setStatus : Shared → ℕ → ℕ → Shared
+setStatus m i x = record { cells = m .cells; status = replace (m .status) i x; saves = m .saves; stores = m .stores }
+
+abbrev pub setSave : Shared → ℕ → ℕ → Shared
+setSave m i x = record { cells = m .cells; status = m .status; saves = replace (m .saves) i x; stores = m .stores }
+
+abbrev pub setValue : Shared → ℕ → ℕ → Shared
+setValue m i x = record { cells = m .cells; status = m .status; saves = m .saves; stores = replace (m .stores) i x }
+
+-- ONE TASK'S OWN. The entries of an exchange: each its target cell, old and new value, the packed word loaded there, whether that was overlapped.
+pub record Entries : Type 0 where
+  pub targets : List ℕ
+  pub olds : List ℕ
+  pub news : List ℕ
+  pub inits : List ℕ
+  pub overlapped : List ℕ
+
+-- The blocks of a transaction: touched is 0 for not, 1 for remembered, 2 + k for copied into slot k; the bank word's value that was remembered.
+pub record Blocks : Type 0 where
+  pub touched : List ℕ
+  pub remembered : List ℕ
+
+-- registers, those kept at BEGIN, copy stores, entries, blocks, counts
+pub record Own : Type 0 where
+  pub registers : List ℕ
+  pub kept : List ℕ
+  pub copies : List ℕ
+  pub entries : Entries
+  pub blocks : Blocks
+  pub counts : List ℕ
+
+abbrev pub ownSizes : List ℕ
+ownSizes = 8 ∷ 8 ∷ 4 ∷ 8 ∷ 8 ∷ 8 ∷ 16 ∷ 8 ∷ 16 ∷ 16 ∷ 8 ∷ []
+
+unfoldable pub own : List ℕ → Own
+unfolding part words
+own t =
+    record {
+      registers = part 0 8 t;
+      kept = part 8 8 t;
+      copies = part 16 4 t;
+      entries = record { targets = part 20 8 t; olds = part 28 8 t; news = part 36 8 t; inits = words (part 44 16 t); overlapped = part 60 8 t };
+      blocks = record { touched = part 68 16 t; remembered = part 84 16 t };
+      counts = part 100 8 t;
+    }
+
+abbrev inTargets : Entries → ℕ → ℕ → Entries
+inTargets e i x = record { targets = replace (e .targets) i x; olds = e .olds; news = e .news; inits = e .inits; overlapped = e .overlapped }
+
+abbrev inOlds : Entries → ℕ → ℕ → Entries
+inOlds e i x = record { targets = e .targets; olds = replace (e .olds) i x; news = e .news; inits = e .inits; overlapped = e .overlapped }
+
+abbrev inNews : Entries → ℕ → ℕ → Entries
+inNews e i x = record { targets = e .targets; olds = e .olds; news = replace (e .news) i x; inits = e .inits; overlapped = e .overlapped }
+
+abbrev inInits : Entries → ℕ → ℕ → Entries
+inInits e i x = record { targets = e .targets; olds = e .olds; news = e .news; inits = replace (e .inits) i x; overlapped = e .overlapped }
+
+abbrev inOverlapped : Entries → ℕ → ℕ → Entries
+inOverlapped e i x = record { targets = e .targets; olds = e .olds; news = e .news; inits = e .inits; overlapped = replace (e .overlapped) i x }
+
+abbrev inTouched : Blocks → ℕ → ℕ → Blocks
+inTouched e i x = record { touched = replace (e .touched) i x; remembered = e .remembered }
+
+abbrev inRemembered : Blocks → ℕ → ℕ → Blocks
+inRemembered e i x = record { touched = e .touched; remembered = replace (e .remembered) i x }
+
+-- the record with one part given
+abbrev pub withRegisters : Own → List ℕ → Own
+withRegisters t l = record { registers = l; kept = t .kept; copies = t .copies; entries = t .entries; blocks = t .blocks; counts = t .counts }
+
+abbrev pub withKept : Own → List ℕ → Own
+withKept t l = record { registers = t .registers; kept = l; copies = t .copies; entries = t .entries; blocks = t .blocks; counts = t .counts }
+
+abbrev pub withCopies : Own → List ℕ → Own
+withCopies t l = record { registers = t .registers; kept = t .kept; copies = l; entries = t .entries; blocks = t .blocks; counts = t .counts }
+
+abbrev pub withEntries : Own → Entries → Own
+withEntries t e = record { registers = t .registers; kept = t .kept; copies = t .copies; entries = e; blocks = t .blocks; counts = t .counts }
+
+abbrev pub withBlocks : Own → Blocks → Own
+withBlocks t b = record { registers = t .registers; kept = t .kept; copies = t .copies; entries = t .entries; blocks = b; counts = t .counts }
+
+abbrev pub setRegister : Own → ℕ → ℕ → Own
+setRegister t i x = record { registers = replace (t .registers) i x; kept = t .kept; copies = t .copies; entries = t .entries; blocks = t .blocks; counts = t .counts }
+
+abbrev pub setKept : Own → ℕ → ℕ → Own
+setKept t i x = record { registers = t .registers; kept = replace (t .kept) i x; copies = t .copies; entries = t .entries; blocks = t .blocks; counts = t .counts }
+
+abbrev pub setCopy : Own → ℕ → ℕ → Own
+setCopy t i x = record { registers = t .registers; kept = t .kept; copies = replace (t .copies) i x; entries = t .entries; blocks = t .blocks; counts = t .counts }
+
+abbrev pub setTarget : Own → ℕ → ℕ → Own
+setTarget t i x = withEntries t (inTargets (t .entries) i x)
+
+abbrev pub setOld : Own → ℕ → ℕ → Own
+setOld t i x = withEntries t (inOlds (t .entries) i x)
+
+abbrev pub setNew : Own → ℕ → ℕ → Own
+setNew t i x = withEntries t (inNews (t .entries) i x)
+
+abbrev pub setInit : Own → ℕ → ℕ → Own
+setInit t i x = withEntries t (inInits (t .entries) i x)
+
+abbrev pub setOverlapped : Own → ℕ → ℕ → Own
+setOverlapped t i x = withEntries t (inOverlapped (t .entries) i x)
+
+abbrev pub setTouched : Own → ℕ → ℕ → Own
+setTouched t i x = withBlocks t (inTouched (t .blocks) i x)
+
+abbrev pub setRemembered : Own → ℕ → ℕ → Own
+setRemembered t i x = withBlocks t (inRemembered (t .blocks) i x)
+
+abbrev pub setCount : Own → ℕ → ℕ → Own
+setCount t i x = record { registers = t .registers; kept = t .kept; copies = t .copies; entries = t .entries; blocks = t .blocks; counts = replace (t .counts) i x }

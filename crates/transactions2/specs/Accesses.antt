@@ -1,0 +1,81 @@
+-- What a tick of GET or PUT leaves.
+use Prim.Native.Nat.{ℕ, _+_, _*_, _-_, _/_, _%_}
+use mathlib.Core.Bool.{Bool, true, false}
+use lib.Dec.{eqb, ltb}
+use Rattle.model.specs.Lists.{at}
+use Rattle.commands.specs.declared.Access.{Access}
+use Rattle.commands.specs.declared.Access.the-variants.{Get, Put}
+use Rattle.state.specs.State.{Shared, Own, setValue, setRegister, setTouched, setRemembered}
+use Rattle.exchanges2.specs.Places.{if, nextOf, Went, went, Noted, noted, Left, left}
+use Rattle.exchanges2.specs.Reading.{afterReading}
+use Rattle.jobs2.specs.Jobs.{job, jobAt, inPhase, nextLine, restoring}
+use Rattle.transactions2.specs.Blocks.{bankOf, namedBlock, touchedAt, rememberedAt, clearing}
+use Rattle.exchanges2.specs.declared.read.Reading.the-variants.{Load}
+use Rattle.exchanges2.specs.declared.read.Read.{Read}
+use Rattle.exchanges2.specs.declared.read.Read.the-variants.{Reads, Gives}
+use Rattle.jobs2.specs.declared.Inner.{Inner}
+use Rattle.jobs2.specs.declared.Inner.the-variants.{Between, First, Copying, Again}
+use Rattle.jobs2.specs.declared.Phase.the-variants.{Transaction}
+use Rattle.jobs2.specs.declared.Job.{Job}
+
+abbrev pub inner : Job → Inner → Job
+inner j s = inPhase j (Transaction s)
+
+-- the next command of the transaction
+abbrev pub goesOn : Job → Job
+goesOn j = job (Transaction Between) (j .value) (nextLine j) (j .begin) 0 (j .used)
+
+unfoldable pub firstRead : Own → Job → Access → Read → Noted Job
+firstRead t j a (Reads s) = noted (inner j (First a s)) t
+firstRead t j a (Gives v) = noted (inner j Between) (setRemembered (setTouched t (namedBlock a) 1) (namedBlock a) v)
+
+-- the store of a touched block: the own copy if PUT before
+abbrev pub storeFor : Own → ℕ → ℕ
+storeFor t b = if (ltb (touchedAt t b) 2) (rememberedAt t b % 256) (at 0 (t .copies) (touchedAt t b - 2))
+
+unfoldable pub gotBy : Shared → Own → Job → Access → ℕ → ℕ → Job
+gotBy m t j a b o = inner j (Again a (at 0 (m .stores) (8 * storeFor t b + o)) Load)
+
+abbrev pub copyBy : Bool → Job → Access → ℕ → Job
+copyBy true j a n = inner j (Again a 0 Load)
+copyBy false j a n = inner j (Copying a (nextOf n))
+
+-- value n goes into the next copy store
+unfoldable pub afterCopy : Shared → Own → Job → Access → ℕ → Went Job
+afterCopy m t j a n =
+    went (copyBy (eqb (nextOf n) 8) j a n)
+    (setValue m (8 * at 0 (t .copies) (j .used) + n) (at 0 (m .stores) (8 * (rememberedAt t (namedBlock a) % 256) + n)))
+
+unfoldable pub afterPut : Shared → Own → Job → ℕ → ℕ → ℕ → Went Job
+afterPut m t j b o r = went (goesOn j) (setValue m (8 * storeFor t b + o) (at 0 (t .registers) r))
+
+abbrev pub onTask : Shared → Noted Job → Left Job
+onTask m w = left (w .next) m (w .task)
+
+abbrev pub onMemory : Own → Went Job → Left Job
+onMemory t w = left (w .next) (w .memory) t
+
+-- by: the block is only remembered
+abbrev pub touchedTick : Bool → Shared → Own → Job → Access → Left Job
+touchedTick read? m t j (Get r b o) = left (gotBy m t j (Get r b o) b o) m t
+touchedTick true m t j (Put b o r) = onMemory t (afterCopy m t j (Put b o r) 0)
+touchedTick false m t j (Put b o r) = onMemory t (afterPut m t j b o r)
+
+unfoldable pub accessTick : Shared → Own → Job → Access → Left Job
+accessTick m t j a =
+    if (eqb (touchedAt t (namedBlock a)) 0) (onTask m (firstRead t j a (afterReading m (bankOf (namedBlock a)) Load)))
+    (touchedTick (eqb (touchedAt t (namedBlock a)) 1) m t j a)
+
+-- registers as kept, nothing touched, next the command after BEGIN
+unfoldable pub restarted : Own → Job → Noted Job
+restarted t j = noted (jobAt (Transaction Between) (j .begin) 0) (clearing 16 (restoring 8 t))
+
+-- the version read again is the remembered one
+unfoldable pub checkedBy : Own → Job → Access → ℕ → Noted Job
+checkedBy t j (Get r b o) v = noted (goesOn j) (setRegister t r v)
+checkedBy t j (Put b o r) v =
+    noted (job (Transaction Between) (j .value) (j .at) (j .begin) (j .pairs) (nextOf (j .used))) (setTouched t b (j .used + 2))
+
+unfoldable pub againRead : Own → Job → Access → ℕ → Read → Noted Job
+againRead t j a v (Reads s) = noted (inner j (Again a v s)) t
+againRead t j a v (Gives w) = if (eqb (w / 256) (rememberedAt t (namedBlock a) / 256)) (checkedBy t j a v) (restarted t j)

@@ -1,0 +1,223 @@
+// GET and PUT with all their ticks, by what the block is so far, and the stale restart.
+ghost use mathlib.Core.Path.{_≡_};
+ghost use Rattle.state.specs.State.{shared, own};
+ghost use Rattle.exchanges2.specs.Places.{went, noted, left};
+ghost use Rattle.jobs2.specs.Jobs.{inPhase};
+ghost use Rattle.transactions2.specs.Blocks.{bankOf, namedBlock, clearing};
+ghost use Rattle.transactions2.specs.Accesses.{goesOn, firstRead, storeFor, gotBy, afterCopy, afterPut, accessTick, restarted, checkedBy, againRead};
+use commands::Access;
+use exchanges2::places;
+use exchanges2::read;
+use exchanges2::read::Read;
+use exchanges2::read::Reading;
+use jobs2::Inner;
+use jobs2::Job;
+use jobs2::Phase;
+use state::Memory;
+use state::Task;
+use state::shared;
+use state::task;
+
+// The cell of a block's bank word.
+pub fn bank(block: u8) -> usize
+    ensures { λ r. ⌜ r ≡ bankOf block ⌝ }
+{
+    32 + (block as usize)
+}
+
+pub fn block(access: Access) -> u8
+    ensures { λ r. ⌜ r ≡ namedBlock access ⌝ }
+{
+    match access {
+        Access::Get {
+            register: _,
+            block,
+            offset: _,
+        } => block,
+        Access::Put {
+            block,
+            offset: _,
+            register: _,
+        } => block,
+    }
+}
+
+// The job in its transaction, with that inner step.
+pub fn inner(job: Job, step: Inner) -> Job
+    ensures { λ r. ⌜ r ≡ inPhase job (Phase.Transaction step) ⌝ }
+{
+    jobs2::in_phase(job, Phase::Transaction(step))
+}
+
+// The next command of the transaction.
+pub fn goes_on(job: Job) -> Job
+    ensures { λ r. ⌜ r ≡ goesOn job ⌝ }
+{
+    Job {
+        phase: Phase::Transaction(Inner::Between),
+        value: job.value,
+        at: jobs2::next_line(job),
+        begin: job.begin,
+        pairs: 0,
+        used: job.used,
+    }
+}
+
+// No block is touched.
+pub fn clear(task: &mut Task)
+    ensures { λ r. ⌜ own (now (task .exit)) ≡ clearing 16 (own (now (task .entry))) ⌝ }
+{
+    let mut b: u8 = 0;
+    while b < 16 {
+        task::set_touched(&mut *task, b, 0);
+        b += 1;
+    }
+}
+
+pub fn first_read(task: &mut Task, job: Job, access: Access, read: Read) -> Job
+    ensures { λ r. ⌜ noted r (own (now (task .exit))) ≡ firstRead (own (now (task .entry))) job access read ⌝ }
+{
+    match read {
+        Read::Reads(step) => {
+            return inner(job, Inner::First(access, step));
+        }
+        Read::Gives(value) => {
+            let b = block(access);
+            task::set_touched(&mut *task, b, 1);
+            task::set_remembered(&mut *task, b, value);
+            return inner(job, Inner::Between);
+        }
+    }
+}
+
+// The store of a touched block: the own copy if PUT before.
+fn store_for(task: &Task, block: u8) -> u32
+    ensures { λ r. ⌜ r ≡ storeFor (own (now (task .entry))) block ⌝ }
+{
+    let touched = task::touched(task, block);
+    if touched < 2 {
+        return task::remembered(task, block) % 256;
+    }
+    task::copy(task, (touched - 2) as usize)
+}
+
+fn get(memory: &Memory, task: &Task, job: Job, access: Access, block: u8, offset: u8) -> Job
+    ensures { λ r. ⌜ r ≡ gotBy (shared (now (memory .entry))) (own (now (task .entry))) job access block offset ⌝ }
+{
+    let place = places::slot(store_for(task, block), offset);
+    inner(
+        job,
+        Inner::Again(access, shared::value(memory, place), Reading::Load),
+    )
+}
+
+// Value n goes into the next copy store.
+pub fn copy(memory: &mut Memory, task: &Task, job: Job, access: Access, n: u8) -> Job
+    ensures { λ r. ⌜ went r (shared (now (memory .exit))) ≡ afterCopy (shared (now (memory .entry))) (own (now (task .entry))) job access n ⌝ }
+{
+    let from = places::slot(task::remembered(task, block(access)) % 256, n);
+    let to = places::slot(task::copy(task, job.used as usize), n);
+    let value = shared::value(&*memory, from);
+    shared::set_value(&mut *memory, to, value);
+    let done = places::next(n);
+    if done == 8 {
+        return inner(job, Inner::Again(access, 0, Reading::Load));
+    }
+    inner(job, Inner::Copying(access, done))
+}
+
+fn put(memory: &mut Memory, task: &Task, job: Job, block: u8, offset: u8, register: u8) -> Job
+    ensures { λ r. ⌜ went r (shared (now (memory .exit))) ≡ afterPut (shared (now (memory .entry))) (own (now (task .entry))) job block offset register ⌝ }
+{
+    let place = places::slot(store_for(task, block), offset);
+    let value = task::register(task, register);
+    shared::set_value(&mut *memory, place, value);
+    goes_on(job)
+}
+
+// The command at work is a GET or a PUT.
+pub fn access(memory: &mut Memory, task: &mut Task, job: Job, access: Access) -> Job
+    ensures { λ r. ⌜ left r (shared (now (memory .exit))) (own (now (task .exit))) ≡ accessTick (shared (now (memory .entry))) (own (now (task .entry))) job access ⌝ }
+{
+    let b = block(access);
+    let touched = task::touched(&*task, b);
+    if touched == 0 {
+        let read = read::read_tick(&*memory, bank(b), Reading::Load);
+        return first_read(&mut *task, job, access, read);
+    }
+    match access {
+        Access::Get {
+            register: _,
+            block,
+            offset,
+        } => {
+            return get(&*memory, &*task, job, access, block, offset);
+        }
+        Access::Put {
+            block,
+            offset,
+            register,
+        } => {
+            if touched == 1 {
+                return copy(&mut *memory, &*task, job, access, 0);
+            }
+            return put(&mut *memory, &*task, job, block, offset, register);
+        }
+    }
+}
+
+// Registers as kept, nothing touched, next the command after BEGIN.
+pub fn restart(task: &mut Task, job: Job) -> Job
+    ensures { λ r. ⌜ noted r (own (now (task .exit))) ≡ restarted (own (now (task .entry))) job ⌝ }
+{
+    jobs2::restore(&mut *task);
+    clear(&mut *task);
+    jobs2::job_at(Phase::Transaction(Inner::Between), job.begin, 0)
+}
+
+// The version read again is the remembered one.
+fn check(task: &mut Task, job: Job, access: Access, value: u32) -> Job
+    ensures { λ r. ⌜ noted r (own (now (task .exit))) ≡ checkedBy (own (now (task .entry))) job access value ⌝ }
+{
+    match access {
+        Access::Get {
+            register,
+            block: _,
+            offset: _,
+        } => {
+            task::set_register(&mut *task, register, value);
+            return goes_on(job);
+        }
+        Access::Put {
+            block,
+            offset: _,
+            register: _,
+        } => {
+            task::set_touched(&mut *task, block, (job.used as u32) + 2);
+            return Job {
+                phase: Phase::Transaction(Inner::Between),
+                value: job.value,
+                at: job.at,
+                begin: job.begin,
+                pairs: job.pairs,
+                used: places::next(job.used),
+            };
+        }
+    }
+}
+
+pub fn again_read(task: &mut Task, job: Job, access: Access, value: u32, read: Read) -> Job
+    ensures { λ r. ⌜ noted r (own (now (task .exit))) ≡ againRead (own (now (task .entry))) job access value read ⌝ }
+{
+    match read {
+        Read::Reads(step) => {
+            return inner(job, Inner::Again(access, value, step));
+        }
+        Read::Gives(bank) => {
+            if bank / 256 == task::remembered(&*task, block(access)) / 256 {
+                return check(&mut *task, job, access, value);
+            }
+            return restart(&mut *task, job);
+        }
+    }
+}
