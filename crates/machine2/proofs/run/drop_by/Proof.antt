@@ -1,0 +1,20 @@
+-- `drop_by` meets its contract.
+use mathlib.Core.Path.{sym, _∙_}
+use borrow.Author.Needs.{needs}
+use Rattle.machine2.proofs.run.drop_by.Statement.{statement}
+use Rattle.machine2.proofs.run.drop_by.Tie as tie
+
+unfinished-requires : tie.Need-unfinished-requires
+unfinished-requires c κs = search needs
+
+wrapping-add-u32-requires : tie.Need-wrapping-add-u32-requires
+wrapping-add-u32-requires c κs = search needs
+
+returns : tie.Need-returns
+returns c = rw (sym (c .before .before .unfinished .ensures) ∙ c .before .if1 .taken, c .wrapping-add-u32 .ensures)
+
+returns-2 : tie.Need-returns-2
+returns-2 c = search needs
+
+pub drop-by-spec : {M : Type 1} → statement M
+drop-by-spec = tie.close (tie.spec unfinished-requires wrapping-add-u32-requires returns returns-2)

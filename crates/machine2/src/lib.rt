@@ -1,0 +1,3 @@
+// The machine: the releases, and the run.
+pub mod releases;
+pub mod run;

@@ -1,0 +1,92 @@
+// The releases: the next one decoded once, whether it is due at a tick, and whether the run stops.
+ghost use mathlib.Core.Path.{_≡_};
+ghost use Rattle.model.specs.Command.{commandAt};
+ghost use Rattle.machine2.specs.Flat.{noRelease, pendingBy, pendingAt, comingBy, stopsBy, untilOf};
+use commands::Command;
+use commands::Decoded;
+
+// The next release, decoded once: whether there is one, its tick and task, and the place after it.
+pub struct Pending {
+    pub some: bool,
+    pub tick: u32,
+    pub task: u8,
+    pub after: usize,
+}
+
+// The next release at a tick: none, one of a later tick, or one due now, with its task and the place after it.
+pub enum Coming {
+    Nothing,
+    Later,
+    Due(u8, usize),
+}
+
+fn no_release() -> Pending
+    ensures { λ r. ⌜ r ≡ noRelease ⌝ }
+{
+    Pending {
+        some: false,
+        tick: 0,
+        task: 0,
+        after: 0,
+    }
+}
+
+fn pending_by(command: Command, next: usize) -> Pending
+    ensures { λ r. ⌜ r ≡ pendingBy command next ⌝ }
+{
+    match command {
+        Command::Release(release) => Pending {
+            some: true,
+            tick: release.tick,
+            task: release.task,
+            after: next,
+        },
+        _ => no_release(),
+    }
+}
+
+pub fn pending_at(sheet: &[u8], place: usize) -> Pending
+    ensures { λ r. ⌜ r ≡ pendingAt (commandAt (now (sheet .entry)) place) ⌝ }
+{
+    let decoded = commands::decode(sheet, place);
+    match decoded {
+        Decoded::Got(command, next) => pending_by(command, next),
+        Decoded::Refused(_) => no_release(),
+    }
+}
+
+pub fn coming_at(next: Pending, tick: u32) -> Coming
+    ensures { λ r. ⌜ r ≡ comingBy next tick ⌝ }
+{
+    if next.some {
+        if next.tick == tick {
+            return Coming::Due(next.task, next.after);
+        }
+        return Coming::Later;
+    }
+    Coming::Nothing
+}
+
+// No job is unfinished and no release is to come.
+pub fn stops(release: Coming, mask: u32) -> bool
+    ensures { λ r. ⌜ r ≡ stopsBy release mask ⌝ }
+{
+    match release {
+        Coming::Nothing => mask == 0,
+        Coming::Later => false,
+        Coming::Due(_, _) => false,
+    }
+}
+
+// The tick up to which no release comes, at most the limit.
+pub fn until(next: Pending, limit: u32) -> u32
+    ensures { λ r. ⌜ r ≡ untilOf next limit ⌝ }
+{
+    if next.some {
+        if next.tick < limit {
+            return next.tick;
+        }
+        return limit;
+    }
+    limit
+}
