@@ -1,20 +1,18 @@
--- The text that the run over flat arrays ends with is the model's report.
+-- The text that the flat machine's run ends with is the model's report.
 use Prim.Native.Nat.{ℕ, _<_, _≤_}
 use mathlib.Core.Path.{_≡_, refl, sym, ap, _∙_}
 use mathlib.Core.List.{List, [], _∷_}
 use lib.ListN.{length, getD}
-use Rattle.model.specs.Lists.{at}
 use Rattle.model.specs.Command.{Release, Command, WORD, BLOCK, TASK, RELEASE, END, body}
-use Rattle.model.specs.Sheet.{declared, commandsFrom, sheetOf, verdict, accepted, commandsAt, declaredAt, bodyAt}
+use Rattle.model.specs.Sheet.{declared, commandsFrom, sheetOf, verdict, accepted, commandsAt, declaredAt}
 use Rattle.model.specs.Machine.{Machine, run, startMachine}
 use Rattle.model.specs.Report.{report}
 use Rattle.model.specs.Answer.{reportOf}
 use Rattle.model.proofs.Fit.Accepted.{accepted-fit}
 use Rattle.sheet.specs.Indexed.{OnlyReleases, Indexed}
 use Rattle.sheet.specs.declared.index.Sheet.{Sheet}
-use Rattle.simulation.proofs.Releases.{leading, releasesFrom}
-use Rattle.simulation.proofs.Start.{Starts}
-use Rattle.simulation.proofs.Final as simulation
+use Rattle.refinement.proofs.Releases.{leading, releasesFrom}
+use Rattle.refinement.proofs.Final as refinement
 use Rattle.report.specs.Text.{Holds, Within}
 use Rattle.report.proofs.Model.{same-report}
 use Rattle.engine.specs.Flat.{FlatRun, totals}
@@ -30,49 +28,30 @@ leading-declared (BLOCK b ∷ l) h = absurd h
 leading-declared (TASK ∷ l) h = absurd h
 leading-declared (body c ∷ l) h = absurd h
 
--- the places of an index are those of the model's bodies and releases
-module _ {s : List ℕ} {x : Sheet} (h : Indexed s x) where
-  body-start : (p : ℕ) → p < length (sheetOf s .bodies) → bodyAt s (at 0 (x .bodies) p) ≡ at [] (sheetOf s .bodies) p
-  unfolding at
-  body-start p l = sym (h .bodies p (rw (h .tasks) l))
-
-  releases-start : releasesFrom s (x .released) ≡ sheetOf s .releases
-  unfolding releasesFrom declaredAt commandsAt
-  releases-start = leading-declared (commandsFrom (length s) s (x .released)) (h .released .only) ∙ sym (h .released .all)
+-- the place of an index is that of the model's releases
+releases-start : {s : List ℕ} {x : Sheet} → Indexed s x → releasesFrom s (x .released) ≡ sheetOf s .releases
+unfolding releasesFrom declaredAt commandsAt
+releases-start {s} {x} h = leading-declared (commandsFrom (length s) s (x .released)) (h .released .only) ∙ sym (h .released .all)
 
 module _ {s : List ℕ} (small : (i : ℕ) → getD s i 0 < 256) (good : verdict s ≡ accepted) (limit : ℕ) (most : limit ≤ 65535) {text : List ℕ}
     (r : FlatRun s limit text) where
   abbrev last-machine : Machine
   last-machine = run limit (startMachine (sheetOf s))
 
-  starts : Starts s (r .index .bodies) (r .index .released) (sheetOf s) (r .cells) (r .stores) (r .copies)
-  starts =
-      record {
-        cellsSize = r .cellsStart .size;
-        cellsStart = r .cellsStart .start;
-        storesSize = r .storesStart .size;
-        storesStart = r .storesStart .start;
-        copiesSize = r .copiesStart .size;
-        copiesStart = r .copiesStart .start;
-        body = body-start (r .indexed);
-        releases = releases-start (r .indexed);
-      }
-
-  ended : simulation.Holds (sheetOf s) last-machine (r .last) (r .ended)
+  ended : refinement.Holds (sheetOf s) last-machine (r .lastMemory) (r .lastTasks) (r .paused)
   ended =
-      simulation.final s small good limit most (r .index .bodies) (r .index .released) (r .cells) (r .stores) (r .copies) starts (r .last) (r .ended)
-      (r .finished)
+      refinement.final s small good limit most (r .program) (r .bounds) (r .programmed) (r .index .released) (releases-start (r .indexed)) (r .memory)
+      (r .memoryStart) (r .tasks) (r .tasksStart) (r .lastMemory) (r .lastTasks) (r .paused) (r .ends)
 
-  held : Holds (sheetOf s) last-machine (r .last .cells) (r .last .status) (r .last .saves) (r .last .stores) (r .last .registers) (r .last .counts)
-      (totals (r .index) (r .ended))
+  held : Holds (sheetOf s) last-machine (r .lastMemory) (r .lastTasks) (totals (r .index) (r .paused))
   held =
       record {
         words = r .indexed .words;
         blocks = r .indexed .blocks;
         tasks = r .indexed .tasks;
         memory = ended .memory;
-        registerRows = ended .registers;
-        countRows = ended .counts;
+        registers = ended .registers;
+        counts = ended .counts;
         now = ended .now;
         dropped = ended .dropped;
       }

@@ -1,38 +1,44 @@
--- The calls of a run, one after another, are a run over flat arrays.
+-- The calls of a run, one after another, are a run of the flat machine.
 use Prim.Native.Nat.{ℕ}
-use mathlib.Core.Path.{refl}
+use mathlib.Core.Path.{_≡_, refl}
 use mathlib.Core.List.{List}
+use Rattle.model.specs.Sheet.{sheetOf}
+use Rattle.commands.specs.declared.BodyCommand.{BodyCommand}
 use Rattle.sheet.specs.Indexed.{Indexed}
 use Rattle.sheet.specs.declared.index.Sheet.{Sheet}
-use Rattle.start.specs.Contract.{Cells, Stores, Copies}
-use Rattle.statements.specs.Statements.{Arrays}
-use Rattle.machine.specs.World.{startArrays, Finished}
-use Rattle.machine.specs.declared.run.Ended.{Ended}
+use Rattle.state.specs.State.{Shared, Own}
+use Rattle.program.specs.Program.{Programmed}
+use Rattle.start.specs.Start.{SharedStarts, TasksStart}
+use Rattle.machine.specs.Flat.{Ends, flatIn, pausedAt}
+use Rattle.machine.specs.declared.run.Paused.{Paused}
 use Rattle.report.specs.Text.{reportText, Reported}
 use Rattle.engine.specs.Flat.{totals, Ran}
 
 pub ran-by :
-    {s : List ℕ} {limit : ℕ} {before after : List ℕ} {n : ℕ} {x : Sheet} {cells stores copies : List ℕ} {last : Arrays} {e : Ended}
-    → Indexed s x → Cells s cells → Stores s stores → Copies copies
-    → Finished s (x .bodies) (x .released) limit (startArrays cells stores copies) last e
-    → Reported (reportText (last .cells) (last .status) (last .saves) (last .stores) (last .registers) (last .counts) (totals x e)) before after n
+    {s : List ℕ} {limit : ℕ} {before after : List ℕ} {n : ℕ} {x : Sheet} {program : List BodyCommand} {bounds : List ℕ} {m m' : Shared}
+    {ts ts' : List Own} {from q : Paused}
+    → Indexed s x → SharedStarts (sheetOf s) m → TasksStart ts → Programmed s program bounds → from ≡ pausedAt (x .released)
+    → Ends s program bounds limit (flatIn m ts from) (flatIn m' ts' q)
+    → Reported (reportText m' ts' (totals x q)) before after n
     → Ran s limit before after n
-ran-by {x = x} {cells} {stores} {copies} {last} {e} indexed c s q finished reported =
+ran-by {x = x} {program} {bounds} {m} {m'} {ts} {ts'} {from} {q} indexed memory tasks programmed start ends reported =
     record {
       text = _;
       run =
           record {
             index = x;
             indexed = indexed;
-            cells = cells;
-            stores = stores;
-            copies = copies;
-            cellsStart = c;
-            storesStart = s;
-            copiesStart = q;
-            last = last;
-            ended = e;
-            finished = finished;
+            program = program;
+            bounds = bounds;
+            programmed = programmed;
+            memory = m;
+            memoryStart = memory;
+            tasks = ts;
+            tasksStart = tasks;
+            lastMemory = m';
+            lastTasks = ts';
+            paused = q;
+            ends = rw start at ends;
             text-is = refl;
           };
       reported = reported;

@@ -5,11 +5,16 @@ ghost use Rattle.model.specs.Sheet.{verdict, accepted};
 ghost use Rattle.engine.specs.Contract.{Checks, Runs, answerOf};
 ghost use Rattle.engine.specs.Flat.{Ran};
 use commands::Fault;
+use commands::Refusal;
+use machine::run::Paused;
 use report::Totals;
 use sheet::check::Verdict;
 use start::Counts;
 
 mod exports;
+
+// The highest limit of ticks.
+const MAX_LIMIT: u64 = 65535;
 
 // Document 01's number of the refusal, 0 if there is none, and its place; of a run that is not turned down, the report's length.
 pub struct Answer {
@@ -40,53 +45,30 @@ pub fn check(sheet: &[u8]) -> Answer
     }
 }
 
-// The run of an accepted sheet; answers the report's length. All arrays stand on the stack: 4,776 bytes here, some 600 more for the
-// index and the jobs.
+// The run of an accepted sheet; answers the report's length. All that a run keeps stands on the stack: 2,208 bytes that all tasks share,
+// 3,456 for the tasks' records, 4,096 for the program, some 600 for the index and the jobs.
 fn run_accepted(sheet: &[u8], limit: u32, buffer: &mut [u8]) -> usize
     requires { ⌜ verdict (now sheet) ≡ accepted ⌝ }
     ensures { λ r. ⌜ Ran (now (sheet .entry)) limit (now (buffer .entry)) (now (buffer .exit)) r ⌝ }
 {
     let x = sheet::index::index(sheet);
-    let bodies = x.bodies;
     let n = Counts {
         words: x.words as usize,
         blocks: x.blocks as usize,
         tasks: x.tasks as usize,
     };
-    let mut cells = start::cells(sheet, n);
-    let mut status = [0u8; 8];
-    let mut saves = [0u32; 64];
-    let mut stores = start::stores(sheet, n);
-    let mut registers = [0u32; 64];
-    let mut kept = [0u32; 64];
-    let mut copies = start::copies();
-    let mut names = [0u8; 64];
-    let mut olds = [0u32; 64];
-    let mut news = [0u32; 64];
-    let mut inits = [0u64; 64];
-    let mut overlapped = [0u8; 64];
-    let mut kinds = [0u8; 128];
-    let mut remembered = [0u32; 128];
-    let mut counts = [0u32; 64];
+    let mut memory = start::memory(sheet, n);
+    let mut tasks = start::tasks();
+    let mut bounds = [0usize; 9];
+    let program = program::program(sheet, &mut bounds);
+    let from = Paused::start(x.released);
     let ended = machine::run::run(
         sheet,
-        &bodies,
-        &mut cells,
-        &mut status,
-        &mut saves,
-        &mut stores,
-        &mut registers,
-        &mut kept,
-        &mut copies,
-        &mut names,
-        &mut olds,
-        &mut news,
-        &mut inits,
-        &mut overlapped,
-        &mut kinds,
-        &mut remembered,
-        &mut counts,
-        x.released,
+        program,
+        &bounds,
+        &mut memory,
+        &mut tasks,
+        from,
         limit,
     );
     let totals = Totals {
@@ -96,16 +78,7 @@ fn run_accepted(sheet: &[u8], limit: u32, buffer: &mut [u8]) -> usize
         now: ended.ticks,
         dropped: ended.dropped,
     };
-    report::report(
-        &cells,
-        &status,
-        &saves,
-        &stores,
-        &registers,
-        &counts,
-        totals,
-        &mut *buffer,
-    )
+    report::report(&memory, &tasks, totals, &mut *buffer)
 }
 
 // Sheet faults go before 9, and 9 before 10. A refusal leaves the buffer unchanged.
@@ -116,19 +89,19 @@ pub fn run(sheet: &[u8], limit: u64, buffer: &mut [u8]) -> Answer
     if let Verdict::TurnedDown(f) = v {
         return refused(f);
     }
-    if 65535 < limit {
-        return Answer {
-            number: 9,
+    if MAX_LIMIT < limit {
+        return refused(Fault {
+            refusal: Refusal::LimitTooHigh,
             place: 0,
-        };
+        });
     }
     let room = buffer.len();
     let needed = run_accepted(sheet, limit as u32, &mut *buffer);
     if room < needed {
-        return Answer {
-            number: 10,
+        return refused(Fault {
+            refusal: Refusal::BufferTooShort,
             place: needed,
-        };
+        });
     }
     Answer {
         number: 0,

@@ -1,11 +1,16 @@
 // SWAP of k words by task p, one step a tick. A step carries i; Clean and its Mark carry j and the answer too. The value that
 // Look or Fetch found is kept beside the step, so that a step has four bytes and is copied as one number.
 ghost use mathlib.Core.Path.{_≡_};
-ghost use Rattle.exchanges.specs.Places.{went};
-ghost use Rattle.exchanges.specs.Exchange.{noted, afterStart, afterTest, afterLoad, afterLook, afterFetch, afterSave, afterFail, afterMark, afterInstall, cleaning, afterCommit, onward, asNew, installedAt, afterClean, afterCleanMark, exchanged, afterExchange};
+ghost use Rattle.state.specs.State.{shared, own};
+ghost use Rattle.exchanges.specs.Places.{went, noted, left};
+ghost use Rattle.exchanges.specs.Exchange.{afterStart, afterTest, afterLoad, afterLook, afterFetch, afterSave, afterFail, afterMark, afterInstall, cleaning, afterCommit, onward, asNew, marked, installedAt, afterClean, afterCleanMark, afterExchange};
 use crate::places;
 use crate::read;
-use memory::Word;
+use state::Memory;
+use state::Task;
+use state::Word;
+use state::shared;
+use state::task;
 
 pub enum Step {
     Start,
@@ -35,140 +40,113 @@ pub enum Exchanged {
 }
 
 // SWAP begins.
-pub fn start(status: &mut [u8; 8], p: u8) -> Step
-    ensures { λ r. ⌜ went r (now (status .exit)) ≡ afterStart (now (status .entry)) p ⌝ }
+pub fn start(memory: &mut Memory, p: u8) -> Step
+    ensures { λ r. ⌜ went r (shared (now (memory .exit))) ≡ afterStart (shared (now (memory .entry))) p ⌝ }
 {
-    let task = places::wide(p);
-    memory::set_u8x8(&mut *status, task, 0);
+    shared::set_status(&mut *memory, p as usize, 0);
     Step::Test(0)
 }
 
-fn test(status: &[u8; 8], p: u8, k: u8, i: u8) -> Step
-    ensures { λ r. ⌜ r ≡ afterTest (now (status .entry)) p k i ⌝ }
+fn test(memory: &Memory, p: u8, k: u8, i: u8) -> Step
+    ensures { λ r. ⌜ r ≡ afterTest (shared (now (memory .entry))) p k i ⌝ }
 {
     if i == k {
         return Step::Commit(i);
     }
-    let task = places::wide(p);
-    if memory::u8_at(status, task) == 1 {
+    if shared::status(memory, p as usize) == 1 {
         return Step::Commit(i);
     }
     Step::Load(i)
 }
 
-fn load(
-    cells: &[u64; 48],
-    names: &[u8; 64],
-    inits: &mut [u64; 64],
-    overlapped: &mut [u8; 64],
-    p: u8,
-    i: u8,
-) -> Step
-    ensures { λ r. ⌜ noted r (now (inits .exit)) (now (overlapped .exit)) ≡ afterLoad (now (cells .entry)) (now (names .entry)) (now (inits .entry)) (now (overlapped .entry)) p i ⌝ }
+fn load(memory: &Memory, task: &mut Task, i: u8) -> Step
+    ensures { λ r. ⌜ noted r (own (now (task .exit))) ≡ afterLoad (shared (now (memory .entry))) (own (now (task .entry))) i ⌝ }
 {
-    let s = places::slot(p, i);
-    let cell = places::wide(memory::u8_at(names, s));
-    let word = memory::u64_at(cells, cell);
-    memory::set_u64x64(&mut *inits, s, word);
-    memory::set_u8x64(&mut *overlapped, s, 0);
+    let cell = task::target(&*task, i) as usize;
+    let word = shared::cell(memory, cell);
+    task::set_init(&mut *task, i, word);
+    task::set_overlapped(&mut *task, i, 0);
     Step::Look(i)
 }
 
-fn look(status: &[u8; 8], inits: &[u64; 64], overlapped: &mut [u8; 64], p: u8, i: u8) -> Exchanged
-    ensures { λ r. ⌜ went r (now (overlapped .exit)) ≡ afterLook (now (status .entry)) (now (inits .entry)) (now (overlapped .entry)) p i ⌝ }
+fn look(memory: &Memory, task: &mut Task, i: u8) -> Exchanged
+    ensures { λ r. ⌜ noted r (own (now (task .exit))) ≡ afterLook (shared (now (memory .entry))) (own (now (task .entry))) i ⌝ }
 {
-    let s = places::slot(p, i);
-    let word = memory::u64_at(inits, s);
-    if read::own(status, word) {
-        memory::set_u8x64(&mut *overlapped, s, 0);
-        let value = memory::value_of(word);
+    let word = task::init(&*task, i);
+    if read::own(memory, word) {
+        task::set_overlapped(&mut *task, i, 0);
+        let value = state::value_of(word);
         return Exchanged::Finds(Found { i, value });
     }
-    memory::set_u8x64(&mut *overlapped, s, 1);
+    task::set_overlapped(&mut *task, i, 1);
     Exchanged::Goes(Step::Fetch(i))
 }
 
-fn fetch(saves: &[u32; 64], inits: &[u64; 64], p: u8, i: u8) -> Exchanged
-    ensures { λ r. ⌜ r ≡ afterFetch (now (saves .entry)) (now (inits .entry)) p i ⌝ }
+fn fetch(memory: &Memory, task: &Task, i: u8) -> Exchanged
+    ensures { λ r. ⌜ r ≡ afterFetch (shared (now (memory .entry))) (own (now (task .entry))) i ⌝ }
 {
-    let s = places::slot(p, i);
-    let word = memory::u64_at(inits, s);
-    let place = places::save_place(memory::task_of(word), memory::count_of(word));
-    let value = memory::u32_at(saves, place);
+    let value = read::saved(memory, task::init(task, i));
     Exchanged::Finds(Found { i, value })
 }
 
-fn save(
-    saves: &mut [u32; 64],
-    olds: &[u32; 64],
-    news: &[u32; 64],
-    overlapped: &[u8; 64],
-    p: u8,
-    i: u8,
-    value: u32,
-) -> Step
-    ensures { λ r. ⌜ went r (now (saves .exit)) ≡ afterSave (now (saves .entry)) (now (olds .entry)) (now (news .entry)) (now (overlapped .entry)) p i value ⌝ }
+fn save(memory: &mut Memory, task: &Task, p: u8, i: u8, value: u32) -> Step
+    ensures { λ r. ⌜ went r (shared (now (memory .exit))) ≡ afterSave (shared (now (memory .entry))) (own (now (task .entry))) p i value ⌝ }
 {
-    let s = places::slot(p, i);
-    memory::set_u32x64(&mut *saves, s, value);
-    let old = memory::u32_at(olds, s);
+    shared::set_save(&mut *memory, places::slot(p as u32, i), value);
+    let old = task::old(task, i);
     if value != old {
         return Step::Fail(i);
     }
-    if memory::u8_at(overlapped, s) == 0 {
+    if task::overlapped(task, i) == 0 {
         return Step::Install(i);
     }
-    if old == memory::u32_at(news, s) {
+    if old == task::new(task, i) {
         return Step::Install(i);
     }
     Step::Mark(i)
 }
 
-fn fail(status: &mut [u8; 8], p: u8, i: u8) -> Step
-    ensures { λ r. ⌜ went r (now (status .exit)) ≡ afterFail (now (status .entry)) p i ⌝ }
+fn fail(memory: &mut Memory, p: u8, i: u8) -> Step
+    ensures { λ r. ⌜ went r (shared (now (memory .exit))) ≡ afterFail (shared (now (memory .entry))) p i ⌝ }
 {
-    let task = places::wide(p);
-    memory::set_u8x8(&mut *status, task, 1);
+    shared::set_status(&mut *memory, p as usize, 1);
     Step::Test(i)
 }
 
-fn mark(status: &mut [u8; 8], inits: &[u64; 64], p: u8, i: u8) -> Step
-    ensures { λ r. ⌜ went r (now (status .exit)) ≡ afterMark (now (status .entry)) (now (inits .entry)) p i ⌝ }
+// The task of the word loaded for entry i gets status 1.
+fn mark_task(memory: &mut Memory, task: &Task, i: u8)
+    ensures { λ r. ⌜ shared (now (memory .exit)) ≡ marked (shared (now (memory .entry))) (own (now (task .entry))) i ⌝ }
 {
-    let s = places::slot(p, i);
-    let task = places::widened(memory::task_of(memory::u64_at(inits, s)));
-    memory::set_u8x8(&mut *status, task, 1);
+    let marked = state::task_of(task::init(task, i)) as usize;
+    shared::set_status(&mut *memory, marked, 1);
+}
+
+fn mark(memory: &mut Memory, task: &Task, i: u8) -> Step
+    ensures { λ r. ⌜ went r (shared (now (memory .exit))) ≡ afterMark (shared (now (memory .entry))) (own (now (task .entry))) i ⌝ }
+{
+    mark_task(&mut *memory, task, i);
     Step::Install(i)
 }
 
 // The word that task p installs for its entry i.
-fn installed(news: &[u32; 64], p: u8, i: u8) -> u64
-    ensures { λ r. ⌜ r ≡ installedAt (now (news .entry)) p i ⌝ }
+fn installed(task: &Task, p: u8, i: u8) -> u64
+    ensures { λ r. ⌜ r ≡ installedAt (own (now (task .entry))) p i ⌝ }
 {
-    let s = places::slot(p, i);
     Word {
-        value: memory::u32_at(news, s),
+        value: task::new(task, i),
         count: i,
         valid: false,
         task: p,
     }.pack()
 }
 
-fn install(
-    cells: &mut [u64; 48],
-    names: &[u8; 64],
-    inits: &[u64; 64],
-    news: &[u32; 64],
-    p: u8,
-    i: u8,
-) -> Step
-    ensures { λ r. ⌜ went r (now (cells .exit)) ≡ afterInstall (now (cells .entry)) (now (names .entry)) (now (inits .entry)) (now (news .entry)) p i ⌝ }
+fn install(memory: &mut Memory, task: &Task, p: u8, i: u8) -> Step
+    ensures { λ r. ⌜ went r (shared (now (memory .exit))) ≡ afterInstall (shared (now (memory .entry))) (own (now (task .entry))) p i ⌝ }
 {
-    let s = places::slot(p, i);
-    let cell = places::wide(memory::u8_at(names, s));
-    if memory::u64_at(&*cells, cell) == memory::u64_at(inits, s) {
-        let word = installed(news, p, i);
-        memory::set_u64x48(&mut *cells, cell, word);
+    let cell = task::target(task, i) as usize;
+    if shared::cell(&*memory, cell) == task::init(task, i) {
+        let word = installed(task, p, i);
+        shared::set_cell(&mut *memory, cell, word);
         return Step::Test(places::next(i));
     }
     Step::Fail(places::next(i))
@@ -184,12 +162,12 @@ fn to_clean(i: u8, yes: bool) -> Exchanged
     Exchanged::Goes(Step::Clean(i, 0, yes))
 }
 
-fn commit(status: &mut [u8; 8], p: u8, i: u8) -> Exchanged
-    ensures { λ r. ⌜ went r (now (status .exit)) ≡ afterCommit (now (status .entry)) p i ⌝ }
+fn commit(memory: &mut Memory, p: u8, i: u8) -> Exchanged
+    ensures { λ r. ⌜ went r (shared (now (memory .exit))) ≡ afterCommit (shared (now (memory .entry))) p i ⌝ }
 {
-    let task = places::wide(p);
-    if memory::u8_at(&*status, task) == 0 {
-        memory::set_u8x8(&mut *status, task, 2);
+    let task = p as usize;
+    if shared::status(&*memory, task) == 0 {
+        shared::set_status(&mut *memory, task, 2);
         return to_clean(i, true);
     }
     to_clean(i, false)
@@ -216,25 +194,13 @@ fn as_new(old: u32, new: u32, yes: bool) -> bool
     yes
 }
 
-fn clean(
-    cells: &mut [u64; 48],
-    names: &[u8; 64],
-    inits: &[u64; 64],
-    olds: &[u32; 64],
-    news: &[u32; 64],
-    overlapped: &[u8; 64],
-    p: u8,
-    i: u8,
-    j: u8,
-    yes: bool,
-) -> Exchanged
-    ensures { λ r. ⌜ went r (now (cells .exit)) ≡ afterClean (now (cells .entry)) (now (names .entry)) (now (inits .entry)) (now (olds .entry)) (now (news .entry)) (now (overlapped .entry)) p i j yes ⌝ }
+fn clean(memory: &mut Memory, task: &Task, p: u8, i: u8, j: u8, yes: bool) -> Exchanged
+    ensures { λ r. ⌜ went r (shared (now (memory .exit))) ≡ afterClean (shared (now (memory .entry))) (own (now (task .entry))) p i j yes ⌝ }
 {
-    let s = places::slot(p, j);
-    let cell = places::wide(memory::u8_at(names, s));
-    let new = memory::u32_at(news, s);
-    let mine = memory::u64_at(&*cells, cell) == installed(news, p, j);
-    if as_new(memory::u32_at(olds, s), new, yes) {
+    let cell = task::target(task, j) as usize;
+    let new = task::new(task, j);
+    let mine = shared::cell(&*memory, cell) == installed(task, p, j);
+    if as_new(task::old(task, j), new, yes) {
         if mine {
             let word = Word {
                 value: new,
@@ -242,95 +208,76 @@ fn clean(
                 valid: true,
                 task: p,
             }.pack();
-            memory::set_u64x48(&mut *cells, cell, word);
+            shared::set_cell(&mut *memory, cell, word);
             return to_next(i, j, yes);
         }
         return to_next(i, j, yes);
     }
     if mine {
-        let word = memory::u64_at(inits, s);
-        memory::set_u64x48(&mut *cells, cell, word);
+        let word = task::init(task, j);
+        shared::set_cell(&mut *memory, cell, word);
         return to_next(i, j, yes);
     }
-    if memory::u8_at(overlapped, s) == 0 {
+    if task::overlapped(task, j) == 0 {
         return to_next(i, j, yes);
     }
     Exchanged::Goes(Step::CleanMark(i, j, yes))
 }
 
-fn clean_mark(status: &mut [u8; 8], inits: &[u64; 64], p: u8, i: u8, j: u8, yes: bool) -> Exchanged
-    ensures { λ r. ⌜ went r (now (status .exit)) ≡ afterCleanMark (now (status .entry)) (now (inits .entry)) p i j yes ⌝ }
+fn clean_mark(memory: &mut Memory, task: &Task, i: u8, j: u8, yes: bool) -> Exchanged
+    ensures { λ r. ⌜ went r (shared (now (memory .exit))) ≡ afterCleanMark (shared (now (memory .entry))) (own (now (task .entry))) i j yes ⌝ }
 {
-    let s = places::slot(p, j);
-    let task = places::widened(memory::task_of(memory::u64_at(inits, s)));
-    memory::set_u8x8(&mut *status, task, 1);
+    mark_task(&mut *memory, task, j);
     to_next(i, j, yes)
 }
 
 // One statement of the exchange of k words by task p; the value is what was found last.
 pub fn exchange_tick(
-    cells: &mut [u64; 48],
-    status: &mut [u8; 8],
-    saves: &mut [u32; 64],
-    names: &[u8; 64],
-    olds: &[u32; 64],
-    news: &[u32; 64],
-    inits: &mut [u64; 64],
-    overlapped: &mut [u8; 64],
+    memory: &mut Memory,
+    task: &mut Task,
     p: u8,
     k: u8,
     value: u32,
     step: Step,
 ) -> Exchanged
-    ensures { λ r. ⌜ exchanged r (now (cells .exit)) (now (status .exit)) (now (saves .exit)) (now (inits .exit)) (now (overlapped .exit)) ≡ afterExchange (now (cells .entry)) (now (status .entry)) (now (saves .entry)) (now (names .entry)) (now (olds .entry)) (now (news .entry)) (now (inits .entry)) (now (overlapped .entry)) p k value step ⌝ }
+    ensures { λ r. ⌜ left r (shared (now (memory .exit))) (own (now (task .exit))) ≡ afterExchange (shared (now (memory .entry))) (own (now (task .entry))) p k value step ⌝ }
 {
     match step {
         Step::Start => {
-            return Exchanged::Goes(start(&mut *status, p));
+            return Exchanged::Goes(start(&mut *memory, p));
         }
         Step::Test(i) => {
-            return Exchanged::Goes(test(&*status, p, k, i));
+            return Exchanged::Goes(test(&*memory, p, k, i));
         }
         Step::Load(i) => {
-            return Exchanged::Goes(load(&*cells, names, &mut *inits, &mut *overlapped, p, i));
+            return Exchanged::Goes(load(&*memory, &mut *task, i));
         }
         Step::Look(i) => {
-            return look(&*status, &*inits, &mut *overlapped, p, i);
+            return look(&*memory, &mut *task, i);
         }
         Step::Fetch(i) => {
-            return fetch(&*saves, &*inits, p, i);
+            return fetch(&*memory, &*task, i);
         }
         Step::Save(i) => {
-            return Exchanged::Goes(save(&mut *saves, olds, news, &*overlapped, p, i, value));
+            return Exchanged::Goes(save(&mut *memory, &*task, p, i, value));
         }
         Step::Fail(i) => {
-            return Exchanged::Goes(fail(&mut *status, p, i));
+            return Exchanged::Goes(fail(&mut *memory, p, i));
         }
         Step::Mark(i) => {
-            return Exchanged::Goes(mark(&mut *status, &*inits, p, i));
+            return Exchanged::Goes(mark(&mut *memory, &*task, i));
         }
         Step::Install(i) => {
-            return Exchanged::Goes(install(&mut *cells, names, &*inits, news, p, i));
+            return Exchanged::Goes(install(&mut *memory, &*task, p, i));
         }
         Step::Commit(i) => {
-            return commit(&mut *status, p, i);
+            return commit(&mut *memory, p, i);
         }
         Step::Clean(i, j, yes) => {
-            return clean(
-                &mut *cells,
-                names,
-                &*inits,
-                olds,
-                news,
-                &*overlapped,
-                p,
-                i,
-                j,
-                yes,
-            );
+            return clean(&mut *memory, &*task, p, i, j, yes);
         }
         Step::CleanMark(i, j, yes) => {
-            return clean_mark(&mut *status, &*inits, p, i, j, yes);
+            return clean_mark(&mut *memory, &*task, i, j, yes);
         }
     }
 }

@@ -1,7 +1,10 @@
 // READ, also of a bank word: load the word, look at status, fetch the save place only if needed.
 ghost use mathlib.Core.Path.{_≡_};
-ghost use Rattle.exchanges.specs.Reading.{owned, afterLook, afterReading};
+ghost use Rattle.state.specs.State.{shared};
+ghost use Rattle.exchanges.specs.Reading.{owned, savedFor, currentIn, afterLook, afterReading};
 use crate::places;
+use state::Memory;
+use state::shared;
 
 pub enum Reading {
     Load,
@@ -15,44 +18,57 @@ pub enum Read {
 }
 
 // The word's own value counts: it is valid, or its task's status is 2.
-pub fn own(status: &[u8; 8], word: u64) -> bool
-    ensures { λ r. ⌜ r ≡ owned (now (status .entry)) word ⌝ }
+pub fn own(memory: &Memory, word: u64) -> bool
+    ensures { λ r. ⌜ r ≡ owned (shared (now (memory .entry))) word ⌝ }
 {
-    if memory::valid_of(word) {
+    if state::valid_of(word) {
         return true;
     }
-    let task = places::widened(memory::task_of(word));
-    memory::u8_at(status, task) == 2
+    shared::status(memory, state::task_of(word) as usize) == 2
 }
 
-fn look(status: &[u8; 8], word: u64) -> Read
-    ensures { λ r. ⌜ r ≡ afterLook (now (status .entry)) word ⌝ }
+// The save place of a word's task and count.
+pub fn saved(memory: &Memory, word: u64) -> u32
+    ensures { λ r. ⌜ r ≡ savedFor (shared (now (memory .entry))) word ⌝ }
 {
-    if own(status, word) {
-        return Read::Gives(memory::value_of(word));
+    shared::save(
+        memory,
+        places::slot(state::task_of(word), state::count_of(word)),
+    )
+}
+
+// The current value of a cell: its word's own value if that counts, else the save place.
+pub fn current(memory: &Memory, cell: usize) -> u32
+    ensures { λ r. ⌜ r ≡ currentIn (shared (now (memory .entry))) cell ⌝ }
+{
+    let word = shared::cell(memory, cell);
+    if own(memory, word) {
+        return state::value_of(word);
+    }
+    saved(memory, word)
+}
+
+fn look(memory: &Memory, word: u64) -> Read
+    ensures { λ r. ⌜ r ≡ afterLook (shared (now (memory .entry))) word ⌝ }
+{
+    if own(memory, word) {
+        return Read::Gives(state::value_of(word));
     }
     Read::Reads(Reading::Fetch(word))
 }
 
-pub fn read_tick(
-    cells: &[u64; 48],
-    status: &[u8; 8],
-    saves: &[u32; 64],
-    cell: usize,
-    step: Reading,
-) -> Read
-    ensures { λ r. ⌜ r ≡ afterReading (now (cells .entry)) (now (status .entry)) (now (saves .entry)) cell step ⌝ }
+pub fn read_tick(memory: &Memory, cell: usize, step: Reading) -> Read
+    ensures { λ r. ⌜ r ≡ afterReading (shared (now (memory .entry))) cell step ⌝ }
 {
     match step {
         Reading::Load => {
-            return Read::Reads(Reading::Look(memory::u64_at(cells, cell)));
+            return Read::Reads(Reading::Look(shared::cell(memory, cell)));
         }
         Reading::Look(word) => {
-            return look(status, word);
+            return look(memory, word);
         }
         Reading::Fetch(word) => {
-            let place = places::save_place(memory::task_of(word), memory::count_of(word));
-            return Read::Gives(memory::u32_at(saves, place));
+            return Read::Gives(saved(memory, word));
         }
     }
 }

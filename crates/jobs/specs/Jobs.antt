@@ -1,12 +1,12 @@
 -- A job, its counts and registers, and what the end of a plain command, of READ and of SWAP leaves.
-use Prim.Native.Nat.{ℕ, zero, suc, _+_, _*_, _%_}
-use mathlib.Core.Bool.{Bool, true, false}
+use Prim.Native.Nat.{ℕ, zero, suc, _+_, _%_}
+use mathlib.Core.Bool.{true}
 use mathlib.Core.List.{List}
 use Rattle.model.specs.Lists.{at, replace}
-use Rattle.model.specs.Command as M
 use Rattle.model.specs.Machine.{answer}
-use Rattle.memory.specs.Packed.{packed}
-use Rattle.exchanges.specs.Places.{if, Went, went}
+use Rattle.state.specs.Packed.{packed}
+use Rattle.state.specs.State.{Entries, Own, withRegisters, withKept, withEntries, setRegister, setCount}
+use Rattle.exchanges.specs.Places.{Noted, noted}
 use Rattle.exchanges.specs.declared.read.Read.{Read}
 use Rattle.exchanges.specs.declared.read.Read.the-variants.{Reads, Gives}
 use Rattle.exchanges.specs.declared.exchange.Exchanged.{Exchanged}
@@ -16,93 +16,77 @@ use Rattle.jobs.specs.declared.Phase.{Phase}
 use Rattle.jobs.specs.declared.Phase.the-variants as P
 use Rattle.jobs.specs.declared.Job.{Job}
 
-abbrev pub job : Phase → ℕ → ℕ → ℕ → ℕ → ℕ → ℕ → Job
-job f v a n b k u = record { phase = f; value = v; at = a; next = n; begin = b; pairs = k; used = u }
+abbrev pub job : Phase → ℕ → ℕ → ℕ → ℕ → ℕ → Job
+job f v a b k u = record { phase = f; value = v; at = a; begin = b; pairs = k; used = u }
 
 abbrev pub jobAt : Phase → ℕ → ℕ → Job
-jobAt f place pairs = job f 0 place place place pairs 0
-
-abbrev pub movedTo : Job → ℕ → Job
-movedTo j next = job (j .phase) (j .value) (j .at) next (j .begin) (j .pairs) (j .used)
+jobAt f line pairs = job f 0 line line pairs 0
 
 abbrev pub inPhase : Job → Phase → Job
-inPhase j f = job f (j .value) (j .at) (j .next) (j .begin) (j .pairs) (j .used)
+inPhase j f = job f (j .value) (j .at) (j .begin) (j .pairs) (j .used)
 
 abbrev pub withValue : Job → Phase → ℕ → Job
-withValue j f v = job f v (j .at) (j .next) (j .begin) (j .pairs) (j .used)
+withValue j f v = job f v (j .at) (j .begin) (j .pairs) (j .used)
 
-abbrev pub bodyCommand : M.Command → Bool
-bodyCommand (M.WORD v) = false
-bodyCommand (M.BLOCK b) = false
-bodyCommand M.TASK = false
-bodyCommand (M.RELEASE r) = false
-bodyCommand M.END = false
-bodyCommand (M.body c) = true
+-- the line after the one at work
+abbrev pub nextLine : Job → ℕ
+nextLine j = (j .at + 1) % 18446744073709551616
 
--- a body goes on there
-abbrev pub inBody : M.Found → Bool
-inBody (M.found c next) = bodyCommand c
-inBody (M.refused f place) = false
+-- THE COUNTS of a task, in the order of its T line
+abbrev pub finished : ℕ
+finished = 0
 
--- one more of a task's jobs finished (0), jobs spent (1), rejected commits (2) or ticks used (3)
-unfoldable pub counted : List ℕ → ℕ → ℕ → List ℕ
-counted counts p n = replace counts (8 * p + n) ((at 0 counts (8 * p + n) + 1) % 4294967296)
+abbrev pub spent : ℕ
+spent = 1
 
-unfoldable pub added : List ℕ → ℕ → ℕ → ℕ → List ℕ
-added registers p r q = replace registers (8 * p + r) ((at 0 registers (8 * p + r) + at 0 registers (8 * p + q)) % 4294967296)
+abbrev pub rejected : ℕ
+rejected = 2
 
--- the first n registers of task p copied
-unfoldable pub copied : ℕ → List ℕ → List ℕ → ℕ → List ℕ
-copied zero to from p = to
-copied (suc n) to from p = replace (copied n to from p) (8 * p + n) (at 0 from (8 * p + n))
+abbrev pub ticks : ℕ
+ticks = 3
 
--- the arrays of entries
-pub record Entries : Type 0 where
-  pub names : List ℕ
-  pub olds : List ℕ
-  pub news : List ℕ
-  pub inits : List ℕ
-  pub overlapped : List ℕ
+-- a count rises by one
+unfoldable pub counted : Own → ℕ → Own
+counted t n = setCount t n ((at 0 (t .counts) n + 1) % 4294967296)
 
-abbrev pub entries : List ℕ → List ℕ → List ℕ → List ℕ → List ℕ → Entries
-entries c o n l b = record { names = c; olds = o; news = n; inits = l; overlapped = b }
+unfoldable pub added : Own → ℕ → ℕ → Own
+added t r q = setRegister t r ((at 0 (t .registers) r + at 0 (t .registers) q) % 4294967296)
 
--- entry n of task p, with nothing loaded yet
-unfoldable pub entered : Entries → ℕ → ℕ → ℕ → ℕ → ℕ → Entries
-entered e p n cell old new =
-    entries
-    (replace (e .names) (8 * p + n) cell)
-    (replace (e .olds) (8 * p + n) old)
-    (replace (e .news) (8 * p + n) new)
-    (replace (e .inits) (8 * p + n) (packed 0 0 true 0))
-    (replace (e .overlapped) (8 * p + n) 0)
+-- the first n numbers copied from one list to another
+unfoldable pub copied : ℕ → List ℕ → List ℕ → List ℕ
+copied zero to from = to
+copied (suc n) to from = replace (copied n to from) n (at 0 from n)
 
--- the command is done: the job goes on with the next, or is finished
-unfoldable pub afterDone : List ℕ → List ℕ → ℕ → ℕ → ℕ → Went Job
-afterDone sheet counts p place pairs =
-    if (inBody (M.commandAt sheet place)) (went (jobAt P.Plain place pairs) counts) (went (jobAt P.Idle place pairs) (counted counts p 0))
+-- BEGIN keeps the eight registers, a restart gives them back
+abbrev pub keeping : ℕ → Own → Own
+keeping n t = withKept t (copied n (t .kept) (t .registers))
 
-pub record Answered : Type 0 where
-  pub job : Job
-  pub registers : List ℕ
-  pub counts : List ℕ
+abbrev pub restoring : ℕ → Own → Own
+restoring n t = withRegisters t (copied n (t .registers) (t .kept))
 
-abbrev pub answered : Job → List ℕ → List ℕ → Answered
-answered j r c = record { job = j; registers = r; counts = c }
+-- entry n, with nothing loaded yet
+unfoldable pub enteredIn : Entries → ℕ → ℕ → ℕ → ℕ → Entries
+enteredIn e n target old new =
+    record {
+      targets = replace (e .targets) n target;
+      olds = replace (e .olds) n old;
+      news = replace (e .news) n new;
+      inits = replace (e .inits) n (packed 0 0 true 0);
+      overlapped = replace (e .overlapped) n 0;
+    }
 
-abbrev pub withRegisters : List ℕ → Went Job → Answered
-withRegisters registers w = answered (w .next) registers (w .array)
+abbrev pub entered : Own → ℕ → ℕ → ℕ → ℕ → Own
+entered t n target old new = withEntries t (enteredIn (t .entries) n target old new)
 
--- a register is written and the command is done
-unfoldable pub afterGiving : List ℕ → List ℕ → List ℕ → ℕ → ℕ → ℕ → ℕ → ℕ → Answered
-afterGiving sheet registers counts p place pairs r v =
-    withRegisters (replace registers (8 * p + r) v) (afterDone sheet counts p place pairs)
+-- the command is done: the next line is at work
+abbrev pub afterDone : Job → ℕ → Job
+afterDone j pairs = jobAt P.Plain (nextLine j) pairs
 
-unfoldable pub readBy : List ℕ → List ℕ → List ℕ → ℕ → Job → ℕ → ℕ → Read → Answered
-readBy sheet registers counts p j r w (Reads s) = answered (inPhase j (P.Read r w s)) registers counts
-readBy sheet registers counts p j r w (Gives v) = afterGiving sheet registers counts p (j .next) (j .pairs) r v
+unfoldable pub readBy : Own → Job → ℕ → ℕ → Read → Noted Job
+readBy t j r w (Reads s) = noted (inPhase j (P.Read r w s)) t
+readBy t j r w (Gives v) = noted (afterDone j (j .pairs)) (setRegister t r v)
 
-unfoldable pub swapBy : List ℕ → List ℕ → List ℕ → ℕ → Job → ℕ → Exchanged → Answered
-swapBy sheet registers counts p j r (Goes s) = answered (inPhase j (P.Exchange r s)) registers counts
-swapBy sheet registers counts p j r (Finds f) = answered (withValue j (P.Exchange r (Save (f .i))) (f .value)) registers counts
-swapBy sheet registers counts p j r (Ends yes?) = afterGiving sheet registers counts p (j .next) 0 r (answer yes?)
+unfoldable pub swapBy : Own → Job → ℕ → Exchanged → Noted Job
+swapBy t j r (Goes s) = noted (inPhase j (P.Exchange r s)) t
+swapBy t j r (Finds f) = noted (withValue j (P.Exchange r (Save (f .i))) (f .value)) t
+swapBy t j r (Ends yes?) = noted (afterDone j 0) (setRegister t r (answer yes?))

@@ -10,7 +10,7 @@ use borrow.Author.Tests.{ne-eqb}
 use lib.Count.{leadingZeros, leading-top}
 use lib.Dec.{lit<, lit≤}
 use lib.ListN.{getD}
-use Rattle.machine.specs.World.{topOf}
+use Rattle.machine.specs.Flat.{topOf}
 
 pub power-at : (i : ℕ) → i < 8 → getD (1 ∷ 2 ∷ 4 ∷ 8 ∷ 16 ∷ 32 ∷ 64 ∷ 128 ∷ []) i 0 ≡ 2 ^ i
 power-at zero h = refl

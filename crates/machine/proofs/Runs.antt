@@ -1,36 +1,29 @@
--- What the parts of the run's loop ensure makes a release or a tick of the world, and the loop's rest the run's.
+-- What the parts of the run's loops ensure makes a release or a tick of the flat machine, and the loop's rest the run's.
 use Prim.Native.Nat.{ℕ, suc, _+_, _%_, _<_, _≤_}
 use mathlib.Core.Path.{_≡_, refl, sym, ap, _∙_, subst}
-use mathlib.Core.Bool.{Bool, true, false}
-use mathlib.Core.List.{List}
-use mathlib.Core.Option.{Option, none, some}
+use mathlib.Core.Bool.{Bool, true, false, false≢true, _&&_, _||_}
+use mathlib.Core.Logic.{_⊎_, inl, inr}
+use mathlib.Core.List.{List, [], map}
 use native.Mathlib.Omega.{arith}
-use borrow.Author.Tests.{leb-true, eq-eqb, ne-eqb}
-use lib.Dec.{eqb, ltb, leb}
-use lib.ListN.{length, getD, set, replicate}
+use borrow.Author.Tests.{eq-eqb, ne-eqb, ltb-true, ltb-false}
+use lib.Dec.{eqb, ltb}
+use lib.ListN.{length, getD, set}
 use lib.Seq.{set-getD, set-set, getD-set-same}
-use Rattle.model.specs.Lists.{at}
-use Rattle.model.specs.Command as M
-use Rattle.commands.specs.View.{viewCommand}
-use Rattle.commands.specs.declared.Command.{Command}
-use Rattle.commands.specs.declared.Command.the-variants as C
-use Rattle.statements.specs.Statements.{Arrays, turn, statement}
-use Rattle.machine.specs.World.{unfinishedJob, pendingBy, pendingAt, dueBy, comingBy, stopsBy, topOf, startWorld}
-use Rattle.machine.specs.World.{droppedBy, begunBy, zeroedBy, startedBy, leftBy, tickedBy, World, world, noJob}
-use Rattle.machine.specs.World.{withRegisters, withCounts, released, ticked, comingIn, Ends, stopped, releases, ticks}
-use Rattle.jobs.specs.Jobs.{jobAt}
-use Rattle.jobs.specs.declared.Phase.the-variants as P
+use Rattle.model.specs.Lists.{at, replace}
+use Rattle.model.proofs.Lists.{at-map, map-replace}
+use Rattle.model.specs.Command.{commandAt}
+use Rattle.commands.specs.declared.BodyCommand.{BodyCommand}
+use Rattle.state.specs.State.{Shared, shared, Own, own}
+use Rattle.commands.specs.declared.BodyCommand.the-variants as B
+use Rattle.exchanges.specs.Places.{Noted, noted, Left, left}
+use Rattle.jobs.specs.declared.Phase.{Phase}
 use Rattle.jobs.specs.declared.Job.{Job}
+use Rattle.statements.specs.Statements.{beginTick, stepTick, starting?, lineOf, statement}
+use Rattle.machine.specs.Flat.{unfinished?, stopsBy, topOf, droppedBy, begunBy, zeroedBy, startedBy, finished, tickOf, leftBy, FlatMachine, flat, noJob}
+use Rattle.machine.specs.Flat.{pendingAt, comingFor, comingBy, untilBy, untilOf, released, ticked, comingIn, Ends, stopped, arrives, moves}
+use Rattle.machine.specs.declared.releases.Pending.{Pending}
 use Rattle.machine.specs.declared.releases.Coming.{Coming}
-use Rattle.machine.specs.declared.releases.Coming.the-variants.{Nothing, Due}
-
-pub pending-view : (vs : List ℕ) (c : Command) (next : ℕ) → pendingAt (M.found (viewCommand vs c) next) ≡ pendingBy c next
-pending-view vs (C.Word v) next = refl
-pending-view vs (C.Block v) next = refl
-pending-view vs C.Task next = refl
-pending-view vs (C.Release r) next = refl
-pending-view vs C.End next = refl
-pending-view vs (C.Body c) next = refl
+use Rattle.machine.specs.declared.releases.Coming.the-variants.{Nothing, Later, Due}
 
 -- one turn more of the loop while the highest task is not the one at hand
 abbrev pub apart : Bool → ℕ
@@ -41,103 +34,169 @@ pub apart-most : (b : Bool) → apart b ≤ 1
 apart-most true = omega arith
 apart-most false = omega arith
 
--- The job k of the task at hand is held beside the others; the world has it in its place.
-module _ (sheet bodies : List ℕ) (limit : ℕ) (w v : World) where
-  pub same-world : v ≡ w → (u : World) → Ends sheet bodies limit v u → Ends sheet bodies limit w u
-  same-world e u r = subst (λ (x : World). Ends sheet bodies limit x u) e r
+-- ONE RECORD OF ALL is replaced, and read
+pub record-set : (ts : List (List ℕ)) (i : ℕ) (t : List ℕ) (x : Own) → own t ≡ x → map own (set ts i t) ≡ set (map own ts) i x
+unfolding replace
+record-set ts i t x e = map-replace own ts i t ∙ ap (set (map own ts) i) e
 
-pub start-world : (a : Arrays) (r : ℕ) (k : Job) → k ≡ jobAt P.Idle 0 0 → world a (set (replicate 8 noJob) 0 k) 0 r 0 0 ≡ startWorld a r
-start-world a r k e = rw e
+pub record-at : (ts : List (List ℕ)) (i : ℕ) → getD (map own ts) i (own []) ≡ own (getD ts i [])
+unfolding at
+record-at ts i = at-map own [] ts i
 
-module _ (bodies : List ℕ) (a : Arrays) (jobs : List Job) (k : Job) (m r t d task next : ℕ) where
-  pub release-turn : {q x p i m' d' body : ℕ} {rs : List ℕ} {j : Job}
-      → x ≡ q → p ≡ task % 8 → i ≡ p
-      → d' ≡ droppedBy (unfinishedJob (getD (set jobs x k) i noJob .phase)) d
-      → m' ≡ begunBy (unfinishedJob (getD (set jobs x k) i noJob .phase)) m i
-      → rs ≡ zeroedBy (unfinishedJob (getD (set jobs x k) i noJob .phase)) (a .registers) p
-      → body ≡ at 0 bodies i
-      → j ≡ startedBy (unfinishedJob (getD (set jobs x k) i noJob .phase)) (getD (set jobs x k) i noJob) body
-      → world (withRegisters a rs) (set (set jobs x k) p j) m' next t d' ≡ released bodies (world a (set jobs q k) m r t d) task next
+-- The job k of the task at hand is held beside the others; the machine has it in its place.
+module _ (sheet : List ℕ) (program : List BodyCommand) (bounds : List ℕ) (limit : ℕ) (w v : FlatMachine) where
+  pub same-machine : v ≡ w → (u : FlatMachine) → Ends sheet program bounds limit v u → Ends sheet program bounds limit w u
+  same-machine e u r = subst (λ (x : FlatMachine). Ends sheet program bounds limit x u) e r
+
+module _ (m : Shared) (ts : List Own) (jobs : List Job) (k : Job) (n r t d p q : ℕ) where
+  pub switched : flat m ts (set (set jobs p k) q (getD (set jobs p k) q noJob)) n r t d ≡ flat m ts (set jobs p k) n r t d
+  switched = rw (set-getD (set jobs p k) q noJob)
+
+-- the job of task 0 taken out of the jobs and held apart is still the same machine
+pub resumed : (sheet : List ℕ) (program : List BodyCommand) (bounds : List ℕ) (limit : ℕ) (m : Shared) (ts : List Own) (js : List Job)
+    (n r t d : ℕ) (u : FlatMachine) → Ends sheet program bounds limit (flat m ts (set js 0 (getD js 0 noJob)) n r t d) u
+    → Ends sheet program bounds limit (flat m ts js n r t d) u
+resumed sheet program bounds limit m ts js n r t d u e = rw (set-getD js 0 noJob) at e
+
+-- A RELEASE
+module _ (bounds : List ℕ) (m : Shared) (ts : List (List ℕ)) (jobs : List Job) (k : Job) (n r t d task next : ℕ) where
+  pub release-turn : (q p : ℕ) (z : List ℕ) {n' d' line : ℕ} {j : Job}
+      → p ≡ task % 8
+      → d' ≡ droppedBy (unfinished? (getD (set jobs q k) p noJob .phase)) d
+      → n' ≡ begunBy (unfinished? (getD (set jobs q k) p noJob .phase)) n p
+      → own z ≡ zeroedBy (unfinished? (getD (set jobs q k) p noJob .phase)) (own (getD ts p []))
+      → line ≡ at 0 bounds p
+      → j ≡ startedBy (unfinished? (getD (set jobs q k) p noJob .phase)) (getD (set jobs q k) p noJob) line
+      → flat m (map own (set ts p z)) (set (set jobs q k) p j) n' next t d'
+      ≡ released bounds (flat m (map own ts) (set jobs q k) n r t d) task next
   unfolding released
-  release-turn e0 e1 e2 e3 e4 e5 e6 e7 = rw (e3, e4, e5, e7, e6, e2, e1, e0)
+  release-turn q p z e1 e2 e3 e4 e5 e6 =
+      rw (e2, e3, e6, e5, record-set ts p z _ e4, ← record-at ts p, e1)
 
-module _ (a : Arrays) (jobs : List Job) (k : Job) (m r t d p q x y : ℕ) where
-  pub switched : x ≡ p → y ≡ q → world a (set (set jobs x k) q (getD (set jobs x k) y noJob)) m r t d ≡ world a (set jobs p k) m r t d
-  switched e1 e2 = rw (e1, e2, set-getD (set jobs p k) q noJob)
+-- A TICK
+-- a statement, closed and counted
+pub finished-tick : (end : ℕ) {s j : Job} {m : Shared} {x y : Own} {l : Left Job} → left s m x ≡ l → noted j y ≡ finished end x s
+    → left j m y ≡ tickOf end l
+finished-tick end {m = m} e f = rw (← e) (ap (λ (w : Noted Job). left (w .next) m (w .task)) f)
 
-module _ (sheet : List ℕ) (a b : Arrays) (jobs : List Job) (k s : Job) (m r t d p : ℕ) where
-  pub tick-turn : {h i m' : ℕ} {cs : List ℕ}
-      → (m ≡ 0 → ⊥) → h ≡ topOf 8 m → h ≡ p → i ≡ p → p < length jobs
-      → turn s b ≡ statement sheet a p k (k .phase)
-      → m' ≡ leftBy (unfinishedJob (k .phase)) (unfinishedJob (s .phase)) m i
-      → cs ≡ tickedBy (unfinishedJob (k .phase)) (b .counts) p
-      → world (withCounts b cs) (set jobs p s) m' r (t + 1) d ≡ ticked sheet (world a (set jobs p k) m r t d)
+-- two ways to a tick
+pub either : {A B C : Type 0} → (A → C) → (B → C) → A ⊎ B → C
+either f g (inl a) = f a
+either f g (inr b) = g b
+
+pub came : (end : ℕ) (x : List ℕ) {i j : Job} {a b : List ℕ} {k l : Left Job} → j ≡ i → b ≡ a → left i (shared a) (own x) ≡ tickOf end k → k ≡ l
+    → left j (shared b) (own x) ≡ tickOf end l
+came end x e1 e2 e3 e4 = rw (e1, e2, ← e4) e3
+
+-- the statement of a job that takes up its command, and of one inside a command
+module _ (program : List BodyCommand) (m : Shared) (t : Own) (p : ℕ) (k : Job) where
+  pub begin-statement : {n : ℕ} {c : BodyCommand} → starting? (k .phase) ≡ true → n ≡ lineOf (k .at) → c ≡ getD program n (B.Load 0 0)
+      → beginTick m t p k c ≡ statement program m t p k
+  unfolding statement
+  begin-statement e1 e2 e3 = rw (e1, e3, e2)
+
+  pub step-statement : starting? (k .phase) ≡ false → stepTick m t p k (k .phase) ≡ statement program m t p k
+  unfolding statement
+  step-statement e = rw e
+
+module _ (program : List BodyCommand) (bounds : List ℕ) (m : Shared) (ts : List (List ℕ)) (jobs : List Job) (k : Job) (n r t d p : ℕ) where
+  abbrev after : Left Job → FlatMachine
+  after l =
+      flat (l .memory) (set (map own ts) p (l .task)) (set (set jobs p k) p (l .next)) (leftBy (unfinished? (l .next .phase)) n p) r (t + 1) d
+
+  tick-turn : (x : List ℕ) {end : ℕ} {m' : Shared} {j : Job}
+      → (n ≡ 0 → ⊥) → p ≡ topOf 8 n → p < length jobs → end ≡ at 0 bounds (p + 1)
+      → left j m' (own x) ≡ tickOf end (statement program m (own (getD ts p [])) p k)
+      → flat m' (map own (set ts p x)) (set jobs p j) (leftBy (unfinished? (j .phase)) n p) r (t + 1) d
+      ≡ ticked program bounds (flat m (map own ts) (set jobs p k) n r t d)
   unfolding ticked
-  tick-turn work e1 e2 e3 lt e4 e5 e6 = rw (ne-eqb m 0 work, e5, e6, e3, sym e1 ∙ e2, getD-set-same jobs p k noJob lt, ← e4, set-set jobs p k s)
-
-pub pass-turn : (sheet : List ℕ) (a : Arrays) (jobs : List Job) (m r t d : ℕ) → m ≡ 0
-    → world a jobs m r (t + 1) d ≡ ticked sheet (world a jobs m r t d)
-unfolding ticked
-pass-turn sheet a jobs m r t d e = rw (eq-eqb m 0 e)
-
--- a command found lies within the sheet
-module _ (sheet : List ℕ) (place : ℕ) (c : M.Command) (next : ℕ) where
-  pub found-within : M.commandAt sheet place ≡ M.found c next → (place < next) × (next ≤ length sheet)
-  unfolding M.commandAt M.foundByte M.foundRow M.foundWhole
-  found-within = byte (ltb place (length sheet))
+  tick-turn x {end = end} {m' = m'} {j = j} work top lt e1 e2 =
+      rw (record-set ts p x (own x) refl, ← set-set jobs p k j) (ap after e2 ∙ is-ticked)
     where
-      whole : (r : M.Row) (b : Bool) → b ≡ leb (suc place + M.total (r .widths)) (length sheet) → M.foundWhole b sheet place r ≡ M.found c next
-          → (place < next) × (next ≤ length sheet)
-      whole r true e q =
-          let same : suc place + M.total (r .widths) ≡ next = cc in
-          let fits : suc place + M.total (r .widths) ≤ length sheet = leb-true _ _ (sym e) in
-          (omega arith, omega arith)
-      whole r false e q = let z : _≡_ {A = ℕ} 0 1 = cc in (omega arith, omega arith)
+      is-ticked : after (tickOf end (statement program m (own (getD ts p [])) p k)) ≡ ticked program bounds (flat m (map own ts) (set jobs p k) n r t d)
+      is-ticked = rw (ne-eqb n 0 work, ← top, getD-set-same jobs p k noJob lt, record-at ts p, ← e1)
 
-      row : (o : Option M.Row) → M.foundRow sheet place o ≡ M.found c next → (place < next) × (next ≤ length sheet)
-      row none q = let z : _≡_ {A = ℕ} 0 1 = cc in (omega arith, omega arith)
-      row (some r) q = whole r (leb (suc place + M.total (r .widths)) (length sheet)) refl q
+pub pass-turn : (program : List BodyCommand) (bounds : List ℕ) (m : Shared) (ts : List Own) (jobs : List Job) (n r t d : ℕ) → n ≡ 0
+    → flat m ts jobs n r (t + 1) d ≡ ticked program bounds (flat m ts jobs n r t d)
+unfolding ticked
+pass-turn program bounds m ts jobs n r t d e = rw (eq-eqb n 0 e)
 
-      byte : (b : Bool) → M.foundByte b sheet place ≡ M.found c next → (place < next) × (next ≤ length sheet)
-      byte true q = row (M.rowOf (getD sheet place 0) M.table) q
-      byte false q = let z : _≡_ {A = ℕ} 0 1 = cc in (omega arith, omega arith)
-
--- a release due now is a command found
-pub due-within : (sheet : List ℕ) (place tick task next : ℕ) → comingBy (pendingAt (M.commandAt sheet place)) tick ≡ Due task next
-    → (place < next) × (next ≤ length sheet)
-due-within sheet place tick task next e = go (M.commandAt sheet place) refl e
-  where
-    no : {P : Type 0} → Nothing ≡ Due task next → P
-    no e = let z : _≡_ {A = ℕ} 0 1 = cc in absurd (omega arith)
-
-    same : (b : Bool) (n : ℕ) (q : ℕ) → dueBy b q n ≡ Due task next → n ≡ next
-    same true n q e = cc
-    same false n q e = let z : _≡_ {A = ℕ} 0 1 = cc in absurd (omega arith)
-
-    go : (f : M.Found) → M.commandAt sheet place ≡ f → comingBy (pendingAt f) tick ≡ Due task next → (place < next) × (next ≤ length sheet)
-    go (M.refused f p) q e = no e
-    go (M.found (M.RELEASE r) n) q e =
-        let here = found-within sheet place (M.RELEASE r) n q in
-        let s : n ≡ next = same (eqb (r .tick) tick) n (r .task) e in
-        (omega arith, omega arith)
-    go (M.found (M.WORD v) n) q e = no e
-    go (M.found (M.BLOCK b) n) q e = no e
-    go (M.found M.TASK n) q e = no e
-    go (M.found M.END n) q e = no e
-    go (M.found (M.body c) n) q e = no e
-
-module _ (sheet bodies : List ℕ) (limit : ℕ) (w v : World) {c : Coming} where
-  pub after-release : (task next : ℕ) → w .ticks < limit → c ≡ comingIn sheet w → c ≡ Due task next → v ≡ released bodies w task next
-      → (u : World) → Ends sheet bodies limit v u → Ends sheet bodies limit w u
-  after-release task next lt e1 e2 e3 u r = releases task next lt (sym e1 ∙ e2) (subst (λ (x : World). Ends sheet bodies limit x u) e3 r)
+-- THE RUN'S STEPS
+module _ (sheet : List ℕ) (program : List BodyCommand) (bounds : List ℕ) (limit : ℕ) (w v : FlatMachine) {c : Coming} where
+  pub after-release : (task next : ℕ) → w .ticks < limit → c ≡ comingIn sheet w → c ≡ Due task next → v ≡ released bounds w task next
+      → (u : FlatMachine) → Ends sheet program bounds limit v u → Ends sheet program bounds limit w u
+  after-release task next lt e1 e2 e3 u r =
+      arrives task next lt (sym e1 ∙ e2) (subst (λ (x : FlatMachine). Ends sheet program bounds limit x u) e3 r)
 
   pub after-tick : w .ticks < limit → c ≡ comingIn sheet w → ((task next : ℕ) → c ≡ Due task next → ⊥) → stopsBy c (w .mask) ≡ false
-      → v ≡ ticked sheet w
-      → (u : World) → Ends sheet bodies limit v u → Ends sheet bodies limit w u
+      → v ≡ ticked program bounds w
+      → (u : FlatMachine) → Ends sheet program bounds limit v u → Ends sheet program bounds limit w u
   after-tick lt e1 other e2 e3 u r =
-      ticks lt (λ task next q. other task next (e1 ∙ q)) (sym (ap (λ (x : Coming). stopsBy x (w .mask)) e1) ∙ e2)
-      (subst (λ (x : World). Ends sheet bodies limit x u) e3 r)
+      moves lt (λ task next q. other task next (e1 ∙ q)) (sym (ap (λ (x : Coming). stopsBy x (w .mask)) e1) ∙ e2)
+      (subst (λ (x : FlatMachine). Ends sheet program bounds limit x u) e3 r)
 
-pub after-stop : (sheet bodies : List ℕ) (limit : ℕ) (w : World) {c : Coming} → c ≡ comingIn sheet w → stopsBy c (w .mask) ≡ true
-    → Ends sheet bodies limit w w
-after-stop sheet bodies limit w e1 e2 = stopped (sym (ap (λ (x : Coming). stopsBy x (w .mask)) e1) ∙ e2)
+-- WHILE ONE TASK RUNS
+-- somebody has work
+on-work : (c : Coming) (n : ℕ) → (n ≡ 0 → ⊥) → stopsBy c n ≡ false
+on-work Nothing n h = ne-eqb n 0 h
+on-work Later n h = refl
+on-work (Due task next) n h = refl
+
+going : (u x : Bool) → (u && x) || u ≡ u
+going true true = refl
+going true false = refl
+going false x = refl
+
+module _ (q : Pending) (limit t : ℕ) where
+  below-until : (some? less : Bool) → ltb (q .tick) limit ≡ less → t < untilBy some? q limit → t < limit
+  below-until true true e h = omega (arith, ltb-true (q .tick) limit e, rw e at h)
+  below-until true false e h = rw e at h
+  below-until false less e h = h
+
+  pub until-limit : t < untilOf q limit → t < limit
+  until-limit h = below-until (q .some) (ltb (q .tick) limit) refl h
+
+  below-tick : (less : Bool) → ltb (q .tick) limit ≡ less → t < untilBy true q limit → t < q .tick
+  below-tick true e h = rw e at h
+  below-tick false e h = omega (arith, ltb-false (q .tick) limit e, rw e at h)
+
+  nothing-due : (some? : Bool) → t < untilBy some? q limit → (task next : ℕ) → comingFor some? q t ≡ Due task next → ⊥
+  nothing-due true h task next e =
+      let less : t < q .tick = below-tick (ltb (q .tick) limit) refl h in
+      later (rw (ne-eqb (q .tick) t (λ e. omega arith)) at e)
+    where
+      later : Later ≡ Due task next → ⊥
+      later e = let z : _≡_ {A = ℕ} 0 1 = cc in omega arith
+  nothing-due false h task next e = let z : _≡_ {A = ℕ} 0 1 = cc in omega arith
+
+  pub until-due : t < untilOf q limit → (task next : ℕ) → comingBy q t ≡ Due task next → ⊥
+  until-due h task next e = nothing-due (q .some) h task next e
+
+both : (a b : Bool) → a && b ≡ true → b ≡ true
+both true b e = e
+both false b e = absurd (false≢true e)
+
+-- what goes on, goes on before that tick
+pub goes-before : (f : Phase) (t until : ℕ) {b : Bool} → b ≡ (unfinished? f && ltb t until) → b ≡ true → t < until
+goes-before f t until e h = ltb-true t until (both (unfinished? f) (ltb t until) (sym e ∙ h))
+
+-- one statement more
+module _ (sheet : List ℕ) (program : List BodyCommand) (bounds : List ℕ) (limit : ℕ) (m : Shared) (ts : List (List ℕ)) (jobs : List Job) (k : Job)
+    (n r t d p : ℕ) (q : Pending) where
+  pub stretch : (x : List ℕ) (until : ℕ) {ts' : List (List ℕ)} {end : ℕ} {m' : Shared} {j : Job} {b : Bool}
+      → (n ≡ 0 → ⊥) → p ≡ topOf 8 n → p < length jobs → end ≡ at 0 bounds (p + 1)
+      → t < limit → q ≡ pendingAt (commandAt sheet r) → ((task next : ℕ) → comingBy q t ≡ Due task next → ⊥)
+      → ts' ≡ set ts p x → left j m' (own x) ≡ tickOf end (statement program m (own (getD ts p [])) p k)
+      → b ≡ (unfinished? (j .phase) && ltb (t + 1) until)
+      → (u : FlatMachine)
+      → Ends sheet program bounds limit (flat m' (map own ts') (set jobs p j) (leftBy (b || unfinished? (j .phase)) n p) r (t + 1) d) u
+      → Ends sheet program bounds limit (flat m (map own ts) (set jobs p k) n r t d) u
+  stretch x until {j = j} work top lt e1 more e2 due e3 e4 e5 u e =
+      after-tick sheet program bounds limit _ _ more (ap (λ (z : Pending). comingBy z t) e2) due (on-work (comingBy q t) n work)
+      (tick-turn program bounds m ts jobs k n r t d p x work top lt e1 e4) u
+      (rw (e3, e5, going (unfinished? (j .phase)) (ltb (t + 1) until)) at e)
+
+pub after-stop : (sheet : List ℕ) (program : List BodyCommand) (bounds : List ℕ) (limit : ℕ) (w : FlatMachine) {c : Coming}
+    → c ≡ comingIn sheet w → stopsBy c (w .mask) ≡ true
+    → Ends sheet program bounds limit w w
+after-stop sheet program bounds limit w e1 e2 = stopped (sym (ap (λ (x : Coming). stopsBy x (w .mask)) e1) ∙ e2)

@@ -1,7 +1,7 @@
 // The releases: the next one decoded once, whether it is due at a tick, and whether the run stops.
 ghost use mathlib.Core.Path.{_≡_};
 ghost use Rattle.model.specs.Command.{commandAt};
-ghost use Rattle.machine.specs.World.{noRelease, pendingBy, pendingAt, comingBy, stopsBy};
+ghost use Rattle.machine.specs.Flat.{noRelease, pendingBy, pendingAt, comingBy, stopsBy, untilOf};
 use commands::Command;
 use commands::Decoded;
 
@@ -76,4 +76,17 @@ pub fn stops(release: Coming, mask: u32) -> bool
         Coming::Later => false,
         Coming::Due(_, _) => false,
     }
+}
+
+// The tick up to which no release comes, at most the limit.
+pub fn until(next: Pending, limit: u32) -> u32
+    ensures { λ r. ⌜ r ≡ untilOf next limit ⌝ }
+{
+    if next.some {
+        if next.tick < limit {
+            return next.tick;
+        }
+        return limit;
+    }
+    limit
 }

@@ -1,19 +1,56 @@
-// The run: releases arrive, the highest task with an unfinished job does one statement, until the run stops.
+// The run: releases arrive, the highest task with an unfinished job does its statements, until the run stops.
 ghost use mathlib.Core.Path.{_≡_};
-ghost use Prim.Native.Nat.{_+_, _*_, _-_, _^_, _%_, _<_, _≤_};
-ghost use Rattle.statements.specs.Statements.{arrays};
-ghost use Rattle.machine.specs.World.{unfinishedJob, topOf, droppedBy, begunBy, zeroed, zeroedBy, startedBy, leftBy, tickedBy, Finished};
+ghost use mathlib.Core.Bool.{_&&_};
+ghost use mathlib.Core.List.{map};
+ghost use Prim.Native.Nat.{_-_, _^_, _%_, _<_};
+ghost use lib.Dec.{ltb};
+ghost use lib.ListN.{length};
+ghost use Rattle.model.specs.Lists.{at};
+ghost use Rattle.state.specs.State.{shared, own};
+ghost use Rattle.exchanges.specs.Places.{noted, left};
+ghost use Rattle.statements.specs.Statements.{beginTick, stepTick, starting?, lineOf};
+ghost use Rattle.machine.specs.Flat.{unfinished?, topOf, droppedBy, begunBy, zeroing, zeroedBy, startedBy, closed, finished, tickOf, leftBy, Ends, flatIn, pausedAt};
 use crate::releases;
 use crate::releases::Coming;
-use exchanges::places;
+use commands::BodyCommand;
+use jobs::Inner;
 use jobs::Job;
 use jobs::Phase;
+use state::Memory;
+use state::Task;
+use state::task;
+use statements::begin;
 use statements::step;
 
-// The ticks done, and the releases dropped.
-pub struct Ended {
+// A run between two ticks: the jobs, the mask of unfinished ones, the place of the next release, the ticks done and the releases dropped.
+pub struct Paused {
+    pub jobs: [Job; 8],
+    pub mask: u32,
+    pub place: usize,
     pub ticks: u32,
     pub dropped: u32,
+}
+
+impl Paused {
+    // No job has run; the releases start at that place.
+    pub fn start(place: usize) -> Paused
+        ensures { λ r. ⌜ r ≡ pausedAt place ⌝ }
+    {
+        Paused {
+            jobs: [Job {
+                phase: Phase::Idle,
+                value: 0,
+                at: 0,
+                begin: 0,
+                pairs: 0,
+                used: 0,
+            }; 8],
+            mask: 0,
+            place: place,
+            ticks: 0,
+            dropped: 0,
+        }
+    }
 }
 
 const POWERS: [u32; 8] = [1, 2, 4, 8, 16, 32, 64, 128];
@@ -27,7 +64,7 @@ fn bit(i: usize) -> u32
 }
 
 fn unfinished(phase: Phase) -> bool
-    ensures { λ r. ⌜ r ≡ unfinishedJob phase ⌝ }
+    ensures { λ r. ⌜ r ≡ unfinished? phase ⌝ }
 {
     match phase {
         Phase::Idle => false,
@@ -35,6 +72,25 @@ fn unfinished(phase: Phase) -> bool
         Phase::Read(_, _, _) => true,
         Phase::Exchange(_, _) => true,
         Phase::Transaction(_) => true,
+    }
+}
+
+// The next statement takes up the command at work.
+fn starting(phase: Phase) -> bool
+    ensures { λ r. ⌜ r ≡ starting? phase ⌝ }
+{
+    match phase {
+        Phase::Idle => false,
+        Phase::Plain => true,
+        Phase::Read(_, _, _) => false,
+        Phase::Exchange(_, _) => false,
+        Phase::Transaction(inner) => match inner {
+            Inner::Between => true,
+            Inner::First(_, _) => false,
+            Inner::Copying(_, _) => false,
+            Inner::Again(_, _, _) => false,
+            Inner::Committing(_) => false,
+        },
     }
 }
 
@@ -51,9 +107,16 @@ fn top(mask: u32) -> u8
     (31 - u32::leading_zeros(mask)) as u8
 }
 
+// A task's number, of eight.
+fn task_number(n: u8) -> u8
+    ensures { λ r. ⌜ (r ≡ n % 8) × (r < 8) ⌝ }
+{
+    n % 8
+}
+
 // A release to a task whose job is unfinished is dropped and counted.
 fn drop_by(dropped: u32, phase: Phase) -> u32
-    ensures { λ r. ⌜ r ≡ droppedBy (unfinishedJob phase) dropped ⌝ }
+    ensures { λ r. ⌜ r ≡ droppedBy (unfinished? phase) dropped ⌝ }
 {
     if unfinished(phase) {
         return std::num::wrapping_add_u32(dropped, 1);
@@ -64,7 +127,7 @@ fn drop_by(dropped: u32, phase: Phase) -> u32
 // Else a job starts, with all registers 0.
 fn begun(mask: u32, i: usize, phase: Phase) -> u32
     requires { ⌜ i < 8 ⌝ }
-    ensures { λ r. ⌜ r ≡ begunBy (unfinishedJob phase) mask i ⌝ }
+    ensures { λ r. ⌜ r ≡ begunBy (unfinished? phase) mask i ⌝ }
 {
     if unfinished(phase) {
         return mask;
@@ -72,48 +135,126 @@ fn begun(mask: u32, i: usize, phase: Phase) -> u32
     std::num::wrapping_add_u32(mask, bit(i))
 }
 
-fn zero(registers: &mut [u32; 64], p: u8)
-    ensures { λ r. ⌜ now (registers .exit) ≡ zeroed 8 (now (registers .entry)) p ⌝ }
+fn zero(task: &mut Task)
+    ensures { λ r. ⌜ own (now (task .exit)) ≡ zeroing 8 (own (now (task .entry))) ⌝ }
 {
     let mut n: u8 = 0;
     while n < 8 {
-        let s = places::slot(p, n);
-        memory::set_u32x64(&mut *registers, s, 0);
+        task::set_register(&mut *task, n, 0);
         n += 1;
     }
 }
 
-fn zero_by(registers: &mut [u32; 64], p: u8, phase: Phase)
-    ensures { λ r. ⌜ now (registers .exit) ≡ zeroedBy (unfinishedJob phase) (now (registers .entry)) p ⌝ }
+fn zero_by(task: &mut Task, phase: Phase)
+    ensures { λ r. ⌜ own (now (task .exit)) ≡ zeroedBy (unfinished? phase) (own (now (task .entry))) ⌝ }
 {
     if unfinished(phase) {
         return;
     }
-    zero(&mut *registers, p);
+    zero(&mut *task);
 }
 
-fn started(job: Job, body: usize) -> Job
-    ensures { λ r. ⌜ r ≡ startedBy (unfinishedJob (job .phase)) job body ⌝ }
+fn started(job: Job, line: usize) -> Job
+    ensures { λ r. ⌜ r ≡ startedBy (unfinished? (job .phase)) job line ⌝ }
 {
     let phase = job.phase;
     if unfinished(phase) {
         return job;
     }
-    jobs::job_at(Phase::Plain, body, 0)
+    jobs::job_at(Phase::Plain, line, 0)
 }
 
-// The mask after a statement that found and left the job in those phases.
-fn left(mask: u32, i: usize, before: Phase, after: Phase) -> u32
-    requires { ⌜ i < 8 ⌝ }
-    ensures { λ r. ⌜ r ≡ leftBy (unfinishedJob before) (unfinishedJob after) mask i ⌝ }
+// Where body i starts in the program, and body i - 1 ends.
+fn bound(bounds: &[usize; 9], i: usize) -> usize
+    ensures { λ r. ⌜ r ≡ at 0 (now (bounds .entry)) i ⌝ }
 {
-    if unfinished(after) {
+    bound_in(bounds, i)
+}
+
+fn bound_in(s: &[usize], i: usize) -> usize
+    ensures { λ r. ⌜ r ≡ at 0 (now (s .entry)) i ⌝ }
+{
+    if i < s.len() {
+        return s[i];
+    }
+    0
+}
+
+// A line of the program, the last one for a line that there is not.
+fn line(n: usize) -> usize
+    ensures { λ r. ⌜ (r ≡ lineOf n) × (r < 512) ⌝ }
+{
+    if n < 512 {
+        return n;
+    }
+    511
+}
+
+// A job that stands where its body ends is finished.
+fn close(task: &mut Task, job: Job, end: usize) -> Job
+    ensures { λ r. ⌜ noted r (own (now (task .exit))) ≡ closed end (own (now (task .entry))) job ⌝ }
+{
+    let phase = job.phase;
+    if begin::is_plain(phase) {
+        if job.at == end {
+            jobs::count(&mut *task, jobs::FINISHED);
+            return jobs::in_phase(job, Phase::Idle);
+        }
+        return job;
+    }
+    job
+}
+
+// A statement is done: its tick is counted.
+fn finish(task: &mut Task, job: Job, end: usize) -> Job
+    ensures { λ r. ⌜ noted r (own (now (task .exit))) ≡ finished end (own (now (task .entry))) job ⌝ }
+{
+    let after = close(&mut *task, job, end);
+    jobs::count(&mut *task, jobs::TICKS);
+    after
+}
+
+// A tick that takes up a command, and one inside a command.
+fn begin_tick(
+    memory: &mut Memory,
+    task: &mut Task,
+    p: u8,
+    job: Job,
+    command: BodyCommand,
+    end: usize,
+) -> Job
+    ensures { λ r. ⌜ left r (shared (now (memory .exit))) (own (now (task .exit))) ≡ tickOf end (beginTick (shared (now (memory .entry))) (own (now (task .entry))) p job command) ⌝ }
+{
+    let after = begin::begin(&mut *memory, &mut *task, p, job, command);
+    finish(&mut *task, after, end)
+}
+
+fn step_tick(memory: &mut Memory, task: &mut Task, p: u8, job: Job, end: usize) -> Job
+    ensures { λ r. ⌜ left r (shared (now (memory .exit))) (own (now (task .exit))) ≡ tickOf end (stepTick (shared (now (memory .entry))) (own (now (task .entry))) p job (job .phase)) ⌝ }
+{
+    let after = step::step(&mut *memory, &mut *task, p, job);
+    finish(&mut *task, after, end)
+}
+
+// The task that runs goes on: its job is unfinished, and until that tick no other can run.
+fn goes_on(phase: Phase, tick: u32, until: u32) -> bool
+    ensures { λ r. ⌜ r ≡ (unfinished? phase && ltb tick until) ⌝ }
+{
+    if unfinished(phase) {
+        return tick < until;
+    }
+    false
+}
+
+// The mask without a task whose job is not unfinished any more.
+fn leaving(mask: u32, i: usize, phase: Phase) -> u32
+    requires { ⌜ i < 8 ⌝ }
+    ensures { λ r. ⌜ r ≡ leftBy (unfinished? phase) mask i ⌝ }
+{
+    if unfinished(phase) {
         return mask;
     }
-    if unfinished(before) {
-        return lowered(mask, bit(i));
-    }
-    mask
+    lowered(mask, bit(i))
 }
 
 fn lowered(mask: u32, bit: u32) -> u32
@@ -125,77 +266,52 @@ fn lowered(mask: u32, bit: u32) -> u32
     mask - bit
 }
 
-// A tick used.
-fn used(counts: &mut [u32; 64], p: u8, phase: Phase)
-    ensures { λ r. ⌜ now (counts .exit) ≡ tickedBy (unfinishedJob phase) (now (counts .entry)) p ⌝ }
-{
-    if unfinished(phase) {
-        jobs::count(&mut *counts, p, 3);
-        return;
-    }
-}
-
-// The run of a sheet whose bodies start at those places and whose releases start at that one.
+// The run of a program whose bodies lie within those bounds, on from where it was paused. The sheet is read for its releases.
 pub fn run(
     sheet: &[u8],
-    bodies: &[usize; 8],
-    cells: &mut [u64; 48],
-    status: &mut [u8; 8],
-    saves: &mut [u32; 64],
-    stores: &mut [u32; 384],
-    registers: &mut [u32; 64],
-    kept: &mut [u32; 64],
-    copies: &mut [u8; 32],
-    names: &mut [u8; 64],
-    olds: &mut [u32; 64],
-    news: &mut [u32; 64],
-    inits: &mut [u64; 64],
-    overlapped: &mut [u8; 64],
-    kinds: &mut [u8; 128],
-    remembered: &mut [u32; 128],
-    counts: &mut [u32; 64],
-    first: usize,
+    program: [BodyCommand; 512],
+    bounds: &[usize; 9],
+    memory: &mut Memory,
+    tasks: &mut [Task; 8],
+    from: Paused,
     limit: u32,
-) -> Ended
-    ensures { λ r. ⌜ Finished (now (sheet .entry)) (now (bodies .entry)) first limit (arrays (now (cells .entry)) (now (status .entry)) (now (saves .entry)) (now (stores .entry)) (now (registers .entry)) (now (kept .entry)) (now (copies .entry)) (now (names .entry)) (now (olds .entry)) (now (news .entry)) (now (inits .entry)) (now (overlapped .entry)) (now (kinds .entry)) (now (remembered .entry)) (now (counts .entry))) (arrays (now (cells .exit)) (now (status .exit)) (now (saves .exit)) (now (stores .exit)) (now (registers .exit)) (now (kept .exit)) (now (copies .exit)) (now (names .exit)) (now (olds .exit)) (now (news .exit)) (now (inits .exit)) (now (overlapped .exit)) (now (kinds .exit)) (now (remembered .exit)) (now (counts .exit))) r ⌝ }
+) -> Paused
+    requires { ⌜ (length (from .jobs) ≡ 8) × (length program ≡ 512) ⌝ }
+    ensures { λ r. ⌜ Ends (now (sheet .entry)) program (now (bounds .entry)) limit (flatIn (shared (now (memory .entry))) (map own (now (tasks .entry))) from) (flatIn (shared (now (memory .exit))) (map own (now (tasks .exit))) r) × (length (r .jobs) ≡ 8) ⌝ }
 {
-    let mut jobs = [Job {
-        phase: Phase::Idle,
-        value: 0,
-        at: 0,
-        next: 0,
-        begin: 0,
-        pairs: 0,
-        used: 0,
-    }; 8];
+    let mut jobs = from.jobs;
     // The job of task p, which ran last, is held apart, and goes back when another task runs.
     let mut p: u8 = 0;
-    let mut job = jobs::job_at(Phase::Idle, 0, 0);
-    let mut mask: u32 = 0;
-    let mut place = first;
+    let mut job = jobs[0];
+    let mut mask = from.mask;
+    let mut place = from.place;
     let mut next = releases::pending_at(sheet, place);
-    let mut tick: u32 = 0;
-    let mut dropped: u32 = 0;
+    let mut tick = from.ticks;
+    let mut dropped = from.dropped;
     while tick < limit {
         let release = releases::coming_at(next, tick);
         if let Coming::Due(task, after) = release {
-            jobs[places::wide(p)] = job;
-            p = places::octal(task);
-            let i = places::wide(p);
+            jobs[p as usize] = job;
+            p = task_number(task);
+            let i = p as usize;
             let found = jobs[i];
             let phase = found.phase;
             dropped = drop_by(dropped, phase);
             mask = begun(mask, i, phase);
-            zero_by(&mut *registers, p, phase);
-            job = started(found, memory::usize_at(bodies, i));
+            zero_by(&mut tasks[i], phase);
+            job = started(found, bound(bounds, i));
             place = after;
             next = releases::pending_at(sheet, place);
             continue;
         }
         if releases::stops(release, mask) {
-            return Ended {
+            jobs[p as usize] = job;
+            return Paused {
+                jobs,
+                mask,
+                place,
                 ticks: tick,
-                dropped: dropped,
+                dropped,
             };
         }
         // Nobody has work.
@@ -205,40 +321,38 @@ pub fn run(
         }
         let highest = top(mask);
         if highest != p {
-            jobs[places::wide(p)] = job;
+            jobs[p as usize] = job;
             p = highest;
-            job = jobs[places::wide(p)];
+            job = jobs[p as usize];
             continue;
         }
-        let before = job.phase;
-        let done = step::step(
-            sheet,
-            &mut *cells,
-            &mut *status,
-            &mut *saves,
-            &mut *stores,
-            &mut *registers,
-            &mut *kept,
-            &mut *copies,
-            &mut *names,
-            &mut *olds,
-            &mut *news,
-            &mut *inits,
-            &mut *overlapped,
-            &mut *kinds,
-            &mut *remembered,
-            &mut *counts,
-            p,
-            job,
-        );
-        let after = done.phase;
-        mask = left(mask, places::wide(p), before, after);
-        used(&mut *counts, p, before);
-        job = done;
-        tick += 1;
+        // The highest task does one statement a tick; only a release or the end of its job can change who is highest.
+        let i = p as usize;
+        let until = releases::until(next, limit);
+        let end = bound(bounds, i + 1);
+        let mut busy = true;
+        while busy {
+            let phase = job.phase;
+            if starting(phase) {
+                let at = line(job.at);
+                let command = program[at];
+                job = begin_tick(&mut *memory, &mut tasks[i], p, job, command, end);
+            } else {
+                job = step_tick(&mut *memory, &mut tasks[i], p, job, end);
+            }
+            tick += 1;
+            let after = job.phase;
+            busy = goes_on(after, tick, until);
+        }
+        let last = job.phase;
+        mask = leaving(mask, i, last);
     }
-    Ended {
+    jobs[p as usize] = job;
+    Paused {
+        jobs,
+        mask,
+        place,
         ticks: tick,
-        dropped: dropped,
+        dropped,
     }
 }

@@ -4,9 +4,8 @@ use mathlib.Core.Path.{_≡_, refl, sym, ap, _∙_}
 use mathlib.Core.List.{List, [], _∷_, _++_, append-assoc, append-nil}
 use native.Mathlib.Nat.{add-zero}
 use native.Mathlib.Omega.{arith}
-use lib.ListN.{length, take, drop}
+use lib.ListN.{length, getD, take, drop}
 use lib.Seq.{drop-cons}
-use Rattle.model.specs.Lists.{at}
 use Rattle.model.specs.Report.{decimal, fields, lines}
 
 pub lines-last : (n i : ℕ) (f : ℕ → List ℕ) → lines (suc n) i f ≡ lines n i f ++ f (i + n)
@@ -29,12 +28,12 @@ lines-equal (suc n) i f g e =
 
 -- number i of those from a place on, after its space
 abbrev pub fieldOf : List ℕ → ℕ → ℕ → List ℕ
-fieldOf l start i = 0x20 ∷ decimal (at 0 l (start + i))
+fieldOf l start i = 0x20 ∷ decimal (getD l (start + i) 0)
 
 -- a line's numbers and its end
 pub numbers : (l : List ℕ) (start n i : ℕ) → start + i + n ≤ length l
     → lines n i (fieldOf l start) ++ (0x0A ∷ []) ≡ fields (take n (drop (start + i) l))
-unfolding lines fields at
+unfolding lines fields
 numbers l start zero i h = refl
 numbers l start (suc n) i h =
     let e : start + suc i ≡ suc (start + i) = omega arith in

@@ -1,18 +1,18 @@
--- The text read off the arrays is the model's report of the machine that they hold, and a call's result the model's answer.
+-- The text read off the records is the model's report of the machine that they hold, and a call's result the model's answer.
 use Prim.Native.Nat.{ℕ, _+_, min, _≤_, _<_}
 use mathlib.Core.Path.{_≡_, sym, ap, _∙_}
-use mathlib.Core.List.{List, _∷_, _++_}
+use mathlib.Core.List.{List, [], _∷_, _++_}
 use mathlib.Core.Bool.{true, false}
 use native.Mathlib.Omega.{arith}
 use lib.Dec.{leb}
-use lib.ListN.{length}
+use lib.ListN.{length, getD}
 use borrow.Author.Tests.{le-leb, lt-leb}
 use Rattle.model.specs.Ceilings.{maxWords, maxBlocks, maxTasks}
 use Rattle.model.specs.Sheet.{Sheet}
 use Rattle.model.specs.Machine.{Machine, taskAt}
 use Rattle.model.specs.Report.{line, taskLine, taskLines, report}
 use Rattle.model.specs.Answer.{Answer, written}
-use Rattle.memory.specs.Rows.{row}
+use Rattle.state.specs.State.{Shared, Own, own}
 use Rattle.report.specs.declared.Totals.{Totals}
 use Rattle.report.specs.Text.{taskLinesOf, reportText, Reported, Holds, Within}
 use Rattle.report.proofs.Lines.{lines-equal}
@@ -20,9 +20,9 @@ use Rattle.report.proofs.Lines.{lines-equal}
 least : (n k c : ℕ) → n ≡ k → k ≤ c → min n c ≡ k
 least n k c e h = omega arith
 
-module _ {s : Sheet} {m : Machine} {cells status saves stores registers counts : List ℕ} {t : Totals}
-    (h : Holds s m cells status saves stores registers counts t) (c : Within s) where
-  pub same-report : reportText cells status saves stores registers counts t ≡ report s m
+module _ {s : Sheet} {f : Machine} {m : Shared} {ts : List Own} {t : Totals}
+    (h : Holds s f m ts t) (c : Within s) where
+  pub same-report : reportText m ts t ≡ report s f
   unfolding reportText report
   same-report =
       rw (
@@ -32,14 +32,14 @@ module _ {s : Sheet} {m : Machine} {cells status saves stores registers counts :
         h .memory,
         h .now,
         h .dropped,
-        lines-equal (length (s .bodies)) 0 (taskLinesOf registers counts) (taskLines (m .tasks)) each,
+        lines-equal (length (s .bodies)) 0 (taskLinesOf ts) (taskLines (f .tasks)) each,
       )
     where
-      each : (p : ℕ) → 0 ≤ p → p < 0 + length (s .bodies) → taskLinesOf registers counts p ≡ taskLines (m .tasks) p
+      each : (p : ℕ) → 0 ≤ p → p < 0 + length (s .bodies) → taskLinesOf ts p ≡ taskLines (f .tasks) p
       each p low high =
           let inside : p < length (s .bodies) = omega arith in
-          ap (λ (l : List ℕ). line 0x54 (p ∷ l) ++ line 0x52 (p ∷ row 8 p registers)) (sym (h .countRows p inside))
-          ∙ ap (λ (l : List ℕ). taskLine p (taskAt (m .tasks) p) ++ line 0x52 (p ∷ l)) (sym (h .registerRows p inside))
+          ap (λ (l : List ℕ). line 0x54 (p ∷ l) ++ line 0x52 (p ∷ getD ts p (own []) .registers)) (sym (h .counts p inside))
+          ∙ ap (λ (l : List ℕ). taskLine p (taskAt (f .tasks) p) ++ line 0x52 (p ∷ l)) (sym (h .registers p inside))
 
 abbrev pub answer : ℕ → ℕ → List ℕ → Answer
 answer number place buffer = record { number = number; place = place; buffer = buffer }

@@ -9,21 +9,22 @@ use lib.Seq.{sets, sets-eq}
 use borrow.Author.Tests.{le-leb, lt-leb}
 use Rattle.model.specs.Answer.{written}
 use Rattle.model.specs.Report.{line, lines, wordLine, blockLine}
+use Rattle.state.specs.State.{Shared, Own}
+use Rattle.state.specs.Held.{memoryOf}
 use Rattle.report.specs.declared.Totals.{Totals}
 use Rattle.report.specs.Writing.{Written}
 use Rattle.report.specs.Text.{taskLinesOf, reportText, Reported}
-use Rattle.memory.specs.Held.{memoryOf}
 use Rattle.report.proofs.Writing.{then, as-text}
 
-pub whole : (cells status saves stores registers counts : List ℕ) (t : Totals) {w b p i j k r : ℕ} {start middle later last end : List ℕ}
+pub whole : (m : Shared) (ts : List Own) (t : Totals) {w b p i j k r : ℕ} {start middle later last end : List ℕ}
     → w ≡ min (t .words) 32 → b ≡ min (t .blocks) 16 → p ≡ min (t .tasks) 8
-    → Written (24 * w) (lines w 0 (wordLine (memoryOf cells status saves []))) start middle 0 i
-    → Written (112 * b) (lines b 0 (blockLine (memoryOf cells status saves stores))) middle later i j
-    → Written (158 * p) (lines p 0 (taskLinesOf registers counts)) later last j k
+    → Written (24 * w) (lines w 0 (wordLine (memoryOf m))) start middle 0 i
+    → Written (112 * b) (lines b 0 (blockLine (memoryOf m))) middle later i j
+    → Written (158 * p) (lines p 0 (taskLinesOf ts)) later last j k
     → Written 24 (line 0x45 (t .now ∷ t .dropped ∷ [])) last end k r
-    → Written 3848 (reportText cells status saves stores registers counts t) start end 0 r
+    → Written 3848 (reportText m ts t) start end 0 r
 unfolding reportText
-whole cells status saves stores registers counts t ew eb ep words blocks tasks ends =
+whole m ts t ew eb ep words blocks tasks ends =
     rw (← ew, ← eb, ← ep) (as-text refl (omega arith) (then (then (then words blocks) tasks) ends))
 
 sets-nil : (x : List ℕ) (i : ℕ) → sets [] i x ≡ []

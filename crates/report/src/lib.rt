@@ -2,16 +2,39 @@
 mod text;
 
 ghost use mathlib.Core.Path.{_≡_};
-ghost use mathlib.Core.List.{[]};
+ghost use mathlib.Core.List.{[], map};
 ghost use Prim.Native.Nat.{_+_, _*_, min, _≤_, _<_};
+ghost use Rattle.model.specs.Ceilings.{maxWords, maxBlocks, maxTasks};
 ghost use Rattle.model.specs.Lists.{at};
-ghost use Rattle.model.specs.Word.{current, currentOf};
+ghost use Rattle.model.specs.Word.{currentOf};
 ghost use Rattle.model.specs.Report.{fields, lines, wordLine, blockLine};
-ghost use Rattle.memory.specs.Packed.{unpack};
-ghost use Rattle.memory.specs.Rows.{rows};
+ghost use Rattle.state.specs.State.{shared, own};
+ghost use Rattle.state.specs.Held.{memoryOf};
 ghost use Rattle.report.specs.Writing.{Written, farthest};
 ghost use Rattle.report.specs.Text.{taskLinesOf, reportText, Reported};
-ghost use Rattle.memory.specs.Held.{memoryOf};
+use exchanges::places;
+use exchanges::read;
+use state::Memory;
+use state::Task;
+use state::shared;
+use state::task;
+
+// The most words, blocks and tasks that a report tells of.
+const WORDS: usize = 32;
+
+const BLOCKS: usize = 16;
+
+const TASKS: usize = 8;
+
+// How many block stores there are, and values in one.
+const STORES: u32 = 48;
+
+const VALUES: usize = 8;
+
+const REGISTERS: usize = 8;
+
+// How many of a task's counts its T line shows.
+const SHOWN: usize = 4;
 
 // How many words, blocks and tasks the sheet declares, the ticks done and the releases dropped.
 pub struct Totals {
@@ -22,44 +45,25 @@ pub struct Totals {
     pub dropped: u32,
 }
 
-// The word's own value if it is valid or its task's status is 2, else the save place of that task and count.
-fn current(status: &[u8; 8], saves: &[u32; 64], word: u64) -> u32
-    ensures { λ r. ⌜ r ≡ current (now (status .entry)) (rows 8 8 (now (saves .entry))) (unpack word) ⌝ }
-{
-    if memory::valid_of(word) {
-        return memory::value_of(word);
-    }
-    let task = memory::task_of(word) as usize;
-    if memory::u8_at(status, task) == 2 {
-        return memory::value_of(word);
-    }
-    let place = 8 * task + (memory::count_of(word) as usize);
-    memory::u32_at(saves, place)
-}
-
-// The current value of a cell.
-fn contents(cells: &[u64; 48], status: &[u8; 8], saves: &[u32; 64], cell: usize) -> u32
+// The current value of a cell that there is.
+fn contents(memory: &Memory, cell: usize) -> u32
     requires { ⌜ cell < 48 ⌝ }
-    ensures { λ r. ⌜ r ≡ currentOf (memoryOf (now (cells .entry)) (now (status .entry)) (now (saves .entry)) []) cell ⌝ }
+    ensures { λ r. ⌜ r ≡ currentOf (memoryOf (shared (now (memory .entry)))) cell ⌝ }
 {
-    current(status, saves, memory::u64_at(cells, cell))
+    // The proof learns an array's length from its slice.
+    let _whole: &[u32] = memory;
+    read::current(memory, cell)
 }
 
-fn word_lines(
-    buffer: &mut [u8],
-    place: usize,
-    cells: &[u64; 48],
-    status: &[u8; 8],
-    saves: &[u32; 64],
-    words: usize,
-) -> usize
-    requires { ⌜ (words ≤ 32) × (place + 24 * words ≤ farthest) ⌝ }
-    ensures { λ r. ⌜ Written (24 * words) (lines words 0 (wordLine (memoryOf (now (cells .entry)) (now (status .entry)) (now (saves .entry)) []))) (now (buffer .entry)) (now (buffer .exit)) place r ⌝ }
+fn word_lines(buffer: &mut [u8], place: usize, memory: &Memory, words: usize) -> usize
+    requires { ⌜ (words ≤ maxWords) × (place + 24 * words ≤ farthest) ⌝ }
+    ensures { λ r. ⌜ Written (24 * words) (lines words 0 (wordLine (memoryOf (shared (now (memory .entry))))))
+        (now (buffer .entry)) (now (buffer .exit)) place r ⌝ }
 {
     let mut next = place;
     let mut w = 0;
     while w < words {
-        let value = contents(cells, status, saves, w);
+        let value = contents(memory, w);
         next = text::pair_line(&mut *buffer, next, b'W', w as u32, value);
         w += 1;
     }
@@ -67,89 +71,64 @@ fn word_lines(
 }
 
 // The values of a block store; a store that there is not has none.
-fn store_fields(buffer: &mut [u8], place: usize, stores: &[u32; 384], store: usize) -> usize
+fn store_fields(buffer: &mut [u8], place: usize, memory: &Memory, store: u32) -> usize
     requires { ⌜ place + 89 ≤ farthest ⌝ }
-    ensures { λ r. ⌜ Written 89 (fields (at [] (rows 8 48 (now (stores .entry))) store)) (now (buffer .entry)) (now (buffer .exit)) place r ⌝ }
+    ensures { λ r. ⌜ Written 89 (fields (at [] (memoryOf (shared (now (memory .entry))) .stores) store))
+        (now (buffer .entry)) (now (buffer .exit)) place r ⌝ }
 {
-    if store < 48 {
-        return text::fields(&mut *buffer, place, stores, 8 * store, 8);
+    if store < STORES {
+        let values = shared::stores(memory);
+        return text::fields(&mut *buffer, place, values, places::slot(store, 0), VALUES);
     }
     text::put(&mut *buffer, place, b'\n')
 }
 
 // Version and values by the bank word's current value.
-fn block_line(
-    buffer: &mut [u8],
-    place: usize,
-    cells: &[u64; 48],
-    status: &[u8; 8],
-    saves: &[u32; 64],
-    stores: &[u32; 384],
-    block: usize,
-) -> usize
-    requires { ⌜ (block < 16) × (place + 112 ≤ farthest) ⌝ }
-    ensures { λ r. ⌜ Written 112 (blockLine (memoryOf (now (cells .entry)) (now (status .entry)) (now (saves .entry)) (now (stores .entry))) block) (now (buffer .entry)) (now (buffer .exit)) place r ⌝ }
+fn block_line(buffer: &mut [u8], place: usize, memory: &Memory, block: usize) -> usize
+    requires { ⌜ (block < maxBlocks) × (place + 112 ≤ farthest) ⌝ }
+    ensures { λ r. ⌜ Written 112 (blockLine (memoryOf (shared (now (memory .entry)))) block) (now (buffer .entry)) (now (buffer .exit)) place r ⌝ }
 {
-    let bank = contents(cells, status, saves, 32 + block);
+    let bank = contents(memory, WORDS + block);
     let middle = text::head(&mut *buffer, place, b'B', block as u32);
     let next = text::field(&mut *buffer, middle, bank / 256);
-    store_fields(&mut *buffer, next, stores, (bank % 256) as usize)
+    store_fields(&mut *buffer, next, memory, bank % 256)
 }
 
-fn block_lines(
-    buffer: &mut [u8],
-    place: usize,
-    cells: &[u64; 48],
-    status: &[u8; 8],
-    saves: &[u32; 64],
-    stores: &[u32; 384],
-    blocks: usize,
-) -> usize
-    requires { ⌜ (blocks ≤ 16) × (place + 112 * blocks ≤ farthest) ⌝ }
-    ensures { λ r. ⌜ Written (112 * blocks) (lines blocks 0 (blockLine (memoryOf (now (cells .entry)) (now (status .entry)) (now (saves .entry)) (now (stores .entry))))) (now (buffer .entry)) (now (buffer .exit)) place r ⌝ }
+fn block_lines(buffer: &mut [u8], place: usize, memory: &Memory, blocks: usize) -> usize
+    requires { ⌜ (blocks ≤ maxBlocks) × (place + 112 * blocks ≤ farthest) ⌝ }
+    ensures { λ r. ⌜ Written (112 * blocks) (lines blocks 0 (blockLine (memoryOf (shared (now (memory .entry))))))
+        (now (buffer .entry)) (now (buffer .exit)) place r ⌝ }
 {
     let mut next = place;
     let mut b = 0;
     while b < blocks {
-        next = block_line(&mut *buffer, next, cells, status, saves, stores, b);
+        next = block_line(&mut *buffer, next, memory, b);
         b += 1;
     }
     next
 }
 
-// How many counts of a task's row its T line shows.
-const SHOWN: usize = 4;
-
 // The T line and the R line of a task.
-fn task_line(
-    buffer: &mut [u8],
-    place: usize,
-    registers: &[u32; 64],
-    counts: &[u32; 64],
-    task: usize,
-) -> usize
-    requires { ⌜ (task < 8) × (place + 158 ≤ farthest) ⌝ }
-    ensures { λ r. ⌜ Written 158 (taskLinesOf (now (registers .entry)) (now (counts .entry)) task) (now (buffer .entry)) (now (buffer .exit)) place r ⌝ }
+fn task_line(buffer: &mut [u8], place: usize, tasks: &[Task; 8], p: usize) -> usize
+    requires { ⌜ (p < maxTasks) × (place + 158 ≤ farthest) ⌝ }
+    ensures { λ r. ⌜ Written 158 (taskLinesOf (map own (now (tasks .entry))) p) (now (buffer .entry)) (now (buffer .exit)) place r ⌝ }
 {
-    let row = 8 * task;
-    let next = text::row_line(&mut *buffer, place, b'T', task as u32, counts, row, SHOWN);
-    text::row_line(&mut *buffer, next, b'R', task as u32, registers, row, 8)
+    let task = &tasks[p];
+    let counts = task::counts(task);
+    let next = text::row_line(&mut *buffer, place, b'T', p as u32, counts, SHOWN);
+    let registers = task::registers(task);
+    text::row_line(&mut *buffer, next, b'R', p as u32, registers, REGISTERS)
 }
 
-fn task_lines(
-    buffer: &mut [u8],
-    place: usize,
-    registers: &[u32; 64],
-    counts: &[u32; 64],
-    tasks: usize,
-) -> usize
-    requires { ⌜ (tasks ≤ 8) × (place + 158 * tasks ≤ farthest) ⌝ }
-    ensures { λ r. ⌜ Written (158 * tasks) (lines tasks 0 (taskLinesOf (now (registers .entry)) (now (counts .entry)))) (now (buffer .entry)) (now (buffer .exit)) place r ⌝ }
+fn task_lines(buffer: &mut [u8], place: usize, tasks: &[Task; 8], count: usize) -> usize
+    requires { ⌜ (count ≤ maxTasks) × (place + 158 * count ≤ farthest) ⌝ }
+    ensures { λ r. ⌜ Written (158 * count) (lines count 0 (taskLinesOf (map own (now (tasks .entry)))))
+        (now (buffer .entry)) (now (buffer .exit)) place r ⌝ }
 {
     let mut next = place;
     let mut p = 0;
-    while p < tasks {
-        next = task_line(&mut *buffer, next, registers, counts, p);
+    while p < count {
+        next = task_line(&mut *buffer, next, tasks, p);
         p += 1;
     }
     next
@@ -165,69 +144,27 @@ fn at_most(n: usize, ceiling: usize) -> usize
 }
 
 // The whole report, as far as the buffer goes.
-fn write(
-    buffer: &mut [u8],
-    cells: &[u64; 48],
-    status: &[u8; 8],
-    saves: &[u32; 64],
-    stores: &[u32; 384],
-    registers: &[u32; 64],
-    counts: &[u32; 64],
-    totals: Totals,
-) -> usize
-    ensures { λ r. ⌜ Written 3848 (reportText (now (cells .entry)) (now (status .entry)) (now (saves .entry)) (now (stores .entry)) (now (registers .entry)) (now (counts .entry)) totals) (now (buffer .entry)) (now (buffer .exit)) 0 r ⌝ }
+fn write(buffer: &mut [u8], memory: &Memory, tasks: &[Task; 8], totals: Totals) -> usize
+    ensures { λ r. ⌜ Written 3848 (reportText (shared (now (memory .entry))) (map own (now (tasks .entry))) totals)
+        (now (buffer .entry)) (now (buffer .exit)) 0 r ⌝ }
 {
-    let words = at_most(totals.words, 32);
-    let blocks = at_most(totals.blocks, 16);
-    let tasks = at_most(totals.tasks, 8);
-    let after_words = word_lines(&mut *buffer, 0, cells, status, saves, words);
-    let after_blocks = block_lines(
-        &mut *buffer,
-        after_words,
-        cells,
-        status,
-        saves,
-        stores,
-        blocks,
-    );
-    let after_tasks = task_lines(&mut *buffer, after_blocks, registers, counts, tasks);
+    let words = at_most(totals.words, WORDS);
+    let blocks = at_most(totals.blocks, BLOCKS);
+    let count = at_most(totals.tasks, TASKS);
+    let after_words = word_lines(&mut *buffer, 0, memory, words);
+    let after_blocks = block_lines(&mut *buffer, after_words, memory, blocks);
+    let after_tasks = task_lines(&mut *buffer, after_blocks, tasks, count);
     text::pair_line(&mut *buffer, after_tasks, b'E', totals.now, totals.dropped)
 }
 
 // The report's length. If the buffer is as long, the report stands at its start, and nothing else in it is changed; if not, nothing is.
-pub fn report(
-    cells: &[u64; 48],
-    status: &[u8; 8],
-    saves: &[u32; 64],
-    stores: &[u32; 384],
-    registers: &[u32; 64],
-    counts: &[u32; 64],
-    totals: Totals,
-    buffer: &mut [u8],
-) -> usize
-    ensures { λ r. ⌜ Reported (reportText (now (cells .entry)) (now (status .entry)) (now (saves .entry)) (now (stores .entry)) (now (registers .entry)) (now (counts .entry)) totals) (now (buffer .entry)) (now (buffer .exit)) r ⌝ }
+pub fn report(memory: &Memory, tasks: &[Task; 8], totals: Totals, buffer: &mut [u8]) -> usize
+    ensures { λ r. ⌜ Reported (reportText (shared (now (memory .entry))) (map own (now (tasks .entry))) totals)
+        (now (buffer .entry)) (now (buffer .exit)) r ⌝ }
 {
-    let needed = write(
-        &mut buffer[..0],
-        cells,
-        status,
-        saves,
-        stores,
-        registers,
-        counts,
-        totals,
-    );
+    let needed = write(&mut buffer[..0], memory, tasks, totals);
     if needed <= buffer.len() {
-        return write(
-            &mut *buffer,
-            cells,
-            status,
-            saves,
-            stores,
-            registers,
-            counts,
-            totals,
-        );
+        return write(&mut *buffer, memory, tasks, totals);
     }
     needed
 }

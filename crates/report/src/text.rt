@@ -2,17 +2,26 @@
 ghost use mathlib.Core.Path.{_≡_};
 ghost use mathlib.Core.List.{[], _∷_};
 ghost use Prim.Native.Nat.{_+_, _*_, _≤_, _<_};
-ghost use lib.ListN.{length, take, drop};
+ghost use lib.ListN.{length, set, take, drop};
 ghost use Rattle.model.specs.Report.{decimal, fields, line};
 ghost use Rattle.report.specs.Writing.{Written, farthest};
 
 // Past the buffer's end nothing is written.
+fn store(buffer: &mut [u8], place: usize, byte: u8)
+    ensures { λ r. ⌜ now (buffer .exit) ≡ set (now (buffer .entry)) place byte ⌝ }
+{
+    if place < buffer.len() {
+        buffer[place] = byte;
+        return;
+    }
+}
+
 pub fn put(buffer: &mut [u8], place: usize, byte: u8) -> usize
     requires { ⌜ place + 1 ≤ farthest ⌝ }
     ensures { λ r. ⌜ Written 1 (byte ∷ []) (now (buffer .entry)) (now (buffer .exit)) place r ⌝ }
 {
     let next = place + 1;
-    memory::set_u8(&mut *buffer, place, byte);
+    store(&mut *buffer, place, byte);
     next
 }
 
@@ -66,12 +75,13 @@ pub fn field(buffer: &mut [u8], place: usize, value: u32) -> usize
 // The numbers of a line, `count` of the values from `start` on, and the line's end.
 pub fn fields(buffer: &mut [u8], place: usize, values: &[u32], start: usize, count: usize) -> usize
     requires { ⌜ (start + count ≤ length (now values)) × (place + (11 * count + 1) ≤ farthest) ⌝ }
-    ensures { λ r. ⌜ Written (11 * count + 1) (fields (take count (drop start (now (values .entry))))) (now (buffer .entry)) (now (buffer .exit)) place r ⌝ }
+    ensures { λ r. ⌜ Written (11 * count + 1) (fields (take count (drop start (now (values .entry)))))
+        (now (buffer .entry)) (now (buffer .exit)) place r ⌝ }
 {
     let mut next = place;
     let mut i = 0;
     while i < count {
-        next = field(&mut *buffer, next, memory::u32_at(values, start + i));
+        next = field(&mut *buffer, next, values[start + i]);
         i += 1;
     }
     put(&mut *buffer, next, b'\n')
@@ -96,19 +106,19 @@ pub fn pair_line(buffer: &mut [u8], place: usize, letter: u8, first: u32, second
     put(&mut *buffer, end, b'\n')
 }
 
-// A line of a number and `count` of the values from `start` on.
+// A line of a number and the first `count` of the values.
 pub fn row_line(
     buffer: &mut [u8],
     place: usize,
     letter: u8,
     first: u32,
     values: &[u32],
-    start: usize,
     count: usize,
 ) -> usize
-    requires { ⌜ (start + count ≤ length (now values)) × (place + (11 * count + 13) ≤ farthest) ⌝ }
-    ensures { λ r. ⌜ Written (11 * count + 13) (line letter (first ∷ take count (drop start (now (values .entry))))) (now (buffer .entry)) (now (buffer .exit)) place r ⌝ }
+    requires { ⌜ (count ≤ length (now values)) × (place + (11 * count + 13) ≤ farthest) ⌝ }
+    ensures { λ r. ⌜ Written (11 * count + 13) (line letter (first ∷ take count (now (values .entry))))
+        (now (buffer .entry)) (now (buffer .exit)) place r ⌝ }
 {
     let next = head(&mut *buffer, place, letter, first);
-    fields(&mut *buffer, next, values, start, count)
+    fields(&mut *buffer, next, values, 0, count)
 }

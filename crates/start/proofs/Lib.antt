@@ -1,2 +1,5 @@
-pub mod Start
-pub mod Arrays
+pub mod Lists
+pub mod Declaring
+pub mod Stores
+pub mod Loops
+pub mod Numbers

@@ -1,44 +1,26 @@
--- The start of a run, number by number: what each cell and each place of the block stores holds.
-use Prim.Native.Nat.{ℕ, _+_, _*_, _-_, _/_, _%_}
-use mathlib.Core.Bool.{Bool, true, false}
-use lib.Dec.{ltb}
-use lib.ListN.{length}
-use mathlib.Core.List.{[]}
-use Rattle.model.specs.Lists.{at}
-use Rattle.model.specs.Command.{Block}
+-- What the two records hold at the start of a run.
+use Prim.Native.Nat.{ℕ, _<_}
+use mathlib.Core.Path.{_≡_}
+use mathlib.Core.List.{List, []}
+use lib.ListN.{length, getD}
 use Rattle.model.specs.Sheet.{Sheet}
-use Rattle.model.specs.Transaction.{bankValue}
+use Rattle.model.specs.Machine.{zeros, copiesOf, startMemory}
+use Rattle.state.specs.State.{Shared, Own, own}
+use Rattle.state.specs.Sized.{SharedSized, OwnSized}
+use Rattle.state.specs.Held.{memoryOf}
 
-abbrev noBlock : Block
-noBlock = record { version = 0; values = [] }
+-- the model's memory at the start of a sheet
+pub record SharedStarts (s : Sheet) (m : Shared) : Type 0 where
+  pub memory : memoryOf m ≡ startMemory s
+  pub sized : SharedSized m
 
-abbrev pub blockOf : Sheet → ℕ → Block
-blockOf s b = at noBlock (s .blocks) b
+-- task p has no job yet, and its copies
+pub record OwnStarts (p : ℕ) (t : Own) : Type 0 where
+  pub registers : t .registers ≡ zeros 8
+  pub copies : t .copies ≡ copiesOf p
+  pub counts : t .counts ≡ zeros 8
+  pub sized : OwnSized t
 
--- with N tasks, the store of block b is 4N + b
-abbrev pub storeOfBlock : Sheet → ℕ → ℕ
-storeOfBlock s b = 4 * length (s .bodies) + b
-
--- by: the block is declared
-abbrev pub bankBy : Bool → Sheet → ℕ → ℕ
-bankBy true s b = bankValue (blockOf s b .version) (storeOfBlock s b)
-bankBy false s b = 0
-
-abbrev pub bankStart : Sheet → ℕ → ℕ
-bankStart s b = bankBy (ltb b (length (s .blocks))) s b
-
--- by: the cell is a word
-abbrev pub cellBy : Bool → Sheet → ℕ → ℕ
-cellBy true s c = at 0 (s .words) c
-cellBy false s c = bankStart s (c - 32)
-
-unfoldable pub cellStart : Sheet → ℕ → ℕ
-cellStart s c = cellBy (ltb c 32) s c
-
--- by: the place lies in the tasks' copies
-abbrev pub storedBy : Bool → Sheet → ℕ → ℕ
-storedBy true s n = 0
-storedBy false s n = at 0 (blockOf s (n / 8 - 4 * length (s .bodies)) .values) (n % 8)
-
-unfoldable pub storedStart : Sheet → ℕ → ℕ
-storedStart s n = storedBy (ltb (n / 8) (4 * length (s .bodies))) s n
+pub record TasksStart (ts : List Own) : Type 0 where
+  pub size : length ts ≡ 8
+  pub each : (p : ℕ) → p < 8 → OwnStarts p (getD ts p (own []))

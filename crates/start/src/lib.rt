@@ -1,13 +1,28 @@
-// The arrays at the start of a run of an accepted sheet: cells, block stores and copies. The values are read where they stand in the sheet.
+// The two records at the start of a run of an accepted sheet: what all tasks share, and each task's own. The start is that of a sheet
+// which declares nothing; then the words and the blocks of the sheet are set one after another.
 ghost use mathlib.Core.Path.{_≡_};
-ghost use Prim.Native.Nat.{_<_, _≤_};
-ghost use Rattle.model.specs.Lists.{at};
+ghost use mathlib.Core.List.{map};
+ghost use Prim.Native.Nat.{_+_, _<_};
 ghost use Rattle.model.specs.Sheet.{sheetOf};
 ghost use Rattle.model.specs.Word.{freshWord};
-ghost use Rattle.memory.specs.Packed.{unpack};
-ghost use Rattle.start.specs.Start.{bankStart, cellStart, storedStart};
-ghost use Rattle.start.specs.Contract.{Counted, Cells, Stores, Copies};
-use memory::Word;
+ghost use Rattle.state.specs.Packed.{unpack};
+ghost use Rattle.state.specs.State.{shared, own};
+ghost use Rattle.start.specs.Start.{SharedStarts, OwnStarts, TasksStart};
+ghost use Rattle.start.specs.Declaring.{Counted, nothing, declaring, NextBlock, Before, Stored};
+use state::Memory;
+use state::Task;
+use state::Word;
+
+// The banks' cells stand after those of the words.
+const WORDS: usize = 32;
+
+const CELLS: usize = 48;
+
+const VALUES: usize = 8;
+
+const TASKS: usize = 8;
+
+const COPIES: usize = 4;
 
 // How many words, blocks and tasks the sheet declares.
 pub struct Counts {
@@ -16,123 +31,107 @@ pub struct Counts {
     pub tasks: usize,
 }
 
-// The value of a word, 0 if the sheet does not declare it.
-fn word_start(sheet: &[u8], n: Counts, w: usize) -> u32
-    requires { ⌜ Counted (now sheet) n ⌝ }
-    ensures { λ r. ⌜ r ≡ at 0 (sheetOf (now (sheet .entry)) .words) w ⌝ }
-{
-    if w < n.words {
-        return sheet::index::word(sheet, w);
-    }
-    0
-}
-
-// The value of a block's bank word: version and store.
-fn bank_start(sheet: &[u8], n: Counts, b: usize) -> u32
-    requires { ⌜ Counted (now sheet) n ⌝ }
-    ensures { λ r. ⌜ r ≡ bankStart (sheetOf (now (sheet .entry))) b ⌝ }
-{
-    if b < n.blocks {
-        let store = (4 * n.tasks + b) as u32;
-        return sheet::index::version(sheet, n.words, b) * 256 + store;
-    }
-    0
-}
-
-fn packed_fresh(value: u32) -> u64
+fn fresh_cell(value: u32) -> u64
     ensures { λ r. ⌜ unpack r ≡ freshWord value ⌝ }
 {
     Word::fresh(value).pack()
 }
 
-fn cell_start(sheet: &[u8], n: Counts, c: usize) -> u64
-    requires { ⌜ Counted (now sheet) n ⌝ }
-    ensures { λ r. ⌜ unpack r ≡ freshWord (cellStart (sheetOf (now (sheet .entry))) c) ⌝ }
+// Every cell holds a fresh word, all else is 0.
+fn blank() -> Memory
+    ensures { λ r. ⌜ SharedStarts nothing (shared r) ⌝ }
 {
-    if c < 32 {
-        return packed_fresh(word_start(sheet, n, c));
-    }
-    packed_fresh(bank_start(sheet, n, c - 32))
-}
-
-pub fn cells(sheet: &[u8], n: Counts) -> [u64; 48]
-    requires { ⌜ Counted (now sheet) n ⌝ }
-    ensures { λ r. ⌜ Cells (now (sheet .entry)) r ⌝ }
-{
-    let mut cells = [0u64; 48];
+    let word = fresh_cell(0);
+    let mut memory = [0u32; 552];
     let mut c = 0;
-    while c < 48 {
-        cells[c] = cell_start(sheet, n, c);
+    while c < CELLS {
+        state::shared::set_cell(&mut memory, c, word);
         c += 1;
     }
-    cells
+    memory
 }
 
-// The value at a place of the block stores; the tasks' copies stand before the blocks' stores.
-fn stored_start(sheet: &[u8], n: Counts, i: usize) -> u32
+fn set_words(sheet: &[u8], n: Counts, memory: &mut Memory)
     requires { ⌜ Counted (now sheet) n ⌝ }
-    ensures { λ r. ⌜ r ≡ storedStart (sheetOf (now (sheet .entry))) i ⌝ }
+    requires { ⌜ SharedStarts (declaring (sheetOf (now sheet)) 0 0) (shared (now memory)) ⌝ }
+    ensures { λ r. ⌜ SharedStarts (declaring (sheetOf (now (sheet .entry))) (n .words) 0) (shared (now (memory .exit))) ⌝ }
 {
-    let store = i / 8;
-    if store < 4 * n.tasks {
-        return 0;
+    let mut w = 0;
+    while w < n.words {
+        let cell = fresh_cell(sheet::index::word(sheet, w));
+        state::shared::set_cell(&mut *memory, w, cell);
+        w += 1;
     }
-    let b = store - 4 * n.tasks;
-    if b < n.blocks {
-        return commands::value4(sheet, 5 * n.words + 37 * b + 5 + 4 * (i % 8));
-    }
-    0
 }
 
-pub fn stores(sheet: &[u8], n: Counts) -> [u32; 384]
+fn set_store(memory: &mut Memory, store: usize, values: [u32; VALUES])
+    requires { ⌜ Before (shared (now memory)) store values ⌝ }
+    ensures { λ r. ⌜ Stored (shared (now (memory .entry))) store values (shared (now (memory .exit))) ⌝ }
+{
+    let mut k = 0;
+    while k < VALUES {
+        state::shared::set_value(&mut *memory, VALUES * store + k, values[k]);
+        k += 1;
+    }
+}
+
+// The bank word of block b holds its version and its store, and the store its values. With N tasks the store is 4N + b.
+fn set_block(sheet: &[u8], n: Counts, memory: &mut Memory, b: usize)
+    requires { ⌜ NextBlock (now sheet) n (shared (now memory)) b ⌝ }
+    ensures { λ r. ⌜ SharedStarts (declaring (sheetOf (now (sheet .entry))) (n .words) (b + 1)) (shared (now (memory .exit))) ⌝ }
+{
+    let store = COPIES * n.tasks + b;
+    let version = sheet::index::version(sheet, n.words, b);
+    let cell = fresh_cell(version * 256 + store as u32);
+    state::shared::set_cell(&mut *memory, WORDS + b, cell);
+    let values = sheet::index::block_values(sheet, n.words, b);
+    set_store(&mut *memory, store, values);
+}
+
+fn set_blocks(sheet: &[u8], n: Counts, memory: &mut Memory)
     requires { ⌜ Counted (now sheet) n ⌝ }
-    ensures { λ r. ⌜ Stores (now (sheet .entry)) r ⌝ }
+    requires { ⌜ SharedStarts (declaring (sheetOf (now sheet)) (n .words) 0) (shared (now memory)) ⌝ }
+    ensures { λ r. ⌜ SharedStarts (declaring (sheetOf (now (sheet .entry))) (n .words) (n .blocks)) (shared (now (memory .exit))) ⌝ }
 {
-    let mut stores = [0u32; 384];
-    let mut i = 0;
-    while i < 384 {
-        stores[i] = stored_start(sheet, n, i);
-        i += 1;
+    let mut b = 0;
+    while b < n.blocks {
+        set_block(sheet, n, &mut *memory, b);
+        b += 1;
     }
-    stores
 }
 
-// With N tasks, task p has block stores 4p to 4p + 3 as copies.
-pub fn copies() -> [u8; 32]
-    ensures { λ r. ⌜ Copies r ⌝ }
+pub fn memory(sheet: &[u8], n: Counts) -> Memory
+    requires { ⌜ Counted (now sheet) n ⌝ }
+    ensures { λ r. ⌜ SharedStarts (sheetOf (now (sheet .entry))) (shared r) ⌝ }
 {
-    [
-        0,
-        1,
-        2,
-        3,
-        4,
-        5,
-        6,
-        7,
-        8,
-        9,
-        10,
-        11,
-        12,
-        13,
-        14,
-        15,
-        16,
-        17,
-        18,
-        19,
-        20,
-        21,
-        22,
-        23,
-        24,
-        25,
-        26,
-        27,
-        28,
-        29,
-        30,
-        31,
-    ]
+    let mut memory = blank();
+    set_words(sheet, n, &mut memory);
+    set_blocks(sheet, n, &mut memory);
+    memory
+}
+
+// Task p has the stores 4p to 4p + 3 as copies, and nothing else yet.
+fn own_start(p: usize) -> Task
+    requires { ⌜ p < 8 ⌝ }
+    ensures { λ r. ⌜ OwnStarts p (own r) ⌝ }
+{
+    let mut task = [0u32; 108];
+    let mut k = 0;
+    while k < COPIES {
+        state::task::set_copy(&mut task, k, (COPIES * p + k) as u32);
+        k += 1;
+    }
+    task
+}
+
+pub fn tasks() -> [Task; TASKS]
+    ensures { λ r. ⌜ TasksStart (map own r) ⌝ }
+{
+    let mut tasks = [[0u32; 108]; TASKS];
+    let mut p = 0;
+    while p < TASKS {
+        tasks[p] = own_start(p);
+        p += 1;
+    }
+    tasks
 }

@@ -42,6 +42,15 @@ module _ {A : Type 0} where
   unfolding row
   length-row n p l h = simp (length-take, length-drop) (omega arith)
 
+  length-rowsFrom : (n p k : ℕ) (l : List A) → length (rowsFrom n p k l) ≡ k
+  unfolding rowsFrom
+  length-rowsFrom n p zero l = refl
+  length-rowsFrom n p (suc k) l = ap suc (length-rowsFrom n (suc p) k l)
+
+  pub length-rows : (n k : ℕ) (l : List A) → length (rows n k l) ≡ k
+  unfolding rows
+  length-rows n k l = length-rowsFrom n 0 k l
+
   at-rowsFrom : (n p k i : ℕ) (l : List A) → i < k → at [] (rowsFrom n p k l) i ≡ row n (p + i) l
   unfolding at rowsFrom
   at-rowsFrom n p zero i l h = absurd (omega arith)

@@ -93,6 +93,15 @@ fn set_number_in(s: &mut [u32], o: usize, n: usize, i: usize, v: u32)
     }
 }
 
+// The n elements from place o on, all at once.
+fn part_in(s: &[u32], o: usize, n: usize) -> &[u32]
+    requires { ⌜ o + n ≤ length (now s) ⌝ }
+    ensures { λ r. ⌜ now r ≡ part o n (now (s .entry)) ⌝ }
+{
+    let end = o + n;
+    &s[o..end]
+}
+
 fn joined(low: u32, high: u32) -> u64
     ensures { λ r. ⌜ r ≡ low + 4294967296 * high ⌝ }
 {

@@ -1,5 +1,6 @@
 // What all tasks share: 48 cells of a word each, 8 status, 64 save places, 48 stores of eight values.
 ghost use mathlib.Core.Path.{_≡_};
+ghost use lib.ListN.{length};
 ghost use Rattle.model.specs.Lists.{at};
 use crate::Memory;
 ghost use Rattle.state.specs.State.{shared, setCell, setStatus, setSave, setValue};
@@ -50,4 +51,10 @@ pub fn set_value(memory: &mut Memory, i: usize, v: u32)
     ensures { λ r. ⌜ shared (now (memory .exit)) ≡ setValue (shared (now (memory .entry))) i v ⌝ }
 {
     crate::set_number_in(memory, 168, 384, i, v);
+}
+
+pub fn stores(memory: &Memory) -> &[u32]
+    ensures { λ r. ⌜ (now r ≡ shared (now (memory .entry)) .stores) × (length (now r) ≡ 384) ⌝ }
+{
+    crate::part_in(memory, 168, 384)
 }

@@ -1,6 +1,7 @@
 // One task's own record: 8 registers, 8 that BEGIN kept, 4 copy stores; 8 entries of an exchange, each a target cell, old and new value,
 // the word loaded and whether that was overlapped; 16 blocks, each how it was touched and the bank word remembered; 8 counts.
 ghost use mathlib.Core.Path.{_≡_};
+ghost use lib.ListN.{length};
 ghost use Rattle.model.specs.Lists.{at};
 use crate::Task;
 ghost use Rattle.state.specs.State.{own, setRegister, setKept, setCopy, setTarget, setOld, setNew};
@@ -16,6 +17,12 @@ pub fn set_register(task: &mut Task, i: u8, v: u32)
     ensures { λ r. ⌜ own (now (task .exit)) ≡ setRegister (own (now (task .entry))) i v ⌝ }
 {
     crate::set_number_in(task, 0, 8, i as usize, v);
+}
+
+pub fn registers(task: &Task) -> &[u32]
+    ensures { λ r. ⌜ (now r ≡ own (now (task .entry)) .registers) × (length (now r) ≡ 8) ⌝ }
+{
+    crate::part_in(task, 0, 8)
 }
 
 pub fn kept(task: &Task, i: u8) -> u32
@@ -136,4 +143,10 @@ pub fn set_count(task: &mut Task, i: u8, v: u32)
     ensures { λ r. ⌜ own (now (task .exit)) ≡ setCount (own (now (task .entry))) i v ⌝ }
 {
     crate::set_number_in(task, 100, 8, i as usize, v);
+}
+
+pub fn counts(task: &Task) -> &[u32]
+    ensures { λ r. ⌜ (now r ≡ own (now (task .entry)) .counts) × (length (now r) ≡ 8) ⌝ }
+{
+    crate::part_in(task, 100, 8)
 }

@@ -1,4 +1,3 @@
-// One statement of a task: by the phase of its job, outside and inside a transaction.
-pub mod inside;
-pub mod outside;
+// One statement of a task: it takes up a command, or goes on inside one.
+pub mod begin;
 pub mod step;

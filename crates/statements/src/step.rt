@@ -1,15 +1,17 @@
-// One statement of a task, by the phase of its job.
+// A statement inside a command, by the phase of its job.
 ghost use mathlib.Core.Path.{_≡_};
-ghost use Rattle.statements.specs.Statements.{arrays, turn, exchangeStep, otherTick, statement};
-use crate::inside;
-use crate::outside;
+ghost use Rattle.state.specs.State.{shared, own};
+ghost use Rattle.exchanges.specs.Places.{left};
+ghost use Rattle.statements.specs.Statements.{transactTick, otherTick, exchangeStep, stepTick};
 use exchanges::exchange;
 use exchanges::exchange::Step;
-use exchanges::places;
 use exchanges::read;
 use jobs::Inner;
 use jobs::Job;
 use jobs::Phase;
+use state::Memory;
+use state::Task;
+use transactions::accesses;
 use transactions::commits;
 
 // Whether a job is at a step of an exchange, of SWAP or of COMMIT.
@@ -36,28 +38,34 @@ fn exchange_step(phase: Phase) -> Exchanging
     }
 }
 
+// A statement inside a transaction that is not its exchange's.
+fn transact(memory: &mut Memory, task: &mut Task, job: Job, inner: Inner) -> Job
+    ensures { λ r. ⌜ left r (shared (now (memory .exit))) (own (now (task .exit))) ≡ transactTick (shared (now (memory .entry))) (own (now (task .entry))) job inner ⌝ }
+{
+    match inner {
+        Inner::Between => {
+            return job;
+        }
+        Inner::First(access, step) => {
+            let read = read::read_tick(&*memory, accesses::bank(accesses::block(access)), step);
+            return accesses::first_read(&mut *task, job, access, read);
+        }
+        Inner::Copying(access, n) => {
+            return accesses::copy(&mut *memory, &*task, job, access, n);
+        }
+        Inner::Again(access, value, step) => {
+            let read = read::read_tick(&*memory, accesses::bank(accesses::block(access)), step);
+            return accesses::again_read(&mut *task, job, access, value, read);
+        }
+        Inner::Committing(_) => {
+            return job;
+        }
+    }
+}
+
 // A statement that is no exchange's.
-fn other(
-    sheet: &[u8],
-    cells: &[u64; 48],
-    status: &mut [u8; 8],
-    saves: &[u32; 64],
-    stores: &mut [u32; 384],
-    registers: &mut [u32; 64],
-    kept: &mut [u32; 64],
-    copies: &[u8; 32],
-    names: &mut [u8; 64],
-    olds: &mut [u32; 64],
-    news: &mut [u32; 64],
-    inits: &mut [u64; 64],
-    overlapped: &mut [u8; 64],
-    kinds: &mut [u8; 128],
-    remembered: &mut [u32; 128],
-    counts: &mut [u32; 64],
-    p: u8,
-    job: Job,
-) -> Job
-    ensures { λ r. ⌜ turn r (arrays (now (cells .entry)) (now (status .exit)) (now (saves .entry)) (now (stores .exit)) (now (registers .exit)) (now (kept .exit)) (now (copies .entry)) (now (names .exit)) (now (olds .exit)) (now (news .exit)) (now (inits .exit)) (now (overlapped .exit)) (now (kinds .exit)) (now (remembered .exit)) (now (counts .exit))) ≡ otherTick (now (sheet .entry)) (arrays (now (cells .entry)) (now (status .entry)) (now (saves .entry)) (now (stores .entry)) (now (registers .entry)) (now (kept .entry)) (now (copies .entry)) (now (names .entry)) (now (olds .entry)) (now (news .entry)) (now (inits .entry)) (now (overlapped .entry)) (now (kinds .entry)) (now (remembered .entry)) (now (counts .entry))) p job (job .phase) ⌝ }
+fn other(memory: &mut Memory, task: &mut Task, job: Job) -> Job
+    ensures { λ r. ⌜ left r (shared (now (memory .exit))) (own (now (task .exit))) ≡ otherTick (shared (now (memory .entry))) (own (now (task .entry))) job (job .phase) ⌝ }
 {
     let phase = job.phase;
     match phase {
@@ -65,151 +73,40 @@ fn other(
             return job;
         }
         Phase::Plain => {
-            return outside::plain(
-                sheet,
-                cells,
-                &mut *status,
-                saves,
-                &*stores,
-                &mut *registers,
-                &mut *kept,
-                copies,
-                &mut *names,
-                &mut *olds,
-                &mut *news,
-                &mut *inits,
-                &mut *overlapped,
-                &mut *kinds,
-                &*remembered,
-                &mut *counts,
-                p,
-                job,
-            );
+            return job;
         }
         Phase::Read(register, word, step) => {
-            let read = read::read_tick(cells, &*status, saves, places::wide(word), step);
-            return jobs::read_by(
-                sheet,
-                &mut *registers,
-                &mut *counts,
-                p,
-                job,
-                register,
-                word,
-                read,
-            );
+            let read = read::read_tick(&*memory, word as usize, step);
+            return jobs::read_by(&mut *task, job, register, word, read);
         }
         Phase::Exchange(_, _) => {
             return job;
         }
         Phase::Transaction(inner) => {
-            return inside::transact(
-                sheet,
-                cells,
-                &*status,
-                saves,
-                &mut *stores,
-                &mut *registers,
-                &*kept,
-                copies,
-                &mut *names,
-                &mut *olds,
-                &mut *news,
-                &mut *inits,
-                &mut *overlapped,
-                &mut *kinds,
-                &mut *remembered,
-                &mut *counts,
-                p,
-                job,
-                inner,
-            );
+            return transact(&mut *memory, &mut *task, job, inner);
         }
     }
 }
 
-// One statement of task p. Both exchanges are done in one place, so that their code stands there once.
-pub fn step(
-    sheet: &[u8],
-    cells: &mut [u64; 48],
-    status: &mut [u8; 8],
-    saves: &mut [u32; 64],
-    stores: &mut [u32; 384],
-    registers: &mut [u32; 64],
-    kept: &mut [u32; 64],
-    copies: &mut [u8; 32],
-    names: &mut [u8; 64],
-    olds: &mut [u32; 64],
-    news: &mut [u32; 64],
-    inits: &mut [u64; 64],
-    overlapped: &mut [u8; 64],
-    kinds: &mut [u8; 128],
-    remembered: &mut [u32; 128],
-    counts: &mut [u32; 64],
-    p: u8,
-    job: Job,
-) -> Job
-    ensures { λ r. ⌜ turn r (arrays (now (cells .exit)) (now (status .exit)) (now (saves .exit)) (now (stores .exit)) (now (registers .exit)) (now (kept .exit)) (now (copies .exit)) (now (names .exit)) (now (olds .exit)) (now (news .exit)) (now (inits .exit)) (now (overlapped .exit)) (now (kinds .exit)) (now (remembered .exit)) (now (counts .exit))) ≡ statement (now (sheet .entry)) (arrays (now (cells .entry)) (now (status .entry)) (now (saves .entry)) (now (stores .entry)) (now (registers .entry)) (now (kept .entry)) (now (copies .entry)) (now (names .entry)) (now (olds .entry)) (now (news .entry)) (now (inits .entry)) (now (overlapped .entry)) (now (kinds .entry)) (now (remembered .entry)) (now (counts .entry))) p job (job .phase) ⌝ }
+// One statement inside a command. Both exchanges are done in one place, so that their code stands there once.
+pub fn step(memory: &mut Memory, task: &mut Task, p: u8, job: Job) -> Job
+    ensures { λ r. ⌜ left r (shared (now (memory .exit))) (own (now (task .exit))) ≡ stepTick (shared (now (memory .entry))) (own (now (task .entry))) p job (job .phase) ⌝ }
 {
     let phase = job.phase;
     let at = exchange_step(phase);
     if let Exchanging::At(step) = at {
         let exchanged = exchange::exchange_tick(
-            &mut *cells,
-            &mut *status,
-            &mut *saves,
-            &*names,
-            &*olds,
-            &*news,
-            &mut *inits,
-            &mut *overlapped,
+            &mut *memory,
+            &mut *task,
             p,
             job.pairs,
             job.value,
             step,
         );
         if let Phase::Exchange(register, _) = phase {
-            return jobs::swap_by(
-                sheet,
-                &mut *registers,
-                &mut *counts,
-                p,
-                job,
-                register,
-                exchanged,
-            );
+            return jobs::swap_by(&mut *task, job, register, exchanged);
         }
-        return commits::committed_by(
-            sheet,
-            &mut *registers,
-            &*kept,
-            &mut *copies,
-            &mut *kinds,
-            &*remembered,
-            &mut *counts,
-            p,
-            job,
-            exchanged,
-        );
+        return commits::committed_by(&mut *task, job, exchanged);
     }
-    other(
-        sheet,
-        &*cells,
-        &mut *status,
-        &*saves,
-        &mut *stores,
-        &mut *registers,
-        &mut *kept,
-        &*copies,
-        &mut *names,
-        &mut *olds,
-        &mut *news,
-        &mut *inits,
-        &mut *overlapped,
-        &mut *kinds,
-        &mut *remembered,
-        &mut *counts,
-        p,
-        job,
-    )
+    other(&mut *memory, &mut *task, job)
 }

@@ -4,43 +4,21 @@ use borrow.Author.Needs.{needs}
 use Rattle.jobs.proofs.add.Statement.{statement}
 use Rattle.jobs.proofs.add.Tie as tie
 
-slot-requires : tie.Need-slot-requires
-slot-requires c κs = search needs
+register-requires : tie.Need-register-requires
+register-requires c κs = search needs
 
-slot-requires-2 : tie.Need-slot-requires-2
-slot-requires-2 c κs = search needs
-
-u32-at-requires : tie.Need-u32-at-requires
-u32-at-requires c κs = search needs
-
-u32-at-requires-2 : tie.Need-u32-at-requires-2
-u32-at-requires-2 c κs = search needs
+register-requires-2 : tie.Need-register-requires-2
+register-requires-2 c κs = search needs
 
 wrapping-add-u32-requires : tie.Need-wrapping-add-u32-requires
 wrapping-add-u32-requires c κs = search needs
 
-set-u32x64-requires : tie.Need-set-u32x64-requires
-set-u32x64-requires c κs = search needs
+set-register-requires : tie.Need-set-register-requires
+set-register-requires c κs = search needs
 
 returns : tie.Need-returns
 unfolding added
-returns c = rw (
-  ← c .before .before .before .before .before .before .before .before .before .before .slot .ensures,
-  ← c .before .before .before .before .before .before .before .before .before .slot2 .ensures,
-  ← c .before .before .before .before .before .before .u32-at .ensures,
-  ← c .before .before .before .u32-at2 .ensures,
-  ← c .before .before .wrapping-add-u32 .ensures,
-  c .set-u32x64 .ensures,
-)
+returns c = rw (← c .before .before .before .before .before .register .ensures, ← c .before .before .before .register2 .ensures, ← c .before .before .wrapping-add-u32 .ensures, c .set-register .ensures)
 
 pub add-spec : {M : Type 1} → statement M
-add-spec =
-    tie.close
-    (tie.spec
-    slot-requires
-    slot-requires-2
-    u32-at-requires
-    u32-at-requires-2
-    wrapping-add-u32-requires
-    set-u32x64-requires
-    returns)
+add-spec = tie.close (tie.spec register-requires register-requires-2 wrapping-add-u32-requires set-register-requires returns)

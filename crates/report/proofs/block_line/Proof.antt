@@ -1,7 +1,8 @@
 -- A B line: block, version, and the store's values.
 use borrow.Author.Needs.{needs}
-use Rattle.memory.specs.Held.{memoryOf}
 use Rattle.model.specs.Report.{fields}
+use Rattle.state.specs.State.{shared}
+use Rattle.state.specs.Held.{memoryOf}
 use Rattle.report.proofs.Writing.{then, as-text}
 use Rattle.report.proofs.Views.{block-text}
 use Rattle.report.proofs.block_line.Statement.{statement}
@@ -22,9 +23,6 @@ head-requires c κs = search needs
 field-requires : tie.Need-field-requires
 field-requires c κs = search needs
 
-cast-store-fields : tie.Need-cast-store-fields
-cast-store-fields c = search needs
-
 store-fields-requires : tie.Need-store-fields-requires
 store-fields-requires c κs = search needs
 
@@ -33,24 +31,11 @@ same-length c = search needs
 
 returns : tie.Need-returns
 unfolding fields
-returns c =
-    let a = c .before .before .before .before .before .before .before .before .before .before .before .before .before .before .args in
-    let m = memoryOf (a .cells .now) (a .status .now) (a .saves .now) (a .stores .now) in
-    as-text
-    (block-text m (a .block) (c .before .before .before .before .before .before .before .before .before .before .before .before .contents .ensures))
-    (search needs) (then (c .before .before .before .before .before .before .before .before .before .before .head .ensures)
-    (then (c .before .before .before .before .before .before .field .ensures) (c .before .before .store-fields .ensures)))
+returns c = let a = c .before .before .before .before .before .before .before .before .before .before .before .before .before .before .args in
+    as-text (block-text (memoryOf (shared (a .memory .now))) (a .block)
+    (c .before .before .before .before .before .before .before .before .before .before .before .before .contents .ensures)) (search needs)
+    (then (c .before .before .before .before .before .before .before .before .before .before .head .ensures) (then
+    (c .before .before .before .before .before .before .field .ensures) (c .before .before .store-fields .ensures)))
 
 pub block-line-spec : {M : Type 1} → statement M
-block-line-spec =
-    tie.close
-    (tie.spec
-    add-contents
-    contents-requires
-    cast-head
-    head-requires
-    field-requires
-    cast-store-fields
-    store-fields-requires
-    same-length
-    returns)
+block-line-spec = tie.close (tie.spec add-contents contents-requires cast-head head-requires field-requires store-fields-requires same-length returns)

@@ -30,26 +30,15 @@ same-length c = search needs
 
 returns : tie.Need-returns
 returns c =
-    whole _ _ _ _ _ _ _
-    (c .before .before .before .before .before .before .before .before .before .before .before .before .before .before .before .before .before .before
-    .at-most .ensures)
-    (c .before .before .before .before .before .before .before .before .before .before .before .before .before .before .before .before .before
-    .at-most2 .ensures)
-    (c .before .before .before .before .before .before .before .before .before .before .before .before .before .before .before .before .at-most3 .ensures)
+    whole _ _ _ (c .before .before .before .before .before .before .before .before .before .before .before .before .before .before .before .before
+    .before .before .at-most .ensures) (c .before .before .before .before .before .before .before .before .before .before .before .before .before
+    .before .before .before .before .at-most2 .ensures) (c .before .before .before .before .before .before .before .before .before .before .before
+    .before .before .before .before .before .at-most3 .ensures)
     (c .before .before .before .before .before .before .before .before .before .before .before .before .before .before .word-lines .ensures)
     (c .before .before .before .before .before .before .before .before .before .before .block-lines .ensures)
     (c .before .before .before .before .before .before .task-lines .ensures) (c .before .before .pair-line .ensures)
 
 pub write-spec : {M : Type 1} → statement M
 write-spec =
-    tie.close
-    (tie.spec
-    at-most-requires
-    at-most-requires-2
-    at-most-requires-3
-    word-lines-requires
-    block-lines-requires
-    task-lines-requires
-    pair-line-requires
-    same-length
-    returns)
+    tie.close (tie.spec at-most-requires at-most-requires-2 at-most-requires-3 word-lines-requires block-lines-requires task-lines-requires
+    pair-line-requires same-length returns)

@@ -4,15 +4,12 @@ use borrow.Author.Needs.{needs}
 use Rattle.exchanges.proofs.exchange.start.Statement.{statement}
 use Rattle.exchanges.proofs.exchange.start.Tie as tie
 
-wide-requires : tie.Need-wide-requires
-wide-requires c κs = search needs
-
-set-u8x8-requires : tie.Need-set-u8x8-requires
-set-u8x8-requires c κs = search needs
+set-status-requires : tie.Need-set-status-requires
+set-status-requires c κs = search needs
 
 returns : tie.Need-returns
 unfolding afterStart
-returns c = rw (c .set-u8x8 .ensures, c .before .before .wide .ensures)
+returns c = cc
 
 pub start-spec : {M : Type 1} → statement M
-start-spec = tie.close (tie.spec wide-requires set-u8x8-requires returns)
+start-spec = tie.close (tie.spec set-status-requires returns)

@@ -1,5 +1,5 @@
 -- `pending_at` meets its contract.
-use Rattle.machine.proofs.Runs.{pending-view}
+use Rattle.machine.proofs.Pending.{pending-view}
 use borrow.Author.Needs.{needs}
 use Rattle.machine.proofs.releases.pending_at.Statement.{statement}
 use Rattle.machine.proofs.releases.pending_at.Tie as tie

@@ -8,7 +8,7 @@ use borrow.Author.Needs.{needs}
 use Rattle.commands.specs.declared.Command.{Command}
 use Rattle.commands.specs.declared.Command.the-variants.{Word, Block, Task, Release, End, Body}
 use Rattle.commands.proofs.Command.{the-type}
-use Rattle.machine.specs.World.{noRelease, pendingBy}
+use Rattle.machine.specs.Flat.{noRelease, pendingBy}
 use Rattle.machine.proofs.releases.pending_by.Statement.{statement}
 use Rattle.machine.proofs.releases.pending_by.Tie as tie
 

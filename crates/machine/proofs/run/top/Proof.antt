@@ -1,5 +1,5 @@
 -- `top` meets its contract.
-use Rattle.machine.specs.World.{topOf}
+use Rattle.machine.specs.Flat.{topOf}
 use Prim.Native.Nat.{_<_}
 use native.Mathlib.Omega.{arith}
 use mathlib.Core.Path.{sym, ap, _∙_}

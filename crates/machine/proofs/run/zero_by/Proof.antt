@@ -8,7 +8,7 @@ unfinished-requires : tie.Need-unfinished-requires
 unfinished-requires c κs = search needs
 
 returns : tie.Need-returns
-returns c = search needs
+returns c = rw (sym (c .before .unfinished .ensures) ∙ c .if1 .taken)
 
 zero-requires : tie.Need-zero-requires
 zero-requires c κs = search needs

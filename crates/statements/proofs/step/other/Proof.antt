@@ -1,5 +1,6 @@
 -- `other` meets its contract.
-use Rattle.statements.proofs.Turns.{other-idle, other-plain, other-read, other-exchange, other-transaction}
+use Rattle.statements.specs.Statements.{otherTick}
+use Rattle.statements.proofs.Turns.{other-read, other-transaction}
 use borrow.Author.Needs.{needs}
 use Rattle.statements.proofs.step.other.Statement.{statement}
 use Rattle.statements.proofs.step.other.Tie as tie
@@ -8,25 +9,21 @@ enum-told : tie.Need-enum-told
 enum-told c = search needs
 
 returns : tie.Need-returns
-returns c = other-idle _ _ _ _ (c .enum-told .given .1)
+unfolding otherTick
+returns c = rw (c .enum-told .given .1)
 
 enum-told-2 : tie.Need-enum-told-2
 enum-told-2 c = search needs
 
-plain-requires : tie.Need-plain-requires
-plain-requires c κs = search needs
-
 returns-2 : tie.Need-returns-2
-returns-2 c =
-    other-plain _ _ _ _ _ _
-    (c .before .before .before .before .before .before .before .before .before .before .before .before .before .enum-told2 .given .1)
-    (c .plain .ensures)
+unfolding otherTick
+returns-2 c = rw (c .enum-told2 .given .1)
 
 enum-known-phase : tie.Need-enum-known-phase
 enum-known-phase c = search needs
 
-wide-requires : tie.Need-wide-requires
-wide-requires c κs = search needs
+cast-read-tick : tie.Need-cast-read-tick
+cast-read-tick c = search needs
 
 read-tick-requires : tie.Need-read-tick-requires
 read-tick-requires c κs = search needs
@@ -35,15 +32,15 @@ read-by-requires : tie.Need-read-by-requires
 read-by-requires c κs = search needs
 
 returns-3 : tie.Need-returns-3
-returns-3 c =
-    other-read _ _ _ _ _ (c .before .before .before .before .before .before .before .phase .given .1)
-    (c .before .before .before .before .wide .ensures) (c .before .before .before .read-tick .ensures) (c .read-by .ensures)
+unfolding otherTick
+returns-3 c = other-read _ _ _ (c .before .before .before .before .before .phase .given .1) (c .before .before .read-tick .ensures) (c .read-by .ensures)
 
 enum-told-3 : tie.Need-enum-told-3
 enum-told-3 c = search needs
 
 returns-4 : tie.Need-returns-4
-returns-4 c = other-exchange _ _ _ _ (c .enum-told3 .given .1)
+unfolding otherTick
+returns-4 c = rw (c .enum-told3 .given .1)
 
 enum-known-phase-2 : tie.Need-enum-known-phase-2
 enum-known-phase-2 c = search needs
@@ -52,27 +49,8 @@ transact-requires : tie.Need-transact-requires
 transact-requires c κs = search needs
 
 returns-5 : tie.Need-returns-5
-returns-5 c =
-    other-transaction _ _ _ _ _ _
-    (c .before .before .before .before .before .before .before .before .before .before .before .before .before .before .phase2 .given .1)
-    (c .transact .ensures)
+unfolding otherTick
+returns-5 c = other-transaction _ _ _ (c .before .before .before .before .phase2 .given .1) (c .transact .ensures)
 
 pub other-spec : {M : Type 1} → statement M
-other-spec =
-    tie.close
-    (tie.spec
-    enum-told
-    returns
-    enum-told-2
-    plain-requires
-    returns-2
-    enum-known-phase
-    wide-requires
-    read-tick-requires
-    read-by-requires
-    returns-3
-    enum-told-3
-    returns-4
-    enum-known-phase-2
-    transact-requires
-    returns-5)
+other-spec = tie.close (tie.spec enum-told returns enum-told-2 returns-2 enum-known-phase cast-read-tick read-tick-requires read-by-requires returns-3 enum-told-3 returns-4 enum-known-phase-2 transact-requires returns-5)

@@ -1,6 +1,6 @@
 -- `again_read` meets its contract.
-use borrow.Author.Tests.{eq-eqb, ne-eqb}
 use Rattle.transactions.specs.Accesses.{againRead}
+use borrow.Author.Tests.{eq-eqb, ne-eqb}
 use borrow.Author.Needs.{needs}
 use Rattle.transactions.proofs.accesses.again_read.Statement.{statement}
 use Rattle.transactions.proofs.accesses.again_read.Tie as tie
@@ -13,7 +13,7 @@ inner-requires c κs = search needs
 
 returns : tie.Need-returns
 unfolding againRead
-returns c = rw (c .before .before .read .given .1, c .inner .ensures)
+returns c = rw (c .before .before .read .given .1, ← c .inner .ensures)
 
 enum-known-read-2 : tie.Need-enum-known-read-2
 enum-known-read-2 c = search needs
@@ -21,52 +21,22 @@ enum-known-read-2 c = search needs
 block-requires : tie.Need-block-requires
 block-requires c κs = search needs
 
-block-place-requires : tie.Need-block-place-requires
-block-place-requires c κs = search needs
-
-u32-at-requires : tie.Need-u32-at-requires
-u32-at-requires c κs = search needs
+remembered-requires : tie.Need-remembered-requires
+remembered-requires c κs = search needs
 
 check-requires : tie.Need-check-requires
 check-requires c κs = search needs
 
 returns-2 : tie.Need-returns-2
 unfolding againRead
-returns-2 c = rw (
-  c .before .before .before .before .before .before .before .before .before .read2 .given .1,
-  ← c .before .before .before .before .before .before .before .block .ensures,
-  ← c .before .before .before .before .before .before .block-place .ensures,
-  ← c .before .before .before .before .u32-at .ensures,
-  eq-eqb _ _ (c .before .before .before .if1 .taken),
-  ← c .check .ensures,
-)
+returns-2 c = rw (c .before .before .before .before .before .before .before .read2 .given .1, ← c .before .before .before .before .block .ensures, ← c .before .before .before .remembered .ensures, eq-eqb _ _ (c .before .before .if1 .taken), ← c .check .ensures)
 
 restart-requires : tie.Need-restart-requires
 restart-requires c κs = search needs
 
 returns-3 : tie.Need-returns-3
 unfolding againRead
-returns-3 c = rw (
-  c .before .before .before .before .before .before .before .before .before .read2 .given .1,
-  ← c .before .before .before .before .before .before .before .block .ensures,
-  ← c .before .before .before .before .before .before .block-place .ensures,
-  ← c .before .before .before .before .u32-at .ensures,
-  ne-eqb _ _ (c .before .before .before .if1 .left),
-  ← c .restart .ensures,
-)
+returns-3 c = rw (c .before .before .before .before .before .before .before .read2 .given .1, ← c .before .before .before .before .block .ensures, ← c .before .before .before .remembered .ensures, ne-eqb _ _ (c .before .before .if1 .left), ← c .restart .ensures)
 
 pub again-read-spec : {M : Type 1} → statement M
-again-read-spec =
-    tie.close
-    (tie.spec
-    enum-known-read
-    inner-requires
-    returns
-    enum-known-read-2
-    block-requires
-    block-place-requires
-    u32-at-requires
-    check-requires
-    returns-2
-    restart-requires
-    returns-3)
+again-read-spec = tie.close (tie.spec enum-known-read inner-requires returns enum-known-read-2 block-requires remembered-requires check-requires returns-2 restart-requires returns-3)

@@ -15,44 +15,26 @@ goes-on-requires c κs = search needs
 
 returns : tie.Need-returns
 unfolding checkedBy
-returns c = rw (c .before .before .before .before .access .given .1, c .before .set-register .ensures, c .goes-on .ensures)
+returns c = rw (c .before .before .before .before .access .given .1, ← c .goes-on .ensures, c .before .set-register .ensures)
 
 enum-known-access-2 : tie.Need-enum-known-access-2
 enum-known-access-2 c = search needs
 
-block-place-requires : tie.Need-block-place-requires
-block-place-requires c κs = search needs
+cast-set-touched : tie.Need-cast-set-touched
+cast-set-touched c = search needs
 
-wrapping-add-u8-requires : tie.Need-wrapping-add-u8-requires
-wrapping-add-u8-requires c κs = search needs
+add-set-touched : tie.Need-add-set-touched
+add-set-touched c = search needs
 
-set-u8x128-requires : tie.Need-set-u8x128-requires
-set-u8x128-requires c κs = search needs
+set-touched-requires : tie.Need-set-touched-requires
+set-touched-requires c κs = search needs
 
 next-requires : tie.Need-next-requires
 next-requires c κs = search needs
 
 returns-2 : tie.Need-returns-2
 unfolding checkedBy
-returns-2 c = rw (
-  c .before .before .before .before .before .before .access2 .given .1,
-  ← c .before .before .before .before .block-place .ensures,
-  c .before .set-u8x128 .ensures,
-  c .before .before .wrapping-add-u8 .ensures,
-  c .next .ensures,
-)
+returns-2 c = rw (c .before .before .before .before .before .access2 .given .1, c .before .before .struct-known .given .1, ← c .next .ensures, c .before .set-touched .ensures)
 
 pub check-spec : {M : Type 1} → statement M
-check-spec =
-    tie.close
-    (tie.spec
-    enum-known-access
-    set-register-requires
-    goes-on-requires
-    returns
-    enum-known-access-2
-    block-place-requires
-    wrapping-add-u8-requires
-    set-u8x128-requires
-    next-requires
-    returns-2)
+check-spec = tie.close (tie.spec enum-known-access set-register-requires goes-on-requires returns enum-known-access-2 cast-set-touched add-set-touched set-touched-requires next-requires returns-2)

@@ -12,7 +12,7 @@ inner-requires c κs = search needs
 
 returns : tie.Need-returns
 unfolding firstRead
-returns c = rw (c .before .before .read .given .1, c .inner .ensures)
+returns c = rw (c .before .before .read .given .1, ← c .inner .ensures)
 
 enum-known-read-2 : tie.Need-enum-known-read-2
 enum-known-read-2 c = search needs
@@ -20,40 +20,18 @@ enum-known-read-2 c = search needs
 block-requires : tie.Need-block-requires
 block-requires c κs = search needs
 
-block-place-requires : tie.Need-block-place-requires
-block-place-requires c κs = search needs
+set-touched-requires : tie.Need-set-touched-requires
+set-touched-requires c κs = search needs
 
-set-u8x128-requires : tie.Need-set-u8x128-requires
-set-u8x128-requires c κs = search needs
-
-set-u32x128-requires : tie.Need-set-u32x128-requires
-set-u32x128-requires c κs = search needs
+set-remembered-requires : tie.Need-set-remembered-requires
+set-remembered-requires c κs = search needs
 
 inner-requires-2 : tie.Need-inner-requires-2
 inner-requires-2 c κs = search needs
 
 returns-2 : tie.Need-returns-2
 unfolding firstRead
-returns-2 c = rw (
-  c .before .before .before .before .before .before .before .before .read2 .given .1,
-  ← c .before .before .before .before .before .before .block .ensures,
-  ← c .before .before .before .before .before .block-place .ensures,
-  c .before .set-u32x128 .ensures,
-  c .before .before .before .set-u8x128 .ensures,
-  c .inner2 .ensures,
-)
+returns-2 c = rw (c .before .before .before .before .before .before .before .read2 .given .1, ← c .before .before .before .before .before .block .ensures, ← c .inner2 .ensures, c .before .set-remembered .ensures, c .before .before .before .set-touched .ensures)
 
 pub first-read-spec : {M : Type 1} → statement M
-first-read-spec =
-    tie.close
-    (tie.spec
-    enum-known-read
-    inner-requires
-    returns
-    enum-known-read-2
-    block-requires
-    block-place-requires
-    set-u8x128-requires
-    set-u32x128-requires
-    inner-requires-2
-    returns-2)
+first-read-spec = tie.close (tie.spec enum-known-read inner-requires returns enum-known-read-2 block-requires set-touched-requires set-remembered-requires inner-requires-2 returns-2)

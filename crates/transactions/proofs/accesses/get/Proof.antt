@@ -10,17 +10,15 @@ store-for-requires c κs = search needs
 slot-requires : tie.Need-slot-requires
 slot-requires c κs = search needs
 
-u32-at-requires : tie.Need-u32-at-requires
-u32-at-requires c κs = search needs
+value-requires : tie.Need-value-requires
+value-requires c κs = search needs
 
 inner-requires : tie.Need-inner-requires
 inner-requires c κs = search needs
 
 returns : tie.Need-returns
 unfolding gotBy
-returns c =
-    rw (← c .before .before .before .before .store-for .ensures, ← c .before .before .before .slot .ensures, ← c .before .u32-at .ensures, c .inner .ensures)
+returns c = cc
 
 pub get-spec : {M : Type 1} → statement M
-get-spec =
-    tie.close (tie.spec store-for-requires slot-requires u32-at-requires inner-requires returns)
+get-spec = tie.close (tie.spec store-for-requires slot-requires value-requires inner-requires returns)

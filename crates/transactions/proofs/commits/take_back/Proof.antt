@@ -1,18 +1,19 @@
 -- `take_back` meets its contract.
-use borrow.Author.Needs.{needs}
-use Rattle.transactions.specs.Blocks.{takenTo}
-use Prim.Native.Nat.{_≤_, _-_}
-use mathlib.Core.Path.{_≡_, refl}
+use Prim.Native.Nat.{ℕ, _≤_, _-_, _+_}
 use native.Mathlib.Numerals.{add-one}
+use Rattle.state.specs.State.{own}
+use Rattle.transactions.specs.Blocks.{takenTo, takingBack}
+use mathlib.Core.Path.{_≡_, refl}
 use native.Mathlib.Omega.{arith}
+use borrow.Author.Needs.{needs}
 use Rattle.transactions.proofs.commits.take_back.Statement.{statement}
 use Rattle.transactions.proofs.commits.take_back.Tie as tie
 
 abbrev Inv-loop : tie.InvT-loop
-Inv-loop copies₀ kinds remembered p b₀ copies b = (b ≤ 16) × (copies ≡ takenTo b copies₀ kinds remembered p)
+Inv-loop task₀ b₀ task b = (b ≤ 16) × (own task ≡ takingBack b (own task₀))
 
 abbrev μ-loop : tie.MeasureT-loop
-μ-loop copies₀ kinds remembered p b₀ copies b = 16 - b
+μ-loop task₀ b₀ task b = 16 - b
 
 loop-holds : tie.Need-loop-holds Inv-loop μ-loop
 unfolding takenTo
@@ -29,12 +30,10 @@ loop-less c = search needs
 
 loop-again : tie.Need-loop-again Inv-loop μ-loop
 unfolding takenTo
-loop-again c = let l = c .before .before .before .loop in (omega arith, rw (add-one, ← l .inv .1, c .take-one .ensures))
+loop-again c = (omega arith, rw (add-one, c .take-one .ensures, c .before .before .before .loop .inv .1))
 
 returns : tie.Need-returns Inv-loop μ-loop
 returns c = let l = c .before .loop in let q : l .b ≡ 16 = omega (arith, c .loop-test) in rw q at (l .inv .1)
 
 pub take-back-spec : {M : Type 1} → statement M
-take-back-spec =
-    tie.close
-    (tie.spec Inv-loop μ-loop loop-holds take-one-requires add-b loop-less loop-again returns)
+take-back-spec = tie.close (tie.spec Inv-loop μ-loop loop-holds take-one-requires add-b loop-less loop-again returns)

@@ -1,0 +1,212 @@
+-- THE FLAT MACHINE, the code's: what all tasks share, each task's own record and job, the mask of unfinished jobs, the place of the next
+-- release in the sheet, the ticks done and the releases dropped.
+use Prim.Native.Nat.{ℕ, zero, suc, _+_, _-_, _/_, _%_, _^_, _<_, _≤_}
+use mathlib.Core.Path.{_≡_}
+use mathlib.Core.Bool.{Bool, true, false, _&&_}
+use mathlib.Core.List.{List, []}
+use lib.Dec.{eqb, ltb}
+use lib.ListN.{getD, set, replicate}
+use Rattle.model.specs.Lists.{at}
+use Rattle.model.specs.Command as M
+use Rattle.commands.specs.declared.Command.{Command}
+use Rattle.commands.specs.declared.Command.the-variants as C
+use Rattle.commands.specs.declared.BodyCommand.{BodyCommand}
+use Rattle.state.specs.State.{Shared, Own, own, withRegisters}
+use Rattle.exchanges.specs.Places.{if, Noted, noted, Left, left}
+use Rattle.jobs.specs.Jobs.{job, jobAt, inPhase, ticks, counted}
+use Rattle.jobs.specs.Jobs as count
+use Rattle.transactions.specs.Blocks.{zeroed}
+use Rattle.statements.specs.Statements.{plain?, statement}
+use Rattle.jobs.specs.declared.Phase.{Phase}
+use Rattle.jobs.specs.declared.Phase.the-variants as P
+use Rattle.jobs.specs.declared.Job.{Job}
+use Rattle.machine.specs.declared.releases.Pending.{Pending}
+use Rattle.machine.specs.declared.releases.Coming.{Coming}
+use Rattle.machine.specs.declared.releases.Coming.the-variants.{Nothing, Later, Due}
+use Rattle.machine.specs.declared.run.Paused.{Paused}
+
+abbrev pub unfinished? : Phase → Bool
+unfinished? P.Idle = false
+unfinished? P.Plain = true
+unfinished? (P.Read r w s) = true
+unfinished? (P.Exchange r s) = true
+unfinished? (P.Transaction i) = true
+
+-- THE NEXT RELEASE, by the command at the place where releases are read
+abbrev pub noRelease : Pending
+noRelease = record { some = false; tick = 0; task = 0; after = 0 }
+
+abbrev pub releaseAfter : ℕ → ℕ → ℕ → Pending
+releaseAfter tick task next = record { some = true; tick = tick; task = task; after = next }
+
+abbrev pub pendingBy : Command → ℕ → Pending
+pendingBy (C.Word v) next = noRelease
+pendingBy (C.Block v) next = noRelease
+pendingBy C.Task next = noRelease
+pendingBy (C.Release r) next = releaseAfter (r .tick) (r .task) next
+pendingBy C.End next = noRelease
+pendingBy (C.Body c) next = noRelease
+
+abbrev pub pendingAt : M.Found → Pending
+pendingAt (M.refused f place) = noRelease
+pendingAt (M.found (M.RELEASE r) next) = releaseAfter (r .tick) (r .task) next
+pendingAt (M.found (M.WORD v) next) = noRelease
+pendingAt (M.found (M.BLOCK b) next) = noRelease
+pendingAt (M.found M.TASK next) = noRelease
+pendingAt (M.found M.END next) = noRelease
+pendingAt (M.found (M.body c) next) = noRelease
+
+-- whether it is due at a tick
+abbrev pub dueBy : Bool → ℕ → ℕ → Coming
+dueBy true task next = Due task next
+dueBy false task next = Later
+
+abbrev pub comingFor : Bool → Pending → ℕ → Coming
+comingFor true q tick = dueBy (eqb (q .tick) tick) (q .task) (q .after)
+comingFor false q tick = Nothing
+
+abbrev pub comingBy : Pending → ℕ → Coming
+comingBy q tick = comingFor (q .some) q tick
+
+abbrev pub stopsBy : Coming → ℕ → Bool
+stopsBy Nothing mask = eqb mask 0
+stopsBy Later mask = false
+stopsBy (Due task next) mask = false
+
+-- the tick up to which no release comes, at most the limit
+abbrev pub untilBy : Bool → Pending → ℕ → ℕ
+untilBy true q limit = if (ltb (q .tick) limit) (q .tick) limit
+untilBy false q limit = limit
+
+abbrev pub untilOf : Pending → ℕ → ℕ
+untilOf q limit = untilBy (q .some) q limit
+
+-- the highest of the tasks below k that a mask has, 0 for none
+unfoldable pub topOf : ℕ → ℕ → ℕ
+topOf zero m = 0
+topOf (suc k) m = if (eqb (m / 2 ^ k) 0) (topOf k m) k
+
+-- THE MACHINE
+pub record FlatMachine : Type 0 where
+  pub memory : Shared
+  pub tasks : List Own
+  pub jobs : List Job
+  pub mask : ℕ
+  pub place : ℕ
+  pub ticks : ℕ
+  pub dropped : ℕ
+
+abbrev pub flat : Shared → List Own → List Job → ℕ → ℕ → ℕ → ℕ → FlatMachine
+flat m ts js k r n d = record { memory = m; tasks = ts; jobs = js; mask = k; place = r; ticks = n; dropped = d }
+
+abbrev pub noJob : Job
+noJob = job P.Idle 0 0 0 0 0
+
+abbrev pub jobOf : FlatMachine → ℕ → Job
+jobOf w p = getD (w .jobs) p noJob
+
+abbrev pub ownOf : FlatMachine → ℕ → Own
+ownOf w p = getD (w .tasks) p (own [])
+
+-- A RELEASE to task p arrives. By: the task's job is unfinished. Then it is dropped and counted, else a job starts with all registers 0.
+abbrev pub droppedBy : Bool → ℕ → ℕ
+droppedBy true n = (n + 1) % 4294967296
+droppedBy false n = n
+
+abbrev pub begunBy : Bool → ℕ → ℕ → ℕ
+begunBy true mask i = mask
+begunBy false mask i = (mask + 2 ^ i) % 4294967296
+
+abbrev pub zeroing : ℕ → Own → Own
+zeroing n t = withRegisters t (zeroed n (t .registers))
+
+abbrev pub zeroedBy : Bool → Own → Own
+zeroedBy true t = t
+zeroedBy false t = zeroing 8 t
+
+abbrev pub startedBy : Bool → Job → ℕ → Job
+startedBy true j line = j
+startedBy false j line = jobAt P.Plain line 0
+
+abbrev pub releasedBy : List ℕ → FlatMachine → ℕ → ℕ → Job → FlatMachine
+releasedBy bounds w p next j =
+    flat (w .memory)
+    (set (w .tasks) p (zeroedBy (unfinished? (j .phase)) (ownOf w p)))
+    (set (w .jobs) p (startedBy (unfinished? (j .phase)) j (at 0 bounds p)))
+    (begunBy (unfinished? (j .phase)) (w .mask) p)
+    next
+    (w .ticks)
+    (droppedBy (unfinished? (j .phase)) (w .dropped))
+
+unfoldable pub released : List ℕ → FlatMachine → ℕ → ℕ → FlatMachine
+released bounds w task next = releasedBy bounds w (task % 8) next (jobOf w (task % 8))
+
+-- A TICK
+-- a job that stands where its body ends is finished
+abbrev pub closedBy : Bool → Own → Job → Noted Job
+closedBy true t j = noted (inPhase j P.Idle) (counted t count.finished)
+closedBy false t j = noted j t
+
+abbrev pub closed : ℕ → Own → Job → Noted Job
+closed end t j = closedBy (plain? (j .phase) && eqb (j .at) end) t j
+
+-- and its tick is counted
+abbrev pub finished : ℕ → Own → Job → Noted Job
+finished end t j = noted (closed end t j .next) (counted (closed end t j .task) ticks)
+
+abbrev pub tickOf : ℕ → Left Job → Left Job
+tickOf end l = left (finished end (l .task) (l .next) .next) (l .memory) (finished end (l .task) (l .next) .task)
+
+-- the mask without a task whose job is not unfinished any more
+abbrev pub leftBy : Bool → ℕ → ℕ → ℕ
+leftBy true mask i = mask
+leftBy false mask i = mask - 2 ^ i
+
+-- task p has done a statement that left the shared memory so, its own record and its job
+abbrev pub tickedWith : FlatMachine → ℕ → Shared → Noted Job → FlatMachine
+tickedWith w p m c =
+    flat m
+    (set (w .tasks) p (counted (c .task) ticks))
+    (set (w .jobs) p (c .next))
+    (leftBy (unfinished? (c .next .phase)) (w .mask) p)
+    (w .place)
+    (w .ticks + 1)
+    (w .dropped)
+
+abbrev pub tickedBy : ℕ → FlatMachine → ℕ → Left Job → FlatMachine
+tickedBy end w p l = tickedWith w p (l .memory) (closed end (l .task) (l .next))
+
+-- one statement of task p
+abbrev pub tickedFor : List BodyCommand → List ℕ → FlatMachine → ℕ → FlatMachine
+tickedFor program bounds w p = tickedBy (at 0 bounds (p + 1)) w p (statement program (w .memory) (ownOf w p) p (jobOf w p))
+
+-- a tick in which nobody has work
+abbrev pub passed : FlatMachine → FlatMachine
+passed w = flat (w .memory) (w .tasks) (w .jobs) (w .mask) (w .place) (w .ticks + 1) (w .dropped)
+
+-- the highest task with an unfinished job does one statement; with none the tick passes
+unfoldable pub ticked : List BodyCommand → List ℕ → FlatMachine → FlatMachine
+ticked program bounds w = if (eqb (w .mask) 0) (passed w) (tickedFor program bounds w (topOf 8 (w .mask)))
+
+-- THE RUN
+abbrev pub comingIn : List ℕ → FlatMachine → Coming
+comingIn sheet w = comingBy (pendingAt (M.commandAt sheet (w .place))) (w .ticks)
+
+-- the run of a program, whose bodies lie within those bounds, from one machine ends in another
+pub data Ends (sheet : List ℕ) (program : List BodyCommand) (bounds : List ℕ) (limit : ℕ) : FlatMachine → FlatMachine → Type 0 where
+  limited : {w : FlatMachine} → limit ≤ w .ticks → Ends sheet program bounds limit w w
+  stopped : {w : FlatMachine} → stopsBy (comingIn sheet w) (w .mask) ≡ true → Ends sheet program bounds limit w w
+  arrives : {w u : FlatMachine} (task next : ℕ) → w .ticks < limit → comingIn sheet w ≡ Due task next
+      → Ends sheet program bounds limit (released bounds w task next) u
+      → Ends sheet program bounds limit w u
+  moves : {w u : FlatMachine} → w .ticks < limit → ((task next : ℕ) → comingIn sheet w ≡ Due task next → ⊥)
+      → stopsBy (comingIn sheet w) (w .mask) ≡ false
+      → Ends sheet program bounds limit (ticked program bounds w) u → Ends sheet program bounds limit w u
+
+-- a run between two ticks, with its records
+abbrev pub flatIn : Shared → List Own → Paused → FlatMachine
+flatIn m ts q = flat m ts (q .jobs) (q .mask) (q .place) (q .ticks) (q .dropped)
+
+-- no job has run
+abbrev pub pausedAt : ℕ → Paused
+pausedAt place = record { jobs = replicate 8 noJob; mask = 0; place = place; ticks = 0; dropped = 0 }

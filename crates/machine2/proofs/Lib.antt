@@ -1,3 +1,0 @@
-pub mod Mask
-pub mod Pending
-pub mod Runs

@@ -1,3 +1,0 @@
-// The machine: the releases, and the run.
-pub mod releases;
-pub mod run;

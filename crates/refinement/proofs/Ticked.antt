@@ -1,0 +1,217 @@
+-- A tick in which no release is due: the highest task with an unfinished job does one statement, or nobody does.
+use Prim.Native.Nat.{ℕ, zero, suc, _+_, _^_, _<_}
+use mathlib.Core.Path.{_≡_, refl, sym, ap, _∙_, subst}
+use mathlib.Core.Bool.{Bool, true, false, true≢false}
+use mathlib.Core.List.{List}
+use native.Mathlib.Omega.{arith}
+use borrow.Author.Tests.{eq-eqb, ne-eqb}
+use lib.ListN.{length, set}
+use Rattle.model.specs.Lists.{at, replace}
+use Rattle.model.specs.Command as C
+use Rattle.model.specs.Sheet.{Sheet, sheetOf}
+use Rattle.model.specs.Job as J
+use Rattle.model.specs.Machine as M
+use Rattle.model.proofs.Fit.Elements.{below?}
+use Rattle.model.proofs.Fit.Sheet.{SheetFit}
+use Rattle.model.proofs.Fit.Machine.{DeclaredFit, Fit}
+use Rattle.model.proofs.Fit.Statement.{statement-fit}
+use Rattle.model.proofs.Fit.Ranges.{TaskRange, Ranges}
+use Rattle.commands.specs.declared.BodyCommand.{BodyCommand}
+use Rattle.state.specs.State.{Own}
+use Rattle.state.specs.Held.{memoryOf}
+use Rattle.exchanges.specs.Places.{Noted, Left}
+use Rattle.jobs.specs.Jobs.{counted}
+use Rattle.statements.specs.Statements.{statement}
+use Rattle.machine.specs.Flat.{unfinished?, topOf, leftBy, FlatMachine, jobOf, ownOf, closed, tickedWith, tickedFor, passed, ticked}
+use Rattle.jobs.specs.declared.Phase.{Phase}
+use Rattle.jobs.specs.declared.Phase.the-variants as Phase
+use Rattle.jobs.specs.declared.Inner.{Inner}
+use Rattle.jobs.specs.declared.Inner.the-variants as Inner
+use Rattle.jobs.specs.declared.Job.{Job}
+use Rattle.program.specs.Program.{bodyIn, Programmed}
+use Rattle.refinement.proofs.View.{transactionOf, innerOf, phaseOf, waitingOf, taskOf}
+use Rattle.state.specs.Sized.{OwnSized}
+use Rattle.refinement.proofs.Shape.{JobShape, Leaves, leaves, Refines}
+use Rattle.refinement.proofs.Sized.{counted-sized}
+use Rattle.refinement.proofs.Counted.{counted-same, counted-other}
+use Rattle.refinement.proofs.Statements.{statement-tick}
+use Rattle.refinement.proofs.Releases.{releasesFrom}
+use Rattle.refinement.proofs.Unfinished.{busy, bitOf, mask-set, TopTask, Top, none, some, top}
+use Rattle.refinement.proofs.Machine.{taskIn, tasksOf, machineOf, Sound, task-at, tasks-changed, sound-changed, nobody-runs, top-runs}
+
+-- A COUNT does not show in a job's shape
+module _ (t : Own) (i : ℕ) where
+  shape-counted : (end : ℕ) (j : Job) (f : Phase) → JobShape end j t f → JobShape end j (counted t i) f
+  unfolding counted
+  shape-counted end j Phase.Idle h = h
+  shape-counted end j Phase.Plain h = record { inBody = h .inBody; unloaded = h .unloaded }
+  shape-counted end j (Phase.Read r w s) h = record { inBody = h .inBody; unloaded = h .unloaded }
+  shape-counted end j (Phase.Exchange r s) h = h
+  shape-counted end j (Phase.Transaction s) h = h
+
+  -- nor in its phase and waiting PAIRs
+  phase-counted : (program : List BodyCommand) (end : ℕ) (j : Job) (f : Phase) → phaseOf program end j (counted t i) f ≡ phaseOf program end j t f
+  unfolding counted
+  phase-counted program end j Phase.Idle = refl
+  phase-counted program end j Phase.Plain = refl
+  phase-counted program end j (Phase.Read r w s) = refl
+  phase-counted program end j (Phase.Exchange r s) = refl
+  phase-counted program end j (Phase.Transaction s) = ap (J.transacting (transactionOf program end j t)) (inner s)
+    where
+      inner : (s : Inner) → innerOf j (counted t i) s ≡ innerOf j t s
+      inner Inner.Between = refl
+      inner (Inner.First a z) = refl
+      inner (Inner.Copying a k) = refl
+      inner (Inner.Again a v z) = refl
+      inner (Inner.Committing z) = refl
+
+  waiting-counted : (j : Job) (f : Phase) → waitingOf j (counted t i) f ≡ waitingOf j t f
+  unfolding counted
+  waiting-counted j Phase.Idle = refl
+  waiting-counted j Phase.Plain = refl
+  waiting-counted j (Phase.Read r w s) = refl
+  waiting-counted j (Phase.Exchange r s) = refl
+  waiting-counted j (Phase.Transaction s) = refl
+
+-- a tick is counted
+ticked-task : (program : List BodyCommand) (end : ℕ) (body : List C.BodyCommand) (j : Job) (t : Own) → OwnSized t → at 0 (t .counts) 3 < 4294967295
+    → taskOf program end body j (counted t 3) ≡ J.counting J.ticks (taskOf program end body j t)
+unfolding counted
+ticked-task program end body j t z few =
+    rw (
+      phase-counted t 3 program end j (j .phase),
+      waiting-counted t 3 j (j .phase),
+      counted-other t 3 0 (λ e. omega arith),
+      counted-other t 3 1 (λ e. omega arith),
+      counted-other t 3 2 (λ e. omega arith),
+      counted-same t 3 (z .counts) (omega arith) few,
+    )
+
+-- the mask without a task that has finished
+left-mask : (b : Bool) (m k p : ℕ) → k + 2 ^ p ≡ m + bitOf b (2 ^ p) → leftBy b m p ≡ k
+left-mask true m k p h = omega arith
+left-mask false m k p h = omega arith
+
+module _ (sheet : List ℕ) (program : List BodyCommand) (bounds : List ℕ) (held : Programmed sheet program bounds)
+    (c : SheetFit (sheetOf sheet)) (w : FlatMachine) (g : Sound sheet program bounds w) where
+  abbrev s : Sheet
+  s = sheetOf sheet
+
+  abbrev n : ℕ
+  n = length (s .bodies)
+
+  abbrev m : M.Machine
+  m = machineOf sheet program bounds w
+
+  pub record TickedFits (v : FlatMachine) : Type 0 where
+    pub same : machineOf sheet program bounds v ≡ M.moveAny (machineOf sheet program bounds w)
+    pub sound : Sound sheet program bounds v
+
+  -- A TICK THAT PASSES
+  nobody-ticks : ((q : ℕ) → q < 8 → busy (w .jobs) q ≡ false) → TickedFits (passed w)
+  unfolding M.moveAny M.move
+  nobody-ticks f =
+      let more : w .ticks + 1 ≡ suc (w .ticks) = omega arith in
+      let running : M.runningOf m ≡ M.nobody = nobody-runs sheet program bounds (c .bodies) m (w .tasks) (w .jobs) refl (g .each .idle) f in
+      record { same = rw (running, more); sound = record { memory = g .memory; each = g .each; mask = g .mask } }
+
+  -- A STATEMENT, of the highest task with an unfinished job
+  module _ (fit : Fit s m) (range : Ranges m) (few : w .ticks < 4294967295) (p : ℕ) (h : TopTask 8 (w .jobs) p) where
+    declared : p < n
+    declared = below? p n (λ l. l) (λ l. absurd (true≢false (sym (h .unfinished) ∙ g .each .idle p l)))
+
+    abbrev j : Job
+    j = jobOf w p
+
+    abbrev x : Own
+    x = ownOf w p
+
+    abbrev end : ℕ
+    end = at 0 bounds (suc p)
+
+    abbrev t : J.Task
+    t = taskIn sheet program bounds (w .tasks) (w .jobs) p
+
+    t-at : M.taskAt (m .tasks) p ≡ t
+    t-at = task-at sheet program bounds (c .bodies) (w .tasks) (w .jobs) p declared
+
+    task-fit : DeclaredFit s (w .ticks) p t
+    task-fit = subst (DeclaredFit s (w .ticks) p) t-at (fit .task p declared)
+
+    task-range : TaskRange t
+    task-range = subst TaskRange t-at (range .task p)
+
+    small : (i : ℕ) → i < 4 → at 0 (x .counts) i < 4294967295
+    small zero l = omega (arith, task-fit .counts, task-fit .ticks)
+    small (suc zero) l = omega (arith, task-fit .counts, task-fit .ticks)
+    small (suc (suc zero)) l = omega (arith, task-fit .counts, task-fit .ticks)
+    small (suc (suc (suc zero))) l = omega (arith, task-fit .ticks)
+    small (suc (suc (suc (suc i)))) l = absurd (omega arith)
+
+    abbrev body : List C.BodyCommand
+    body = bodyIn program bounds p
+
+    abbrev u : Left Job
+    u = statement program (w .memory) x p j
+
+    abbrev o : Noted Job
+    o = closed end (u .task) (u .next)
+
+    refined : Refines program end body (u .memory) o (M.statement p (memoryOf (w .memory)) t (t .job .phase))
+    refined =
+        statement-tick program (held .size) end (held .within p declared) body (w .memory) x p j (g .memory) (g .each .sized p (h .below)) (h .below)
+        small (length (s .words)) (length (s .blocks)) (c .words) (c .blocks) (task-fit .phase) (task-range .phase) (task-range .copy)
+        (g .each .shape p declared)
+
+    counted-ticks : taskOf program end body (o .next) (counted (o .task) 3) ≡ J.counting J.ticks (taskOf program end body (o .next) (o .task))
+    counted-ticks =
+        let turned = statement-fit (c .blocks) (fit .memory) t (task-fit .registers) (task-fit .copies) p (task-fit .phase) in
+        let ticks = ap (λ (z : Leaves). z .task .counts .ticks) (refined .same) in
+        let few : at 0 (o .task .counts) 3 < 4294967295 = omega (arith, turned .ticks, ticks, small 3 (omega arith)) in
+        ticked-task program end body (o .next) (o .task) (refined .ownSized) few
+
+    abbrev afterLeaves : Leaves → M.Machine
+    afterLeaves z = M.afterTurn m p (J.turn (z .memory) (z .task) J.nothingDone)
+
+    moved : M.moveAny m ≡ afterLeaves (leaves (memoryOf (u .memory)) (taskOf program end body (o .next) (o .task)))
+    unfolding M.moveAny M.move
+    moved =
+        let running : M.runningOf m ≡ M.running p = top-runs sheet program bounds (c .bodies) m (w .tasks) (w .jobs) refl (g .each .idle) p h in
+        ap (M.move m) running ∙ ap (λ (z : J.Task). M.afterTurn m p (M.statement p (m .memory) z (z .job .phase))) t-at
+        ∙ ap afterLeaves (refined .same)
+
+    statement-fits : TickedFits (tickedWith w p (u .memory) o)
+    statement-fits =
+        let more : w .ticks + 1 ≡ suc (w .ticks) = omega arith in
+        let mask = mask-set (w .jobs) p (o .next) (omega (arith, g .each .jobs, h .below)) 8 (h .below) in
+        record {
+          same =
+              ap
+              (λ (k : ℕ). M.machine (memoryOf (u .memory))
+              (tasksOf sheet program bounds (set (w .tasks) p (counted (o .task) 3)) (set (w .jobs) p (o .next)))
+              (releasesFrom sheet (w .place)) k (w .dropped))
+              more
+              ∙ ap (λ (ts : List J.Task). M.machine (memoryOf (u .memory)) ts (releasesFrom sheet (w .place)) (suc (w .ticks)) (w .dropped))
+              (tasks-changed sheet program bounds (c .bodies) (w .tasks) (w .jobs) (g .each) p (counted (o .task) 3) (o .next) declared
+              ∙ ap (replace (m .tasks) p) counted-ticks)
+              ∙ sym moved;
+          sound = record {
+            memory = refined .sharedSized;
+            each =
+                sound-changed sheet program bounds (c .bodies) (w .tasks) (w .jobs) (g .each) p (counted (o .task) 3) (o .next) declared
+                (counted-sized (refined .ownSized) 3) (shape-counted (o .task) 3 end (o .next) (o .next .phase) (refined .shape));
+            mask = rw (g .mask) (left-mask (unfinished? (o .next .phase)) _ _ p (rw (h .unfinished) at mask));
+          };
+        }
+
+    statement-ticks : TickedFits (tickedFor program bounds w p)
+    statement-ticks = let z : p + 1 ≡ suc p = omega arith in rw z statement-fits
+
+  -- ANY TICK
+  pub ticked-fits : Fit s m → Ranges m → w .ticks < 4294967295 → TickedFits (ticked program bounds w)
+  unfolding ticked
+  ticked-fits fit range few = go (subst (Top 8 (w .jobs)) (sym (g .mask)) (top (w .jobs) 8))
+    where
+      go : Top 8 (w .jobs) (w .mask) → TickedFits (ticked program bounds w)
+      go (none z f) = rw (eq-eqb (w .mask) 0 z) (nobody-ticks f)
+      go (some l h) = rw (ne-eqb (w .mask) 0 (λ z. omega arith)) (statement-ticks fit range few (topOf 8 (w .mask)) h)

@@ -1,0 +1,1 @@
+// Theorems alone: the flat machine is the model's.

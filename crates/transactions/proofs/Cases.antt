@@ -1,0 +1,80 @@
+-- Small records worked out by hand: what COMMIT and the answer of its exchange leave of them. Each line is computed.
+use Prim.Native.Nat.{ℕ}
+use mathlib.Core.Path.{_≡_, refl}
+use mathlib.Core.Bool.{true, false}
+use mathlib.Core.List.{List, [], _∷_}
+use lib.ListN.{replicate}
+use Rattle.model.specs.Lists.{at, replace}
+use Rattle.state.specs.State.{Entries, Blocks, Own}
+use Rattle.exchanges.specs.Places.{noted}
+use Rattle.jobs.specs.Jobs.{job, counted, copied}
+use Rattle.transactions.specs.Blocks.{isSpent, newBank, takenOne, takenTo, zeroed}
+use Rattle.transactions.specs.Accesses.{restarted, checkedBy, againRead}
+use Rattle.transactions.specs.Commits.{committedBy}
+use Rattle.commands.specs.declared.Access.the-variants.{Get}
+use Rattle.exchanges.specs.declared.read.Read.the-variants.{Gives}
+use Rattle.exchanges.specs.declared.exchange.Exchanged.the-variants.{Ends}
+use Rattle.exchanges.specs.declared.exchange.Step.the-variants.{Start}
+use Rattle.jobs.specs.declared.Inner.the-variants.{Between, Committing}
+use Rattle.jobs.specs.declared.Phase.the-variants.{Plain, Transaction}
+use Rattle.jobs.specs.declared.Job.{Job}
+
+-- block 2 was PUT into copy slot 1 (touched 3): version 4 in store 9; block 0 was only read (touched 1)
+abbrev blocks : Blocks
+blocks = record { touched = 1 ∷ 0 ∷ 3 ∷ []; remembered = 775 ∷ 0 ∷ 1033 ∷ [] }
+
+abbrev record-of : List ℕ → List ℕ → Blocks → List ℕ → Own
+record-of registers copies x counts =
+    record {
+      registers = registers;
+      kept = 7 ∷ 7 ∷ 7 ∷ 7 ∷ 7 ∷ 7 ∷ 7 ∷ 7 ∷ [];
+      copies = copies;
+      entries = record { targets = []; olds = []; news = []; inits = []; overlapped = [] };
+      blocks = x;
+      counts = counts;
+    }
+
+abbrev committing : Job
+committing = job (Transaction (Committing Start)) 0 6 3 2 1
+
+-- the slot of the block that was PUT takes its old store, whatever the block's number
+takes-back : takenTo blocks 3 (20 ∷ 21 ∷ 22 ∷ 23 ∷ []) ≡ 20 ∷ 9 ∷ 22 ∷ 23 ∷ []
+unfolding takenTo takenOne at replace
+takes-back = refl
+
+-- a yes: the command is done, and no commit was rejected
+says-yes : committedBy (record-of [] (20 ∷ 21 ∷ 22 ∷ 23 ∷ []) blocks (0 ∷ 0 ∷ 0 ∷ 0 ∷ [])) committing (Ends true)
+    ≡ noted (job Plain 0 7 7 0 0) (record-of [] (20 ∷ 9 ∷ 22 ∷ 23 ∷ []) blocks (0 ∷ 0 ∷ 0 ∷ 0 ∷ []))
+unfolding committedBy takenTo takenOne at replace
+says-yes = refl
+
+-- a no: one more commit was rejected; registers as kept, nothing touched, next the command after BEGIN
+says-no : committedBy (record-of (1 ∷ 2 ∷ 3 ∷ 4 ∷ 5 ∷ 6 ∷ 7 ∷ 8 ∷ []) (20 ∷ []) blocks (0 ∷ 0 ∷ 4 ∷ 0 ∷ [])) committing (Ends false)
+    ≡ noted (job (Transaction Between) 0 3 3 0 0)
+    (record-of (replicate 8 7) (20 ∷ []) (record { touched = 0 ∷ 0 ∷ 0 ∷ []; remembered = 775 ∷ 0 ∷ 1033 ∷ [] }) (0 ∷ 0 ∷ 5 ∷ 0 ∷ []))
+unfolding committedBy restarted counted copied zeroed at replace
+says-no = refl
+
+-- the bank word of a block that was PUT: one version more, in the copy's store; of one that was only read: itself
+raises-version : newBank (record-of [] (20 ∷ 21 ∷ []) blocks []) 3 1033 ≡ 1301
+unfolding at
+raises-version = refl
+
+leaves-version : newBank (record-of [] (20 ∷ 21 ∷ []) blocks []) 1 775 ≡ 775
+leaves-version = refl
+
+-- the last version is spent, the one before it is not, and what was only read never is
+spends-last : isSpent 2 4294967049 ≡ true
+spends-last = refl
+
+spends-not : isSpent 2 4294966793 ≡ false
+spends-not = refl
+
+spends-no-read : isSpent 1 4294967049 ≡ false
+spends-no-read = refl
+
+-- GET reads the bank word again: the same version in another store is not stale
+again-same : againRead (record-of (1 ∷ 2 ∷ []) [] blocks []) committing (Get 1 2 0) 50 (Gives 1044)
+    ≡ noted (job (Transaction Between) 0 7 3 0 1) (record-of (1 ∷ 50 ∷ []) [] blocks [])
+unfolding againRead checkedBy at replace
+again-same = refl
