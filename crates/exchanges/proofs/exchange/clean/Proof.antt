@@ -38,7 +38,7 @@ to-next-requires c κs = search needs
 
 returns : tie.Need-returns
 unfolding afterClean
-returns c = rw (← c .before .before .before .before .before .before .before .before .installed .ensures, ← c .before .before .before .before .before .before .before .before .before .before .before .before .target .ensures, ← c .before .before .before .before .before .before .before .before .before .cell .ensures, ← c .before .before .before .before .before .before .before .before .before .before .before .new .ensures, ← c .before .before .before .before .before .before .before .old .ensures, sym (c .before .before .before .before .before .before .as-new .ensures) ∙ c .before .before .before .before .before .if1 .taken, c .before .before .before .before .if2 .taken, ← c .before .before .before .pack .ensures, c .before .set-cell .ensures, c .to-next .ensures)
+returns c = rw (← c .before .before .before .before .before .before .before .before .installed .ensures, ← c .before .before .before .before .before .before .before .before .before .before .before .before .target .ensures, ← c .before .before .before .before .before .before .before .before .before .cell .ensures, ← c .before .before .before .before .before .before .before .before .before .before .before .new .ensures, ← c .before .before .before .before .before .before .before .old .ensures, sym (c .before .before .before .before .before .before .as-new .ensures) ∙ c .before .before .before .before .before .if1 .taken, c .before .before .before .before .if2 .taken, c .before .set-cell .ensures, c .before .before .before .pack .ensures, c .to-next .ensures)
 
 to-next-requires-2 : tie.Need-to-next-requires-2
 to-next-requires-2 c κs = search needs
