@@ -1,94 +1,68 @@
--- The ranges of command bytes against the model's table, and the cases of `commandAt`.
-use Prim.Native.Nat.{ℕ, zero, suc, _+_, _<_, _≤_}
-use mathlib.Core.Path.{_≡_, refl, sym, subst}
-use mathlib.Core.Bool.{Bool, true, false, _&&_, and-eq-true-iff, false≢true}
+-- The code's table against the model's, and the cases of `commandAt`.
+use Prim.Native.Nat.{ℕ, suc, _+_, _<_, _≤_}
+use mathlib.Core.Path.{_≡_, refl, sym, _∙_}
+use mathlib.Core.Bool.{Bool, true, false}
 use mathlib.Core.List.{List, [], _∷_}
-use mathlib.Core.Option.{Option, none, some}
+use mathlib.Core.Option.{none, some}
 use native.Mathlib.Omega.{arith}
 use native.Mathlib.Nat.{add-zero, zero-add, add-assoc}
-use borrow.Author.Tests.{ltb-true, eqb-true, eqb-false, lt-ltb, le-ltb, le-leb, lt-leb}
-use lib.Dec.{ltb, eqb}
+use borrow.Author.Tests.{eqb-true, lt-ltb, le-ltb, le-leb, lt-leb}
+use lib.Dec.{eqb}
 use lib.ListN.{length, getD}
 use Rattle.model.specs.Refusal.{cutShort, noCommand}
 use Rattle.model.specs.Command.{GET, PUT, READ, PAIR, SWAP, BEGIN, access, COMMIT, LOAD, ADD, outside, inside, WORD, BLOCK, TASK, RELEASE, END, body}
 use Rattle.model.specs.Command.{Row, table, rowOf, total, bigEndian, refused, commandAt}
-use Rattle.commands.specs.Stages.{indexOf, byteAt, widthAt, valuesFrom, widthOf, commandOf, ByteSays}
-use Rattle.commands.specs.declared.Index.{Index}
-use Rattle.commands.specs.declared.Index.the-variants.{At, Unknown}
+use Rattle.commands.specs.Stages.{valuesFrom, widthOf, commandOf, ByteSays, EntrySays}
+use Rattle.commands.specs.Table.{entriesFrom, entryIn, entryOf}
+use Rattle.commands.specs.declared.Whole.the-variants as Whole
+use Rattle.commands.specs.declared.table.Entry.{Entry}
+use Rattle.commands.specs.declared.table.Named.{Named}
+use Rattle.commands.specs.declared.table.Named.the-variants.{By, Nothing}
 use Rattle.commands.specs.declared.Opcode.the-variants.{Known}
 
 -- THE TABLE
--- the byte has a row, and its operands take that many bytes
-pub record RowOf (b width : ℕ) : Type 0 where
+-- the byte has a row among these, and its operands take that many bytes
+pub record RowIn (b : ℕ) (l : List Row) (width : ℕ) : Type 0 where
   pub row : Row
-  pub is : rowOf b table ≡ some row
-  pub wide : total (row .widths) ≡ width
+  pub is : rowOf b l ≡ some row
+  pub takes : total (row .widths) ≡ width
 
--- what the place in the table says of the byte's row
-abbrev pub IndexSays : ℕ → Index → Type 0
-IndexSays b Unknown = rowOf b table ≡ none
-IndexSays b (At i) = (i < 14) × RowOf b (widthAt i) × (byteAt i ≡ b)
+abbrev pub RowOf : ℕ → ℕ → Type 0
+RowOf b width = RowIn b table width
 
-hasWidth : Option Row → ℕ → Bool
-unfolding total
-hasWidth none w = false
-hasWidth (some r) w = eqb (total (r .widths)) w
+-- what the code's entries of these rows say of the byte
+abbrev NamedIn : ℕ → List Row → Named → Type 0
+NamedIn b l Nothing = rowOf b l ≡ none
+NamedIn b l (By e) = RowIn b l (e .width) × (e .byte ≡ b)
 
-hasNone : Option Row → Bool
-hasNone none = true
-hasNone (some r) = false
-
-agrees : ℕ → Index → Bool
-unfolding hasNone hasWidth rowOf table
-agrees b Unknown = hasNone (rowOf b table)
-agrees b (At i) = ltb i 14 && (hasWidth (rowOf b table) (widthAt i) && eqb (byteAt i) b)
-
--- every byte below n
-allAgree : ℕ → Bool
-unfolding agrees indexOf
-allAgree zero = true
-allAgree (suc n) = agrees n (indexOf n) && allAgree n
+abbrev pub NamedSays : ℕ → Named → Type 0
+NamedSays b n = NamedIn b table n
 
 -- a test, with what it said in each case
 pub cases : {A : Type 0} (t : Bool) → (t ≡ true → A) → (t ≡ false → A) → A
 cases true f g = f refl
 cases false f g = g refl
 
-below : (n b : ℕ) → allAgree n ≡ true → b < n → agrees b (indexOf b) ≡ true
-unfolding allAgree
-below zero b all h = absurd (omega arith)
-below (suc n) b all h =
-    let parts = and-eq-true-iff (agrees n (indexOf n)) (allAgree n) .0 all in
-    cases (eqb b n)
-    (λ e. subst (λ (m : ℕ). agrees m (indexOf m) ≡ true) (sym (eqb-true b n e)) (parts .0))
-    (λ e. let ne : b ≡ n → ⊥ = eqb-false b n e in below n b (parts .1) (omega arith))
+module _ (b : ℕ) where
+  same-row : (l m : List Row) → rowOf b m ≡ rowOf b l → (n : Named) → NamedIn b l n → NamedIn b m n
+  same-row l m e Nothing says = e ∙ says
+  same-row l m e (By x) says = (record { row = says .0 .row; is = e ∙ says .0 .is; takes = says .0 .takes }, says .1)
 
-isNone : (o : Option Row) → hasNone o ≡ true → o ≡ none
-unfolding hasNone
-isNone none e = refl
-isNone (some r) e = absurd (false≢true e)
+  named-in : (l : List Row) → NamedIn b l (entryIn b (entriesFrom l))
+  unfolding rowOf entryIn entriesFrom
+  named-in [] = refl
+  named-in (r ∷ l) =
+      cases (eqb b (r .byte))
+      (λ t. rw t (record { row = r; is = rw t; takes = refl }, sym (eqb-true b (r .byte) t)))
+      (λ t. rw t (same-row l (r ∷ l) (rw t) (entryIn b (entriesFrom l)) (named-in l)))
 
-isRow : (b : ℕ) (o : Option Row) (w : ℕ) → rowOf b table ≡ o → hasWidth o w ≡ true → RowOf b w
-unfolding hasWidth
-isRow b none w e h = absurd (false≢true h)
-isRow b (some r) w e h = record { row = r; is = e; wide = eqb-true (total (r .widths)) w h }
-
-says : (b : ℕ) (i : Index) → agrees b i ≡ true → IndexSays b i
-unfolding agrees
-says b Unknown e = isNone (rowOf b table) e
-says b (At i) e =
-    let parts = and-eq-true-iff (ltb i 14) (hasWidth (rowOf b table) (widthAt i) && eqb (byteAt i) b) .0 e in
-    let row = and-eq-true-iff (hasWidth (rowOf b table) (widthAt i)) (eqb (byteAt i) b) .0 (parts .1) in
-    (ltb-true i 14 (parts .0), isRow b (rowOf b table) (widthAt i) refl (row .0), eqb-true (byteAt i) b (row .1))
-
--- all 256 bytes, by one computed test
-pub index-says : (b : ℕ) → b < 256 → IndexSays b (indexOf b)
-unfolding allAgree
-index-says b h = says b (indexOf b) (below 256 b refl h)
+  pub named-says : NamedSays b (entryOf b)
+  unfolding entryOf
+  named-says = named-in table
 
 pub width-row : {b w : ℕ} → RowOf b w → widthOf b ≡ w
 unfolding widthOf
-width-row r = rw (r .is) (r .wide)
+width-row r = rw (r .is) (r .takes)
 
 pub width-none : (b : ℕ) → rowOf b table ≡ none → widthOf b ≡ 0
 unfolding widthOf
@@ -107,14 +81,17 @@ module _ (s : List ℕ) (at : ℕ) where
   pub cut : {w : ℕ} → at < length s → RowOf (getD s at 0) w → length s < suc at + w → commandAt s at ≡ refused cutShort at
   unfolding commandAt
   cut h r l =
-      let past : length s < suc at + total (r .row .widths) = omega (arith, r .wide) in
+      let past : length s < suc at + total (r .row .widths) = omega (arith, r .takes) in
       simp (lt-ltb at (length s) h, r .is) (simp (lt-leb (suc at + total (r .row .widths)) (length s) past))
 
   pub whole : {w : ℕ} → at < length s → RowOf (getD s at 0) w → suc at + w ≤ length s → ByteSays s at (Known (getD s at 0))
   unfolding commandAt commandOf widthOf
   whole h r l =
-      let within : suc at + total (r .row .widths) ≤ length s = omega (arith, r .wide) in
+      let within : suc at + total (r .row .widths) ≤ length s = omega (arith, r .takes) in
       (rw (r .is) within, simp (lt-ltb at (length s) h, r .is) (simp (le-leb (suc at + total (r .row .widths)) (length s) within)))
+
+  pub by-entry : (e : Entry) → at < length s → NamedSays (getD s at 0) (By e) → suc at + e .width ≤ length s → EntrySays s at (Whole.By e)
+  by-entry e h says l = rw (says .1) (sym (width-row (says .0)), whole h (says .0) l)
 
 -- THE COMMAND OF EACH ROW
 module _ (s : List ℕ) (p : ℕ) where

@@ -1,62 +1,23 @@
--- The stages of the decoding, each a part of the model's: the row of a byte, its command and width, the byte at a place.
-use Prim.Native.Nat.{ℕ, suc, _+_, _-_, _≤_}
+-- The stages of the decoding, each a part of the model's: the command and the width of a byte, what the byte at a place says.
+use Prim.Native.Nat.{ℕ, suc, _+_, _≤_}
 use mathlib.Core.Path.{_≡_}
 use mathlib.Core.Bool.{Bool, true, false}
 use mathlib.Core.List.{List, [], _∷_}
 use mathlib.Core.Option.{Option, none, some}
-use lib.Dec.{ltb, leb, eqb}
+use lib.Dec.{eqb}
 use lib.ListN.{length, getD}
 use Rattle.model.specs.Command.{Command, END, blockFrom, Row, table, rowOf, total, operand, found, refused, commandAt}
 use Rattle.commands.specs.View.{viewRefusal}
 use Rattle.commands.specs.declared.Access.{Access}
 use Rattle.commands.specs.declared.Access.the-variants.{Get, Put}
-use Rattle.commands.specs.declared.Entry.{Entry}
-use Rattle.commands.specs.declared.Index.{Index}
-use Rattle.commands.specs.declared.Index.the-variants.{At, Unknown}
 use Rattle.commands.specs.declared.Opcode.{Opcode}
 use Rattle.commands.specs.declared.Opcode.the-variants as opcode
+use Rattle.commands.specs.declared.Whole.{Whole}
+use Rattle.commands.specs.declared.Whole.the-variants as whole
 
 abbrev pub pick : {A : Type 0} → Bool → A → A → A
 pick true a b = a
 pick false a b = b
-
--- where a byte stands in the table, by the ranges of command bytes
-unfoldable pub indexOf : ℕ → Index
-indexOf b =
-    pick (ltb b 1) Unknown
-    (pick (leb b 5) (At (b - 1))
-    (pick (ltb b 16) Unknown
-    (pick (leb b 20) (At (b - 11))
-    (pick (ltb b 32) Unknown
-    (pick (leb b 35) (At (b - 22)) Unknown)))))
-
--- the code's table: each command byte, and how many operand bytes follow it
-abbrev entry : ℕ → ℕ → Entry
-entry b w = record { byte = b; width = w }
-
-abbrev pub entries : List Entry
-entries =
-    entry 0x01 4
-    ∷ entry 0x02 36
-    ∷ entry 0x03 0
-    ∷ entry 0x04 3
-    ∷ entry 0x05 0
-    ∷ entry 0x10 5
-    ∷ entry 0x11 2
-    ∷ entry 0x12 2
-    ∷ entry 0x13 3
-    ∷ entry 0x14 1
-    ∷ entry 0x20 0
-    ∷ entry 0x21 3
-    ∷ entry 0x22 3
-    ∷ entry 0x23 0
-    ∷ []
-
-abbrev pub byteAt : ℕ → ℕ
-byteAt i = getD entries i (entry 0 0) .byte
-
-abbrev pub widthAt : ℕ → ℕ
-widthAt i = getD entries i (entry 0 0) .width
 
 -- the eight values of a BLOCK whose operands start at p
 unfoldable pub valuesFrom : List ℕ → ℕ → List ℕ
@@ -93,3 +54,8 @@ abbrev pub ByteSays : List ℕ → ℕ → Opcode → Type 0
 ByteSays s at (opcode.Refused f) = commandAt s at ≡ refused (viewRefusal (f .refusal)) (f .place)
 ByteSays s at (opcode.Known b) =
     (suc at + widthOf b ≤ length s) × (commandAt s at ≡ found (commandOf s (suc at) b) (suc at + widthOf b))
+
+-- the same of the entry, whose width is the byte's
+abbrev pub EntrySays : List ℕ → ℕ → Whole → Type 0
+EntrySays s at (whole.Refused f) = ByteSays s at (opcode.Refused f)
+EntrySays s at (whole.By e) = (e .width ≡ widthOf (e .byte)) × ByteSays s at (opcode.Known (e .byte))

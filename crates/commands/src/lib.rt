@@ -1,11 +1,18 @@
-// The commands of the run sheet, the table of their bytes, and the command at a place of a lent sheet.
+// The commands of the run sheet, and the command at a place of a lent sheet.
 ghost use mathlib.Core.Path.{_≡_};
-ghost use Prim.Native.Nat.{suc, _+_, _≤_, _<_};
+ghost use Prim.Native.Nat.{suc, _+_, _≤_};
 ghost use lib.ListN.{length, getD};
 ghost use Rattle.model.specs.Command.{bigEndian, commandAt};
 ghost use Rattle.model.specs.Refusal.{number};
 ghost use Rattle.commands.specs.View.{viewRefusal, viewCommand, viewDecoded};
-ghost use Rattle.commands.specs.Stages.{indexOf, widthAt, widthOf, commandOf, accessFrom, ByteSays, valuesFrom};
+ghost use Rattle.commands.specs.Stages.{commandOf, accessFrom, EntrySays, ByteSays, valuesFrom};
+use crate::ceilings::SheetCeilings;
+use crate::table::Entry;
+use crate::table::Named;
+use crate::table::entry_of;
+
+pub mod ceilings;
+pub mod table;
 
 // The tick has 32 bits, though two bytes hold it: so the operands of all commands lie at one place of the enum.
 pub struct Release {
@@ -68,78 +75,13 @@ pub struct Fault {
     pub place: usize,
 }
 
-// An entry of the table: a command byte, and how many operand bytes follow it.
-pub struct Entry {
-    pub byte: u8,
-    pub width: u8,
+// The entry of a command whose operands all lie within the sheet, or the fault.
+pub enum Whole {
+    By(Entry),
+    Refused(Fault),
 }
 
-pub const TABLE: [Entry; 14] = [
-    Entry {
-        byte: 0x01,
-        width: 4,
-    },
-    Entry {
-        byte: 0x02,
-        width: 36,
-    },
-    Entry {
-        byte: 0x03,
-        width: 0,
-    },
-    Entry {
-        byte: 0x04,
-        width: 3,
-    },
-    Entry {
-        byte: 0x05,
-        width: 0,
-    },
-    Entry {
-        byte: 0x10,
-        width: 5,
-    },
-    Entry {
-        byte: 0x11,
-        width: 2,
-    },
-    Entry {
-        byte: 0x12,
-        width: 2,
-    },
-    Entry {
-        byte: 0x13,
-        width: 3,
-    },
-    Entry {
-        byte: 0x14,
-        width: 1,
-    },
-    Entry {
-        byte: 0x20,
-        width: 0,
-    },
-    Entry {
-        byte: 0x21,
-        width: 3,
-    },
-    Entry {
-        byte: 0x22,
-        width: 3,
-    },
-    Entry {
-        byte: 0x23,
-        width: 0,
-    },
-];
-
-// Where a command byte stands in the table.
-pub enum Index {
-    At(usize),
-    Unknown,
-}
-
-// A command byte whose operands all lie within the sheet, or the fault.
+// The same with the byte alone.
 pub enum Opcode {
     Known(u8),
     Refused(Fault),
@@ -169,50 +111,6 @@ pub fn number(f: Refusal) -> u8
     }
 }
 
-// The ranges of sheet commands and of body commands; every other byte names no command.
-pub fn index_of(b: u8) -> Index
-    ensures { λ r. ⌜ r ≡ indexOf b ⌝ }
-{
-    match b {
-        0x01..=0x05 => Index::At((b - 1) as usize),
-        0x10..=0x14 => Index::At((b - 11) as usize),
-        0x20..=0x23 => Index::At((b - 22) as usize),
-        _ => Index::Unknown,
-    }
-}
-
-// A byte at each width that is computed with.
-pub fn size(x: u8) -> usize
-    ensures { λ r. ⌜ (r ≡ x) × (r < 256) ⌝ }
-{
-    x as usize
-}
-
-fn wide(x: u8) -> u32
-    ensures { λ r. ⌜ (r ≡ x) × (r < 256) ⌝ }
-{
-    x as u32
-}
-
-// The operand bytes of an entry.
-pub fn width(i: usize) -> usize
-    requires { ⌜ i < 14 ⌝ }
-    ensures { λ r. ⌜ r ≡ widthAt i ⌝ }
-{
-    let entry = TABLE[i];
-    size(entry.width)
-}
-
-// The operand bytes that follow a command byte; 0 where the byte names no command.
-fn width_of(b: u8) -> usize
-    ensures { λ r. ⌜ r ≡ widthOf b ⌝ }
-{
-    let Index::At(i) = index_of(b) else {
-        return 0;
-    };
-    width(i)
-}
-
 // The byte at a place, 0 past the end.
 pub fn byte(s: &[u8], at: usize) -> u8
     ensures { λ r. ⌜ r ≡ getD (now (s .entry)) at 0 ⌝ }
@@ -225,19 +123,19 @@ fn value2(s: &[u8], at: usize) -> u32
     requires { ⌜ at ≤ length (now s) + 36 ⌝ }
     ensures { λ r. ⌜ r ≡ bigEndian (now (s .entry)) at 2 ⌝ }
 {
-    wide(byte(s, at)) * 256 + wide(byte(s, at + 1))
+    byte(s, at) as u32 * 256 + byte(s, at + 1) as u32
 }
 
 pub fn value4(s: &[u8], at: usize) -> u32
     requires { ⌜ at ≤ length (now s) + 36 ⌝ }
     ensures { λ r. ⌜ r ≡ bigEndian (now (s .entry)) at 4 ⌝ }
 {
-    ((wide(byte(s, at)) * 256 + wide(byte(s, at + 1))) * 256 + wide(byte(s, at + 2))) * 256
-        + wide(byte(s, at + 3))
+    ((byte(s, at) as u32 * 256 + byte(s, at + 1) as u32) * 256 + byte(s, at + 2) as u32) * 256
+        + byte(s, at + 3) as u32
 }
 
 // The eight values of a BLOCK whose operands start at p.
-pub fn values(s: &[u8], p: usize) -> [u32; 8]
+pub fn values(s: &[u8], p: usize) -> [u32; SheetCeilings::BLOCK_VALUES]
     requires { ⌜ p ≤ length (now s) ⌝ }
     ensures { λ r. ⌜ r ≡ valuesFrom (now (s .entry)) p ⌝ }
 {
@@ -253,30 +151,40 @@ pub fn values(s: &[u8], p: usize) -> [u32; 8]
     ]
 }
 
-// The command byte at a place: 1 for no command, 2 for an end before or inside the command.
-pub fn command_byte(s: &[u8], at: usize) -> Opcode
-    ensures { λ r. ⌜ ByteSays (now (s .entry)) at r ⌝ }
+// The entry of the command at a place: 1 for no command, 2 for an end before or inside the command.
+fn entry_at(s: &[u8], at: usize) -> Whole
+    ensures { λ r. ⌜ EntrySays (now (s .entry)) at r ⌝ }
 {
     if s.len() <= at {
-        return Opcode::Refused(Fault {
+        return Whole::Refused(Fault {
             refusal: Refusal::CutShort,
             place: s.len(),
         });
     }
-    let b = s[at];
-    let Index::At(i) = index_of(b) else {
-        return Opcode::Refused(Fault {
+    let Named::By(e) = entry_of(s[at]) else {
+        return Whole::Refused(Fault {
             refusal: Refusal::NoCommand,
             place: at,
         });
     };
-    if s.len() - (at + 1) < width(i) {
-        return Opcode::Refused(Fault {
+    if s.len() - (at + 1) < e.width as usize {
+        return Whole::Refused(Fault {
             refusal: Refusal::CutShort,
             place: at,
         });
     }
-    Opcode::Known(b)
+    Whole::By(e)
+}
+
+// The byte of the command at a place.
+pub fn command_byte(s: &[u8], at: usize) -> Opcode
+    ensures { λ r. ⌜ ByteSays (now (s .entry)) at r ⌝ }
+{
+    let w = entry_at(s, at);
+    match w {
+        Whole::By(e) => Opcode::Known(e.byte),
+        Whole::Refused(f) => Opcode::Refused(f),
+    }
 }
 
 // GET or PUT by its byte, its operands starting at p.
@@ -343,16 +251,16 @@ fn command_of(s: &[u8], p: usize, b: u8) -> Command
 pub fn decode(s: &[u8], at: usize) -> Decoded
     ensures { λ r. ⌜ viewDecoded (valuesFrom (now (s .entry)) (suc at)) r ≡ commandAt (now (s .entry)) at ⌝ }
 {
-    let o = command_byte(s, at);
-    let Opcode::Known(b) = o else {
-        return match o {
-            Opcode::Refused(f) => Decoded::Refused(f),
-            Opcode::Known(_) => Decoded::Refused(Fault {
+    let w = entry_at(s, at);
+    let Whole::By(e) = w else {
+        return match w {
+            Whole::Refused(f) => Decoded::Refused(f),
+            Whole::By(_) => Decoded::Refused(Fault {
                 refusal: Refusal::NoCommand,
                 place: at,
             }),
         };
     };
-    let next = at + 1 + width_of(b);
-    Decoded::Got(command_of(s, at + 1, b), next)
+    let next = at + 1 + e.width as usize;
+    Decoded::Got(command_of(s, at + 1, e.byte), next)
 }

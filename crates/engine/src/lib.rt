@@ -35,7 +35,7 @@ fn refused(f: Fault) -> Answer
 pub fn check(sheet: &[u8]) -> Answer
     ensures { λ r. ⌜ Checks (now (sheet .entry)) r ⌝ }
 {
-    let v = reading::check(sheet);
+    let v = sheet_check::check(sheet);
     match v {
         Verdict::Accepted => Answer {
             number: 0,
@@ -85,7 +85,7 @@ fn run_accepted(sheet: &[u8], limit: u32, buffer: &mut [u8]) -> usize
 pub fn run(sheet: &[u8], limit: u64, buffer: &mut [u8]) -> Answer
     ensures { λ r. ⌜ Runs (now (sheet .entry)) limit (now (buffer .entry)) (now (buffer .exit)) r ⌝ }
 {
-    let v = reading::first_fault(sheet);
+    let v = sheet_check::first_fault(sheet);
     if let Verdict::TurnedDown(f) = v {
         return refused(f);
     }

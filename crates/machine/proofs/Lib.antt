@@ -1,3 +1,4 @@
 pub mod Mask
 pub mod Pending
 pub mod Runs
+pub mod Resumed

@@ -30,23 +30,23 @@ module _ (x n : ℕ) (l : List ℕ) where
   unfolding among
   among-next i h k ne = rw (add-one, drop-cons (take n l) i 0 (within i h k), getD-take n l i 0 h, ne-eqb x (getD l i 0) (λ e. ne (sym e)))
 
--- THE PART OF AN ARRAY OF EIGHT
-pub part-none : (n : ℕ) (l : List ℕ) → length l ≡ 8 → eqb n 0 ≡ none? (take n l)
+-- THE PART OF AN ARRAY
+pub part-none : (n : ℕ) (l : List ℕ) → length l ≡ maxTouched → eqb n 0 ≡ none? (take n l)
 part-none n [] full = absurd (omega arith)
 part-none zero (x ∷ l) full = refl
 part-none (suc n) (x ∷ l) full = ne-eqb (suc n) 0 (λ e. omega arith)
 
-module _ (n : ℕ) (l : List ℕ) (full : length l ≡ 8) where
-  pub part-shorter : (m : ℕ) → m ≤ 8 → ltb n m ≡ ltb (length (take n l)) m
+module _ (n : ℕ) (l : List ℕ) (full : length l ≡ maxTouched) where
+  pub part-shorter : (m : ℕ) → m ≤ maxTouched → ltb n m ≡ ltb (length (take n l)) m
   part-shorter m h =
       cases (ltb n m)
       (λ e. e ∙ sym (lt-ltb _ m (rw length-take (omega (arith, ltb-true n m e)))))
       (λ e. e ∙ sym (le-ltb _ m (rw length-take (omega (arith, ltb-false n m e)))))
 
-  pub part-room : length (take n l) < 8 → n < 8
+  pub part-room : length (take n l) < maxTouched → n < maxTouched
   part-room h = omega (arith, length-take n l)
 
-  pub part-more : (x : ℕ) → n < 8 → take (n + 1) (set l n x) ≡ take n l ++ (x ∷ [])
+  pub part-more : (x : ℕ) → n < maxTouched → take (n + 1) (set l n x) ≡ take n l ++ (x ∷ [])
   part-more x h = rw add-one (take-suc-set l n x (omega arith))
 
 -- A NUMBER INCLUDED
@@ -63,4 +63,4 @@ room-left m x l e h = ltb-true (length l) m (rw e at h)
 
 pub room-wider : (x : ℕ) (l : List ℕ) → room maxPuts x l ≡ true → room maxTouched x l ≡ true
 room-wider x l h =
-    cases (among x l) (λ e. rw e) (λ e. rw e (lt-ltb (length l) 8 (omega (arith, ltb-true (length l) 4 (rw e at h)))))
+    cases (among x l) (λ e. rw e) (λ e. rw e (lt-ltb (length l) maxTouched (omega (arith, ltb-true (length l) maxPuts (rw e at h)))))

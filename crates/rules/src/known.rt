@@ -1,4 +1,4 @@
-// What is known before a command is read, and the ceilings.
+// What is known before a command is read.
 ghost use mathlib.Core.Path.{_≡_};
 ghost use mathlib.Core.Bool.{true};
 ghost use mathlib.Core.List.{[], _∷_, _++_};
@@ -9,6 +9,7 @@ ghost use Rattle.model.specs.Ceilings.{maxTouched};
 ghost use Rattle.model.specs.Fault as rule;
 ghost use Rattle.rules.specs.View.{viewNumbers, viewBody, viewKnown};
 use commands::Release;
+use commands::ceilings::TaskCeilings;
 
 pub enum Section {
     Words,
@@ -25,9 +26,9 @@ pub struct SheetCounts {
     pub releases: u16,
 }
 
-// At most eight numbers: the first `count` of the array.
+// As many numbers as a task may name of one kind: the first `count` of the array.
 pub struct Numbers {
-    pub values: [u8; 8],
+    pub values: [u8; TaskCeilings::TOUCHED],
     pub count: usize,
 }
 
@@ -48,32 +49,7 @@ pub struct Known {
     pub last: Release,
 }
 
-// The ceilings of what a sheet declares, and the last version of a block.
-impl SheetCounts {
-    pub const WORDS: u8 = 32;
-
-    pub const BLOCKS: u8 = 16;
-
-    pub const TASKS: u8 = 8;
-
-    pub const COMMANDS: u16 = 512;
-
-    pub const RELEASES: u16 = 256;
-
-    pub const LAST_VERSION: u32 = 16777215;
-}
-
 impl Task {
-    pub const PAIRS: usize = 8;
-
-    pub const TOUCHED: usize = 8;
-
-    pub const PUTS: usize = 4;
-
-    pub const LAST_REGISTER: u8 = 7;
-
-    pub const LAST_OFFSET: u8 = 7;
-
     // The body that a TASK opens.
     pub fn fresh() -> Task
         ensures { λ r. ⌜ viewBody r ≡ rule.emptyBody ⌝ }
@@ -112,7 +88,7 @@ impl Numbers {
         ensures { λ r. ⌜ viewNumbers r ≡ [] ⌝ }
     {
         Numbers {
-            values: [0; 8],
+            values: [0; TaskCeilings::TOUCHED],
             count: 0,
         }
     }
@@ -125,7 +101,7 @@ impl Numbers {
 
     // Fewer than the ceiling.
     pub fn below(self, ceiling: usize) -> bool
-        requires { ⌜ ceiling ≤ 8 ⌝ }
+        requires { ⌜ ceiling ≤ maxTouched ⌝ }
         ensures { λ r. ⌜ r ≡ ltb (length (viewNumbers self)) ceiling ⌝ }
     {
         self.count < ceiling
@@ -140,7 +116,7 @@ impl Numbers {
 
     // One more.
     pub fn with(self, x: u8) -> Numbers
-        requires { ⌜ length (viewNumbers self) < 8 ⌝ }
+        requires { ⌜ length (viewNumbers self) < maxTouched ⌝ }
         ensures { λ r. ⌜ viewNumbers r ≡ viewNumbers self ++ (x ∷ []) ⌝ }
     {
         let mut values = self.values;

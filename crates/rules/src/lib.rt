@@ -3,15 +3,16 @@ ghost use mathlib.Core.Path.{_≡_};
 ghost use mathlib.Core.Bool.{_&&_, _||_};
 ghost use mathlib.Core.List.{[]};
 ghost use Prim.Native.Nat.{_≤_};
+ghost use Rattle.model.specs.Ceilings.{maxTouched};
 ghost use Rattle.model.specs.Command.{access};
 ghost use Rattle.model.specs.Fault as rule;
 ghost use Rattle.commands.specs.View.{viewRelease, viewAccess, viewOutside, viewInside, viewBodyCommand, viewCommand};
-ghost use Rattle.rules.specs.View.{viewSection, viewCounts, viewNumbers, viewBody, viewKnown, viewFlaw};
+ghost use Rattle.rules.specs.View.{viewCounts, viewNumbers, viewBody, viewKnown, viewFlaw};
 use crate::known::Known;
 use crate::known::Numbers;
-use crate::known::Section;
 use crate::known::SheetCounts;
 use crate::known::Task;
+use crate::place::in_place;
 use commands::Access;
 use commands::BodyCommand;
 use commands::Command;
@@ -19,8 +20,11 @@ use commands::Inside;
 use commands::Outside;
 use commands::Refusal;
 use commands::Release;
+use commands::ceilings::SheetCeilings;
+use commands::ceilings::TaskCeilings;
 
 pub mod known;
+pub mod place;
 
 // The first rule that a command breaks.
 pub enum Flaw {
@@ -40,130 +44,9 @@ fn either(a: bool, b: bool) -> bool
     if a { true } else { b }
 }
 
-fn words(s: Section) -> bool
-    ensures { λ r. ⌜ r ≡ rule.words? (viewSection s) ⌝ }
-{
-    match s {
-        Section::Words => true,
-        Section::Blocks => false,
-        Section::Bodies => false,
-        Section::Releases => false,
-    }
-}
-
-fn blocks(s: Section) -> bool
-    ensures { λ r. ⌜ r ≡ rule.blocks? (viewSection s) ⌝ }
-{
-    match s {
-        Section::Words => false,
-        Section::Blocks => true,
-        Section::Bodies => false,
-        Section::Releases => false,
-    }
-}
-
-fn bodies(s: Section) -> bool
-    ensures { λ r. ⌜ r ≡ rule.body? (viewSection s) ⌝ }
-{
-    match s {
-        Section::Words => false,
-        Section::Blocks => false,
-        Section::Bodies => true,
-        Section::Releases => false,
-    }
-}
-
-fn releases(s: Section) -> bool
-    ensures { λ r. ⌜ r ≡ rule.releases? (viewSection s) ⌝ }
-{
-    match s {
-        Section::Words => false,
-        Section::Blocks => false,
-        Section::Bodies => false,
-        Section::Releases => true,
-    }
-}
-
-// The open body may end here.
-fn may_end(b: Task) -> bool
-    ensures { λ r. ⌜ r ≡ rule.mayEnd (viewBody b) ⌝ }
-{
-    let pairs = b.pairs;
-    both(both(!b.empty, pairs.is_none()), !b.inside)
-}
-
-// A body is open here, and no transaction in it.
-fn outside_transaction(k: Known) -> bool
-    ensures { λ r. ⌜ r ≡ rule.outsideTransaction (viewKnown k) ⌝ }
-{
-    let section = k.section;
-    let body = k.body;
-    both(bodies(section), !body.inside)
-}
-
-// A transaction is open here.
-fn inside_transaction(k: Known) -> bool
-    ensures { λ r. ⌜ r ≡ rule.insideTransaction (viewKnown k) ⌝ }
-{
-    let section = k.section;
-    let body = k.body;
-    both(bodies(section), body.inside)
-}
-
-// The bodies are over, or the last one may end here.
-fn bodies_over(k: Known) -> bool
-    ensures { λ r. ⌜ r ≡ rule.bodiesOver (viewKnown k) ⌝ }
-{
-    let section = k.section;
-    let body = k.body;
-    either(releases(section), both(bodies(section), may_end(body)))
-}
-
-// 4. The waiting PAIRs let it come: SWAP needs some, BEGIN none.
-fn in_place_outside(b: Task, c: Outside) -> bool
-    ensures { λ r. ⌜ r ≡ rule.inPlaceOutside (viewBody b) (viewOutside c) ⌝ }
-{
-    let pairs = b.pairs;
-    match c {
-        Outside::Swap(_) => !pairs.is_none(),
-        Outside::Begin => pairs.is_none(),
-        _ => true,
-    }
-}
-
-fn in_place_body(k: Known, c: BodyCommand) -> bool
-    ensures { λ r. ⌜ r ≡ rule.inPlaceBody (viewKnown k) (viewBodyCommand c) ⌝ }
-{
-    let section = k.section;
-    let body = k.body;
-    match c {
-        BodyCommand::Outside(o) => both(outside_transaction(k), in_place_outside(body, o)),
-        BodyCommand::Inside(_) => inside_transaction(k),
-        _ => bodies(section),
-    }
-}
-
-fn in_place(k: Known, c: Command) -> bool
-    ensures { λ r. ⌜ r ≡ rule.inPlace (viewKnown k) (viewCommand [] c) ⌝ }
-{
-    let section = k.section;
-    let body = k.body;
-    match c {
-        Command::Word(_) => words(section),
-        Command::Block(_) => either(words(section), blocks(section)),
-        Command::Task => either(
-            either(words(section), blocks(section)),
-            both(bodies(section), may_end(body)),
-        ),
-        Command::Release(_) => bodies_over(k),
-        Command::End => bodies_over(k),
-        Command::Body(b) => in_place_body(k, b),
-    }
-}
-
 // Room for x among the different numbers.
 fn room(ceiling: usize, x: u8, l: Numbers) -> bool
-    requires { ⌜ ceiling ≤ 8 ⌝ }
+    requires { ⌜ ceiling ≤ maxTouched ⌝ }
     ensures { λ r. ⌜ r ≡ rule.room ceiling x (viewNumbers l) ⌝ }
 {
     either(l.has(x), l.below(ceiling))
@@ -175,10 +58,10 @@ fn room_for_block(b: Task, a: Access) -> bool
     let touched = b.touched;
     let puts = b.puts;
     match a {
-        Access::Get { block, .. } => room(Task::TOUCHED, block, touched),
+        Access::Get { block, .. } => room(TaskCeilings::TOUCHED, block, touched),
         Access::Put { block, .. } => both(
-            room(Task::TOUCHED, block, touched),
-            room(Task::PUTS, block, puts),
+            room(TaskCeilings::TOUCHED, block, touched),
+            room(TaskCeilings::PUTS, block, puts),
         ),
     }
 }
@@ -189,7 +72,7 @@ fn under_ceiling_outside(b: Task, c: Outside) -> bool
 {
     let pairs = b.pairs;
     match c {
-        Outside::Pair { .. } => pairs.below(Task::PAIRS),
+        Outside::Pair { .. } => pairs.below(TaskCeilings::PAIRS),
         _ => true,
     }
 }
@@ -219,13 +102,13 @@ fn under_ceiling(k: Known, c: Command) -> bool
     let n = k.counts;
     let body = k.body;
     match c {
-        Command::Word(_) => n.words < SheetCounts::WORDS,
-        Command::Block(_) => n.blocks < SheetCounts::BLOCKS,
-        Command::Task => n.tasks < SheetCounts::TASKS,
-        Command::Release(_) => n.releases < SheetCounts::RELEASES,
+        Command::Word(_) => n.words < SheetCeilings::WORDS,
+        Command::Block(_) => n.blocks < SheetCeilings::BLOCKS,
+        Command::Task => n.tasks < SheetCeilings::TASKS,
+        Command::Release(_) => n.releases < SheetCeilings::RELEASES,
         Command::End => true,
         Command::Body(b) => both(
-            n.commands < SheetCounts::COMMANDS,
+            n.commands < SheetCeilings::COMMANDS,
             under_ceiling_body(body, b),
         ),
     }
@@ -240,16 +123,16 @@ fn access_in_range(n: SheetCounts, a: Access) -> bool
             block,
             offset,
         } => both(
-            both(register <= Task::LAST_REGISTER, block < n.blocks),
-            offset <= Task::LAST_OFFSET,
+            both(register <= TaskCeilings::LAST_REGISTER, block < n.blocks),
+            offset <= TaskCeilings::LAST_OFFSET,
         ),
         Access::Put {
             block,
             offset,
             register,
         } => both(
-            both(block < n.blocks, offset <= Task::LAST_OFFSET),
-            register <= Task::LAST_REGISTER,
+            both(block < n.blocks, offset <= TaskCeilings::LAST_OFFSET),
+            register <= TaskCeilings::LAST_REGISTER,
         ),
     }
 }
@@ -259,12 +142,15 @@ fn in_range_outside(n: SheetCounts, c: Outside) -> bool
     ensures { λ r. ⌜ r ≡ rule.inRangeOutside (viewCounts n) (viewOutside c) ⌝ }
 {
     match c {
-        Outside::Read { register, word } => both(register <= Task::LAST_REGISTER, word < n.words),
-        Outside::Pair { word, old, new } => both(
-            both(word < n.words, old <= Task::LAST_REGISTER),
-            new <= Task::LAST_REGISTER,
+        Outside::Read { register, word } => both(
+            register <= TaskCeilings::LAST_REGISTER,
+            word < n.words,
         ),
-        Outside::Swap(register) => register <= Task::LAST_REGISTER,
+        Outside::Pair { word, old, new } => both(
+            both(word < n.words, old <= TaskCeilings::LAST_REGISTER),
+            new <= TaskCeilings::LAST_REGISTER,
+        ),
+        Outside::Swap(register) => register <= TaskCeilings::LAST_REGISTER,
         Outside::Begin => true,
     }
 }
@@ -282,10 +168,10 @@ fn in_range_body(n: SheetCounts, c: BodyCommand) -> bool
     ensures { λ r. ⌜ r ≡ rule.inRangeBody (viewCounts n) (viewBodyCommand c) ⌝ }
 {
     match c {
-        BodyCommand::Load { register, .. } => register <= Task::LAST_REGISTER,
+        BodyCommand::Load { register, .. } => register <= TaskCeilings::LAST_REGISTER,
         BodyCommand::Add { register, other } => both(
-            register <= Task::LAST_REGISTER,
-            other <= Task::LAST_REGISTER,
+            register <= TaskCeilings::LAST_REGISTER,
+            other <= TaskCeilings::LAST_REGISTER,
         ),
         BodyCommand::Outside(o) => in_range_outside(n, o),
         BodyCommand::Inside(i) => in_range_inside(n, i),
@@ -296,7 +182,7 @@ fn in_range(n: SheetCounts, c: Command) -> bool
     ensures { λ r. ⌜ r ≡ rule.inRange (viewCounts n) (viewCommand [] c) ⌝ }
 {
     match c {
-        Command::Block(version) => version <= SheetCounts::LAST_VERSION,
+        Command::Block(version) => version <= SheetCeilings::LAST_VERSION,
         Command::Release(r) => r.task < n.tasks,
         Command::Body(b) => in_range_body(n, b),
         _ => true,

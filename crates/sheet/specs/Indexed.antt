@@ -5,6 +5,7 @@ use mathlib.Core.Bool.{Bool, true, false}
 use mathlib.Core.List.{List, [], _∷_}
 use lib.Dec.{eqb}
 use lib.ListN.{length, getD, set, replicate}
+use Rattle.model.specs.Ceilings.{maxWords, maxBlocks, maxTasks, maxReleases}
 use Rattle.model.specs.Command.{Command, WORD, BLOCK, TASK, RELEASE, END, body}
 use Rattle.model.specs.Sheet.{verdict, accepted, sheetOf, bodyAt, releasesAt, commandsAt}
 use Rattle.sheet.specs.declared.index.Sheet.{Sheet}
@@ -38,7 +39,7 @@ abbrev pub index : ℕ → ℕ → ℕ → ℕ → List ℕ → ℕ → Sheet
 index w b t r bs q = record { words = w; blocks = b; tasks = t; releases = r; bodies = bs; released = q }
 
 abbrev pub emptyIndex : Sheet
-emptyIndex = index 0 0 0 0 (replicate 8 0) 0
+emptyIndex = index 0 0 0 0 (replicate maxTasks 0) 0
 
 -- the place of the first release: this one, if there was none before
 abbrev pub placeOr : Bool → ℕ → ℕ → ℕ
@@ -57,10 +58,10 @@ counted x (body c) at next = x
 
 -- there is room for one more command
 abbrev pub Room : Sheet → Command → Type 0
-Room x (WORD v) = x .words < 32
-Room x (BLOCK b) = x .blocks < 16
-Room x TASK = x .tasks < 8
-Room x (RELEASE r) = x .releases < 256
+Room x (WORD v) = x .words < maxWords
+Room x (BLOCK b) = x .blocks < maxBlocks
+Room x TASK = x .tasks < maxTasks
+Room x (RELEASE r) = x .releases < maxReleases
 Room x END = 0 ≤ 0
 Room x (body c) = 0 ≤ 0
 

@@ -10,15 +10,21 @@ ghost use Rattle.model.specs.Command.{noBlock};
 ghost use Rattle.sheet.specs.Indexed.{Indexed, Room, counted, placeOr, emptyIndex, IsWord, IsBlock};
 use commands::Command;
 use commands::Decoded;
+use commands::ceilings::SheetCeilings;
 
 pub struct Sheet {
     pub words: u8,
     pub blocks: u8,
     pub tasks: u8,
     pub releases: u16,
-    pub bodies: [usize; 8],
+    pub bodies: [usize; SheetCeilings::TASKS as usize],
     pub released: usize,
 }
+
+// The bytes of a WORD and of a BLOCK.
+const WORD_BYTES: usize = 5;
+
+const BLOCK_BYTES: usize = 37;
 
 impl Sheet {
     pub fn empty() -> Sheet
@@ -29,7 +35,7 @@ impl Sheet {
             blocks: 0,
             tasks: 0,
             releases: 0,
-            bodies: [0; 8],
+            bodies: [0; SheetCeilings::TASKS as usize],
             released: 0,
         }
     }
@@ -51,7 +57,7 @@ fn count(x: Sheet, c: Command, at: usize, next: usize) -> Sheet
             y
         }
         Command::Task => {
-            let t = commands::size(x.tasks);
+            let t = x.tasks as usize;
             y.bodies[t] = next;
             y.tasks = x.tasks + 1;
             y
@@ -102,7 +108,7 @@ pub fn word(sheet: &[u8], i: usize) -> u32
     requires { ⌜ IsWord (now sheet) i ⌝ }
     ensures { λ r. ⌜ r ≡ getD (sheetOf (now (sheet .entry)) .words) i 0 ⌝ }
 {
-    commands::value4(sheet, 5 * i + 1)
+    commands::value4(sheet, WORD_BYTES * i + 1)
 }
 
 // The version of a block, and its eight values; `words` is the number of words before the blocks.
@@ -110,12 +116,12 @@ pub fn version(sheet: &[u8], words: usize, i: usize) -> u32
     requires { ⌜ IsBlock (now sheet) words i ⌝ }
     ensures { λ r. ⌜ r ≡ getD (sheetOf (now (sheet .entry)) .blocks) i noBlock .version ⌝ }
 {
-    commands::value4(sheet, 5 * words + 37 * i + 1)
+    commands::value4(sheet, WORD_BYTES * words + BLOCK_BYTES * i + 1)
 }
 
-pub fn block_values(sheet: &[u8], words: usize, i: usize) -> [u32; 8]
+pub fn block_values(sheet: &[u8], words: usize, i: usize) -> [u32; SheetCeilings::BLOCK_VALUES]
     requires { ⌜ IsBlock (now sheet) words i ⌝ }
     ensures { λ r. ⌜ r ≡ getD (sheetOf (now (sheet .entry)) .blocks) i noBlock .values ⌝ }
 {
-    commands::values(sheet, 5 * words + 37 * i + 1)
+    commands::values(sheet, WORD_BYTES * words + BLOCK_BYTES * i + 1)
 }

@@ -49,7 +49,7 @@ fn parse(line: &[u8], start: usize, bytes: &mut [u8]) -> usize
 
 // Number and place of a sheet's answer, in a line.
 fn answer(sheet: &[u8]) {
-    match reading::check(sheet) {
+    match sheet_check::check(sheet) {
         Verdict::Accepted => {
             io::write_all(STDOUT_FILENO, b"0 0");
         }

@@ -1,5 +1,5 @@
 -- `decode` meets its contract.
-use Rattle.commands.specs.declared.Opcode.the-variants.{Known, Refused}
+use Rattle.commands.specs.declared.Whole.the-variants.{By, Refused}
 use mathlib.Core.Path.{_≡_, sym}
 use native.Mathlib.Numerals.{add-one}
 use native.Mathlib.Omega.{arith}
@@ -7,69 +7,69 @@ use borrow.Author.Needs.{needs}
 use Rattle.commands.proofs.decode.Statement.{statement}
 use Rattle.commands.proofs.decode.Tie as tie
 
-command-byte-requires : tie.Need-command-byte-requires
-command-byte-requires c κs = search needs
+entry-at-requires : tie.Need-entry-at-requires
+entry-at-requires c κs = search needs
 
-enum-known-o : tie.Need-enum-known-o
-enum-known-o c = search needs
+enum-known-w : tie.Need-enum-known-w
+enum-known-w c = search needs
 
-enum-known-o-2 : tie.Need-enum-known-o-2
-enum-known-o-2 c = search needs
+enum-known-w-2 : tie.Need-enum-known-w-2
+enum-known-w-2 c = search needs
 
-enum-known-o-3 : tie.Need-enum-known-o-3
-enum-known-o-3 c = search needs
+enum-known-w-3 : tie.Need-enum-known-w-3
+enum-known-w-3 c = search needs
 
 enum-told : tie.Need-enum-told
 enum-told c = search needs
 
 returns : tie.Need-returns
-returns c = let e : c .before .before .before .before .before .before .command-byte .result ≡ Refused (c .before .o3 .given .0 .0) = cc in
-    sym (rw e at (c .before .before .before .before .before .before .command-byte .ensures))
+returns c = let refused : c .before .before .before .before .before .before .entry-at .result ≡ Refused (c .before .w3 .given .0 .0) = cc in
+    sym (rw refused at (c .before .before .before .before .before .before .entry-at .ensures))
 
 returns-2 : tie.Need-returns-2
 returns-2 c = search needs
 
 add-next : tie.Need-add-next
-add-next c = let e : c .before .before .before .command-byte .result ≡ Known (c .before .o .given .0 .0) = cc in
-    let says = rw e at (c .before .before .before .command-byte .ensures) in
-    omega (arith, says .0)
+add-next c = let by : c .before .before .before .entry-at .result ≡ By (c .before .w .given .0 .0) = cc in
+    let says = rw by at (c .before .before .before .entry-at .ensures) in
+    omega (arith, says .1 .0)
 
-width-of-requires : tie.Need-width-of-requires
-width-of-requires c κs = search needs
+cast-next : tie.Need-cast-next
+cast-next c = search needs
 
 add-next-2 : tie.Need-add-next-2
-add-next-2 c = let e : c .before .before .before .before .command-byte .result ≡ Known (c .before .before .o .given .0 .0) = cc in
-    let says = rw e at (c .before .before .before .before .command-byte .ensures) in
-    omega (arith, says .0, c .width-of .ensures)
+add-next-2 c = let by : c .before .before .before .before .entry-at .result ≡ By (c .before .before .w .given .0 .0) = cc in
+    let says = rw by at (c .before .before .before .before .entry-at .ensures) in
+    omega (arith, says .0, says .1 .0)
 
 add-command-of : tie.Need-add-command-of
-add-command-of c = let e : c .before .before .before .before .command-byte .result ≡ Known (c .before .before .o .given .0 .0) = cc in
-    let says = rw e at (c .before .before .before .before .command-byte .ensures) in
-    omega (arith, says .0)
+add-command-of c = let by : c .before .before .before .before .entry-at .result ≡ By (c .before .before .w .given .0 .0) = cc in
+    let says = rw by at (c .before .before .before .before .entry-at .ensures) in
+    omega (arith, says .1 .0)
 
 command-of-requires : tie.Need-command-of-requires
-command-of-requires c κs = let e : c .before .before .before .before .command-byte .result ≡ Known (c .before .before .o .given .0 .0) = cc in
-    let says = rw e at (c .before .before .before .before .command-byte .ensures) in
-    omega (arith, says .0)
+command-of-requires c κs = let by : c .before .before .before .before .entry-at .result ≡ By (c .before .before .w .given .0 .0) = cc in
+    let says = rw by at (c .before .before .before .before .entry-at .ensures) in
+    omega (arith, says .1 .0)
 
 returns-3 : tie.Need-returns-3
-returns-3 c = let e : c .before .before .before .before .before .command-byte .result ≡ Known (c .before .before .before .o .given .0 .0) = cc in
-    let says = rw e at (c .before .before .before .before .before .command-byte .ensures) in
-    rw (says .1, ← rw add-one at (c .command-of .ensures), ← c .before .width-of .ensures, add-one)
+returns-3 c = let by : c .before .before .before .before .before .entry-at .result ≡ By (c .before .before .before .w .given .0 .0) = cc in
+    let says = rw by at (c .before .before .before .before .before .entry-at .ensures) in
+    rw (says .1 .1, ← rw add-one at (c .command-of .ensures), ← says .0, add-one)
 
 pub decode-spec : {M : Type 1} → statement M
 decode-spec =
     tie.close
     (tie.spec
-    command-byte-requires
-    enum-known-o
-    enum-known-o-2
-    enum-known-o-3
+    entry-at-requires
+    enum-known-w
+    enum-known-w-2
+    enum-known-w-3
     enum-told
     returns
     returns-2
     add-next
-    width-of-requires
+    cast-next
     add-next-2
     add-command-of
     command-of-requires

@@ -9,8 +9,8 @@ use Rattle.commands.proofs.value2.Tie as tie
 byte-requires : tie.Need-byte-requires
 byte-requires c κs = search needs
 
-wide-requires : tie.Need-wide-requires
-wide-requires c κs = search needs
+cast-result : tie.Need-cast-result
+cast-result c = search needs
 
 mul-result : tie.Need-mul-result
 mul-result c = search needs
@@ -21,8 +21,8 @@ add-byte c = search needs
 byte-requires-2 : tie.Need-byte-requires-2
 byte-requires-2 c κs = search needs
 
-wide-requires-2 : tie.Need-wide-requires-2
-wide-requires-2 c κs = search needs
+cast-result-2 : tie.Need-cast-result-2
+cast-result-2 c = search needs
 
 add-result : tie.Need-add-result
 add-result c = search needs
@@ -36,10 +36,10 @@ value2-spec =
     tie.close
     (tie.spec
     byte-requires
-    wide-requires
+    cast-result
     mul-result
     add-byte
     byte-requires-2
-    wide-requires-2
+    cast-result-2
     add-result
     returns)

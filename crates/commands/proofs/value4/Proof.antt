@@ -9,8 +9,8 @@ use Rattle.commands.proofs.value4.Tie as tie
 byte-requires : tie.Need-byte-requires
 byte-requires c κs = search needs
 
-wide-requires : tie.Need-wide-requires
-wide-requires c κs = search needs
+cast-result : tie.Need-cast-result
+cast-result c = search needs
 
 mul-result : tie.Need-mul-result
 mul-result c = search needs
@@ -21,8 +21,8 @@ add-byte c = search needs
 byte-requires-2 : tie.Need-byte-requires-2
 byte-requires-2 c κs = search needs
 
-wide-requires-2 : tie.Need-wide-requires-2
-wide-requires-2 c κs = search needs
+cast-result-2 : tie.Need-cast-result-2
+cast-result-2 c = search needs
 
 add-result : tie.Need-add-result
 add-result c = search needs
@@ -36,8 +36,8 @@ add-byte-2 c = search needs
 byte-requires-3 : tie.Need-byte-requires-3
 byte-requires-3 c κs = search needs
 
-wide-requires-3 : tie.Need-wide-requires-3
-wide-requires-3 c κs = search needs
+cast-result-3 : tie.Need-cast-result-3
+cast-result-3 c = search needs
 
 add-result-2 : tie.Need-add-result-2
 add-result-2 c = search needs
@@ -51,8 +51,8 @@ add-byte-3 c = search needs
 byte-requires-4 : tie.Need-byte-requires-4
 byte-requires-4 c κs = search needs
 
-wide-requires-4 : tie.Need-wide-requires-4
-wide-requires-4 c κs = search needs
+cast-result-4 : tie.Need-cast-result-4
+cast-result-4 c = search needs
 
 add-result-3 : tie.Need-add-result-3
 add-result-3 c = search needs
@@ -66,20 +66,20 @@ value4-spec =
     tie.close
     (tie.spec
     byte-requires
-    wide-requires
+    cast-result
     mul-result
     add-byte
     byte-requires-2
-    wide-requires-2
+    cast-result-2
     add-result
     mul-result-2
     add-byte-2
     byte-requires-3
-    wide-requires-3
+    cast-result-3
     add-result-2
     mul-result-3
     add-byte-3
     byte-requires-4
-    wide-requires-4
+    cast-result-4
     add-result-3
     returns)

@@ -28,7 +28,8 @@ shared-slice-read-if2 c = omega arith
 returns-2 : tie.Need-returns-2 Inv-loop μ-loop
 returns-2 c = let a = c .before .before .before .before .before .args in
     let below : c .before .before .before .before .loop .i < a .count = omega arith in
-    sym (c .before .before .before .before .loop .inv .2 ∙ among-here (a .x) _ _ _ below (c .before .before .before .loop-test .taken) (c .if2 .taken))
+    sym (c .before .before .before .before .loop .inv .2
+    ∙ among-here (a .x) _ _ _ below (c .before .before .before .loop-test .taken) (c .if2 .taken))
 
 add-i : tie.Need-add-i Inv-loop μ-loop
 add-i c = omega arith

@@ -31,8 +31,10 @@ returns-2 c = λ go.
     ∙ sym (c .at-end .ensures)
 
 returns-3 : tie.Need-returns-3
-returns-3 c =
-    (sym (rw (c .before .before .enum-told .given .1) at (c .before .before .before .before .fault .ensures)), sym (c .before .is-end .ensures) ∙ c .if1 .left)
+returns-3 c = (
+  sym (rw (c .before .before .enum-told .given .1) at (c .before .before .before .before .fault .ensures)),
+  sym (c .before .is-end .ensures) ∙ c .if1 .left,
+)
 
 pub judge-spec : {M : Type 1} → statement M
 judge-spec =

@@ -26,7 +26,8 @@ values-requires c κs = omega (arith, fits _ (c .before .pre .sound), c .before 
 returns : tie.Need-returns
 returns c = let s = c .before .before .args .sheet .now in
     c .values .ensures ∙ ap (λ (p : ℕ). valuesFrom s p) (omega (arith, c .before .before .pre .before))
-    ∙ sym (ap (λ (b : Block). b .values) (block-of s (c .before .before .pre .sound) (c .before .before .args .i) noBlock (c .before .before .pre .declared)))
+    ∙ sym (ap (λ (b : Block). b .values)
+    (block-of s (c .before .before .pre .sound) (c .before .before .args .i) noBlock (c .before .before .pre .declared)))
 
 pub block-values-spec : {M : Type 1} → statement M
 block-values-spec =

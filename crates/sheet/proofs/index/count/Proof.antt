@@ -1,5 +1,6 @@
 -- `count` meets its contract.
 use Prim.Native.Nat.{_<_}
+use Rattle.model.specs.Ceilings.{maxBlocks, maxReleases, maxTasks, maxWords}
 use Rattle.sheet.specs.Indexed.{counted}
 use native.Mathlib.Omega.{arith}
 use borrow.Author.Needs.{needs}
@@ -11,32 +12,36 @@ enum-told c = search needs
 
 add-y : tie.Need-add-y
 add-y c =
-    let room : c .before .before .before .args .x .words < 32 = rw (c .before .enum-told .given .1) at (c .before .before .before .pre) in omega arith
+    let room : c .before .before .before .args .x .words < maxWords =
+    rw (c .before .enum-told .given .1) at (c .before .before .before .pre) in
+    omega arith
 
 enum-told-2 : tie.Need-enum-told-2
 enum-told-2 c = search needs
 
 add-y-2 : tie.Need-add-y-2
 add-y-2 c =
-    let room : c .before .before .before .args .x .blocks < 16 = rw (c .before .enum-told2 .given .1) at (c .before .before .before .pre) in
+    let room : c .before .before .before .args .x .blocks < maxBlocks = rw (c .before .enum-told2 .given .1) at (c .before .before .before .pre) in
     omega arith
 
 enum-told-3 : tie.Need-enum-told-3
 enum-told-3 c = search needs
 
-size-requires : tie.Need-size-requires
-size-requires c κs = search needs
+cast-t : tie.Need-cast-t
+cast-t c = search needs
 
 mul-y : tie.Need-mul-y
 mul-y c = search needs
 
 element-write-y : tie.Need-element-write-y
 element-write-y c =
-    let room : c .before .before .before .args .x .tasks < 8 = rw (c .before .enum-told3 .given .1) at (c .before .before .before .pre) in omega arith
+    let room : c .before .before .before .args .x .tasks < maxTasks =
+    rw (c .before .enum-told3 .given .1) at (c .before .before .before .pre) in
+    omega arith
 
 add-y-3 : tie.Need-add-y-3
 add-y-3 c =
-    let room : c .before .before .before .before .args .x .tasks < 8 =
+    let room : c .before .before .before .before .args .x .tasks < maxTasks =
     rw (c .before .before .enum-told3 .given .1) at (c .before .before .before .before .pre) in
     omega arith
 
@@ -48,7 +53,7 @@ first-place-requires c κs = search needs
 
 add-y-4 : tie.Need-add-y-4
 add-y-4 c =
-    let room : c .before .before .before .before .args .x .releases < 256 =
+    let room : c .before .before .before .before .args .x .releases < maxReleases =
     rw (c .before .before .enum-told4 .given .1) at (c .before .before .before .before .pre) in
     omega arith
 
@@ -71,7 +76,7 @@ returns-2 c = rw (c .before .enum-told2 .given .1)
 
 returns-3 : tie.Need-returns-3
 unfolding counted
-returns-3 c = rw (c .before .before .enum-told3 .given .1, c .before .size .ensures .0)
+returns-3 c = rw (c .before .before .enum-told3 .given .1)
 
 returns-4 : tie.Need-returns-4
 unfolding counted
@@ -94,7 +99,7 @@ count-spec =
     enum-told-2
     add-y-2
     enum-told-3
-    size-requires
+    cast-t
     mul-y
     element-write-y
     add-y-3

@@ -25,7 +25,8 @@ value4-requires c κs = omega (arith, fits _ (c .before .pre .sound), c .before 
 returns : tie.Need-returns
 returns c = let s = c .before .before .args .sheet .now in
     c .value4 .ensures ∙ ap (λ (p : ℕ). bigEndian s p 4) (omega (arith, c .before .before .pre .before))
-    ∙ sym (ap (λ (b : Block). b .version) (block-of s (c .before .before .pre .sound) (c .before .before .args .i) noBlock (c .before .before .pre .declared)))
+    ∙ sym (ap (λ (b : Block). b .version)
+    (block-of s (c .before .before .pre .sound) (c .before .before .args .i) noBlock (c .before .before .pre .declared)))
 
 pub version-spec : {M : Type 1} → statement M
 version-spec =

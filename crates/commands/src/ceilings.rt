@@ -1,0 +1,39 @@
+// Document 01's ceilings and operand ranges, once for all code: of what a sheet declares, of a task's commands, and of a run.
+pub struct SheetCeilings;
+
+impl SheetCeilings {
+    pub const WORDS: u8 = 32;
+
+    pub const BLOCKS: u8 = 16;
+
+    pub const TASKS: u8 = 8;
+
+    pub const COMMANDS: u16 = 512;
+
+    pub const RELEASES: u16 = 256;
+
+    pub const LAST_VERSION: u32 = 16777215;
+
+    // Each block has exactly as many values.
+    pub const BLOCK_VALUES: usize = 8;
+}
+
+pub struct TaskCeilings;
+
+impl TaskCeilings {
+    pub const PAIRS: usize = 8;
+
+    pub const TOUCHED: usize = 8;
+
+    pub const PUTS: usize = 4;
+
+    pub const LAST_REGISTER: u8 = 7;
+
+    pub const LAST_OFFSET: u8 = 7;
+}
+
+pub struct RunCeilings;
+
+impl RunCeilings {
+    pub const LIMIT: u64 = 65535;
+}

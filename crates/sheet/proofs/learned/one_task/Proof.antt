@@ -1,0 +1,14 @@
+-- `one_task` meets its contract.
+use native.Mathlib.Numerals.{add-one}
+use borrow.Author.Needs.{needs}
+use Rattle.sheet.proofs.learned.one_task.Statement.{statement}
+use Rattle.sheet.proofs.learned.one_task.Tie as tie
+
+add-t2 : tie.Need-add-t2
+add-t2 c = search needs
+
+returns : tie.Need-returns
+returns c = rw add-one
+
+pub one-task-spec : {M : Type 1} → statement M
+one-task-spec = tie.close (tie.spec add-t2 returns)
