@@ -6,15 +6,13 @@ ghost use Rattle.engine.specs.Contract.{Checks, Runs, answerOf};
 ghost use Rattle.engine.specs.Flat.{Ran};
 use commands::Fault;
 use commands::Refusal;
+use commands::ceilings::RunCeilings;
 use machine::run::Paused;
 use report::Totals;
 use sheet::check::Verdict;
 use start::Counts;
 
 mod exports;
-
-// The highest limit of ticks.
-const MAX_LIMIT: u64 = 65535;
 
 // Document 01's number of the refusal, 0 if there is none, and its place; of a run that is not turned down, the report's length.
 pub struct Answer {
@@ -89,7 +87,7 @@ pub fn run(sheet: &[u8], limit: u64, buffer: &mut [u8]) -> Answer
     if let Verdict::TurnedDown(f) = v {
         return refused(f);
     }
-    if MAX_LIMIT < limit {
+    if RunCeilings::LIMIT < limit {
         return refused(Fault {
             refusal: Refusal::LimitTooHigh,
             place: 0,

@@ -13,6 +13,7 @@ ghost use Rattle.machine.specs.Flat.{unfinished?, topOf, droppedBy, begu
 use crate::releases;
 use crate::releases::Coming;
 use commands::BodyCommand;
+use commands::ceilings::SheetCeilings;
 use jobs::Inner;
 use jobs::Job;
 use jobs::Phase;
@@ -22,9 +23,13 @@ use state::task;
 use statements::begin;
 use statements::step;
 
+const TASKS: usize = SheetCeilings::TASKS as usize;
+
+const COMMANDS: usize = SheetCeilings::COMMANDS as usize;
+
 // A run between two ticks: the jobs, the mask of unfinished ones, the place of the next release, the ticks done and the releases dropped.
 pub struct Paused {
-    pub jobs: [Job; 8],
+    pub jobs: [Job; TASKS],
     pub mask: u32,
     pub place: usize,
     pub ticks: u32,
@@ -44,7 +49,7 @@ impl Paused {
                 begin: 0,
                 pairs: 0,
                 used: 0,
-            }; 8],
+            }; TASKS],
             mask: 0,
             place: place,
             ticks: 0,
@@ -111,7 +116,7 @@ fn top(mask: u32) -> u8
 fn task_number(n: u8) -> u8
     ensures { λ r. ⌜ (r ≡ n % 8) × (r < 8) ⌝ }
 {
-    n % 8
+    n % SheetCeilings::TASKS
 }
 
 // A release to a task whose job is unfinished is dropped and counted.
@@ -184,10 +189,10 @@ fn bound_in(s: &[usize], i: usize) -> usize
 fn line(n: usize) -> usize
     ensures { λ r. ⌜ (r ≡ lineOf n) × (r < 512) ⌝ }
 {
-    if n < 512 {
+    if n < COMMANDS {
         return n;
     }
-    511
+    COMMANDS - 1
 }
 
 // A job that stands where its body ends is finished.
@@ -269,10 +274,10 @@ fn lowered(mask: u32, bit: u32) -> u32
 // The run of a program whose bodies lie within those bounds, on from where it was paused. The sheet is read for its releases.
 pub fn run(
     sheet: &[u8],
-    program: [BodyCommand; 512],
+    program: [BodyCommand; COMMANDS],
     bounds: &[usize; 9],
     memory: &mut Memory,
-    tasks: &mut [Task; 8],
+    tasks: &mut [Task; TASKS],
     from: Paused,
     limit: u32,
 ) -> Paused

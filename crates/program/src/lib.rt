@@ -7,9 +7,10 @@ use commands::BodyCommand;
 use commands::Command;
 use commands::Decoded;
 use commands::Inside;
+use commands::ceilings::SheetCeilings;
 
 // The ceiling of body commands in all.
-pub const MAX_COMMANDS: usize = 512;
+pub const MAX_COMMANDS: usize = SheetCeilings::COMMANDS as usize;
 
 // A total store: past the end it does nothing.
 fn set_usize(s: &mut [usize], i: usize, v: usize)

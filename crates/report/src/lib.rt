@@ -12,6 +12,7 @@ ghost use Rattle.state.specs.State.{shared, own};
 ghost use Rattle.state.specs.Held.{memoryOf};
 ghost use Rattle.report.specs.Writing.{Written, farthest};
 ghost use Rattle.report.specs.Text.{taskLinesOf, reportText, Reported};
+use commands::ceilings::SheetCeilings;
 use exchanges::places;
 use exchanges::read;
 use state::Memory;
@@ -20,16 +21,16 @@ use state::shared;
 use state::task;
 
 // The most words, blocks and tasks that a report tells of.
-const WORDS: usize = 32;
+const WORDS: usize = SheetCeilings::WORDS as usize;
 
-const BLOCKS: usize = 16;
+const BLOCKS: usize = SheetCeilings::BLOCKS as usize;
 
-const TASKS: usize = 8;
+const TASKS: usize = SheetCeilings::TASKS as usize;
 
 // How many block stores there are, and values in one.
 const STORES: u32 = 48;
 
-const VALUES: usize = 8;
+const VALUES: usize = SheetCeilings::BLOCK_VALUES;
 
 const REGISTERS: usize = 8;
 

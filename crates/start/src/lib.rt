@@ -9,18 +9,19 @@ ghost use Rattle.state.specs.Packed.{unpack};
 ghost use Rattle.state.specs.State.{shared, own};
 ghost use Rattle.start.specs.Start.{SharedStarts, OwnStarts, TasksStart};
 ghost use Rattle.start.specs.Declaring.{Counted, nothing, declaring, NextBlock, Before, Stored};
+use commands::ceilings::SheetCeilings;
 use state::Memory;
 use state::Task;
 use state::Word;
 
 // The banks' cells stand after those of the words.
-const WORDS: usize = 32;
+const WORDS: usize = SheetCeilings::WORDS as usize;
 
 const CELLS: usize = 48;
 
-const VALUES: usize = 8;
+const VALUES: usize = SheetCeilings::BLOCK_VALUES;
 
-const TASKS: usize = 8;
+const TASKS: usize = SheetCeilings::TASKS as usize;
 
 const COPIES: usize = 4;
 

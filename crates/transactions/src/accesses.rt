@@ -6,6 +6,7 @@ ghost use Rattle.jobs.specs.Jobs.{inPhase};
 ghost use Rattle.transactions.specs.Blocks.{bankOf, namedBlock, clearing};
 ghost use Rattle.transactions.specs.Accesses.{goesOn, firstRead, storeFor, gotBy, afterCopy, afterPut, accessTick, restarted, checkedBy, againRead};
 use commands::Access;
+use commands::ceilings::SheetCeilings;
 use exchanges::places;
 use exchanges::read;
 use exchanges::read::Read;
@@ -22,7 +23,7 @@ use state::task;
 pub fn bank(block: u8) -> usize
     ensures { λ r. ⌜ r ≡ bankOf block ⌝ }
 {
-    32 + (block as usize)
+    (SheetCeilings::WORDS as usize) + (block as usize)
 }
 
 pub fn block(access: Access) -> u8
@@ -68,7 +69,7 @@ pub fn clear(task: &mut Task)
     ensures { λ r. ⌜ own (now (task .exit)) ≡ clearing 16 (own (now (task .entry))) ⌝ }
 {
     let mut b: u8 = 0;
-    while b < 16 {
+    while b < SheetCeilings::BLOCKS {
         task::set_touched(&mut *task, b, 0);
         b += 1;
     }

@@ -6,6 +6,7 @@ ghost use Rattle.exchanges.specs.Places.{noted};
 ghost use Rattle.transactions.specs.Blocks.{untouchedFrom, isSpent, spentFrom, newBank, gathering, gatheredOne, gatheredTo, takingOne, takingBack};
 ghost use Rattle.transactions.specs.Commits.{gatheredIn, commitBy, committedBy};
 use crate::accesses;
+use commands::ceilings::SheetCeilings;
 use exchanges::exchange::Exchanged;
 use exchanges::exchange::Step;
 use exchanges::places;
@@ -19,7 +20,7 @@ fn untouched(task: &Task) -> bool
     ensures { λ r. ⌜ r ≡ untouchedFrom 16 (own (now (task .entry))) 0 ⌝ }
 {
     let mut b: u8 = 0;
-    while b < 16 {
+    while b < SheetCeilings::BLOCKS {
         if task::touched(task, b) != 0 {
             return false;
         }
@@ -28,9 +29,6 @@ fn untouched(task: &Task) -> bool
     true
 }
 
-// The last version of a block: a PUT at it is spent.
-const LAST_VERSION: u32 = 16777215;
-
 // A PUT block at the last version.
 fn is_spent(touched: u32, bank: u32) -> bool
     ensures { λ r. ⌜ r ≡ isSpent touched bank ⌝ }
@@ -38,14 +36,14 @@ fn is_spent(touched: u32, bank: u32) -> bool
     if touched < 2 {
         return false;
     }
-    bank / 256 == LAST_VERSION
+    bank / 256 == SheetCeilings::LAST_VERSION
 }
 
 fn spent(task: &Task) -> bool
     ensures { λ r. ⌜ r ≡ spentFrom 16 (own (now (task .entry))) 0 ⌝ }
 {
     let mut b: u8 = 0;
-    while b < 16 {
+    while b < SheetCeilings::BLOCKS {
         if is_spent(task::touched(task, b), task::remembered(task, b)) {
             return true;
         }
@@ -76,7 +74,13 @@ fn gather_one(task: &mut Task, b: u8, n: u8) -> u8
     }
     let bank = task::remembered(&*task, b);
     let new = new_bank(&*task, touched, bank);
-    jobs::enter(&mut *task, n, 32 + (b as u32), bank, new);
+    jobs::enter(
+        &mut *task,
+        n,
+        (SheetCeilings::WORDS as u32) + (b as u32),
+        bank,
+        new,
+    );
     places::next(n)
 }
 
@@ -86,7 +90,7 @@ fn gather(task: &mut Task) -> u8
 {
     let mut n: u8 = 0;
     let mut b: u8 = 0;
-    while b < 16 {
+    while b < SheetCeilings::BLOCKS {
         n = gather_one(&mut *task, b, n);
         b += 1;
     }
@@ -131,7 +135,7 @@ fn take_back(task: &mut Task)
     ensures { λ r. ⌜ own (now (task .exit)) ≡ takingBack 16 (own (now (task .entry))) ⌝ }
 {
     let mut b: u8 = 0;
-    while b < 16 {
+    while b < SheetCeilings::BLOCKS {
         take_one(&mut *task, b);
         b += 1;
     }
