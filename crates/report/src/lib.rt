@@ -58,8 +58,7 @@ fn contents(memory: &Memory, cell: usize) -> u32
 
 fn word_lines(buffer: &mut [u8], place: usize, memory: &Memory, words: usize) -> usize
     requires { ⌜ (words ≤ maxWords) × (place + 24 * words ≤ farthest) ⌝ }
-    ensures { λ r. ⌜ Written (24 * words) (lines words 0 (wordLine (memoryOf (shared (now (memory .entry))))))
-        (now (buffer .entry)) (now (buffer .exit)) place r ⌝ }
+    ensures { λ r. ⌜ Written (24 * words) (lines words 0 (wordLine (memoryOf (shared (now (memory .entry)))))) (now (buffer .entry)) (now (buffer .exit)) place r ⌝ }
 {
     let mut next = place;
     let mut w = 0;
@@ -74,8 +73,7 @@ fn word_lines(buffer: &mut [u8], place: usize, memory: &Memory, words: usize) ->
 // The values of a block store; a store that there is not has none.
 fn store_fields(buffer: &mut [u8], place: usize, memory: &Memory, store: u32) -> usize
     requires { ⌜ place + 89 ≤ farthest ⌝ }
-    ensures { λ r. ⌜ Written 89 (fields (at [] (memoryOf (shared (now (memory .entry))) .stores) store))
-        (now (buffer .entry)) (now (buffer .exit)) place r ⌝ }
+    ensures { λ r. ⌜ Written 89 (fields (at [] (memoryOf (shared (now (memory .entry))) .stores) store)) (now (buffer .entry)) (now (buffer .exit)) place r ⌝ }
 {
     if store < STORES {
         let values = shared::stores(memory);
@@ -97,8 +95,7 @@ fn block_line(buffer: &mut [u8], place: usize, memory: &Memory, block: usize) ->
 
 fn block_lines(buffer: &mut [u8], place: usize, memory: &Memory, blocks: usize) -> usize
     requires { ⌜ (blocks ≤ maxBlocks) × (place + 112 * blocks ≤ farthest) ⌝ }
-    ensures { λ r. ⌜ Written (112 * blocks) (lines blocks 0 (blockLine (memoryOf (shared (now (memory .entry))))))
-        (now (buffer .entry)) (now (buffer .exit)) place r ⌝ }
+    ensures { λ r. ⌜ Written (112 * blocks) (lines blocks 0 (blockLine (memoryOf (shared (now (memory .entry)))))) (now (buffer .entry)) (now (buffer .exit)) place r ⌝ }
 {
     let mut next = place;
     let mut b = 0;
@@ -123,8 +120,7 @@ fn task_line(buffer: &mut [u8], place: usize, tasks: &[Task; 8], p: usize) -> us
 
 fn task_lines(buffer: &mut [u8], place: usize, tasks: &[Task; 8], count: usize) -> usize
     requires { ⌜ (count ≤ maxTasks) × (place + 158 * count ≤ farthest) ⌝ }
-    ensures { λ r. ⌜ Written (158 * count) (lines count 0 (taskLinesOf (map own (now (tasks .entry)))))
-        (now (buffer .entry)) (now (buffer .exit)) place r ⌝ }
+    ensures { λ r. ⌜ Written (158 * count) (lines count 0 (taskLinesOf (map own (now (tasks .entry))))) (now (buffer .entry)) (now (buffer .exit)) place r ⌝ }
 {
     let mut next = place;
     let mut p = 0;
@@ -146,8 +142,7 @@ fn at_most(n: usize, ceiling: usize) -> usize
 
 // The whole report, as far as the buffer goes.
 fn write(buffer: &mut [u8], memory: &Memory, tasks: &[Task; 8], totals: Totals) -> usize
-    ensures { λ r. ⌜ Written 3848 (reportText (shared (now (memory .entry))) (map own (now (tasks .entry))) totals)
-        (now (buffer .entry)) (now (buffer .exit)) 0 r ⌝ }
+    ensures { λ r. ⌜ Written 3848 (reportText (shared (now (memory .entry))) (map own (now (tasks .entry))) totals) (now (buffer .entry)) (now (buffer .exit)) 0 r ⌝ }
 {
     let words = at_most(totals.words, WORDS);
     let blocks = at_most(totals.blocks, BLOCKS);
@@ -160,8 +155,7 @@ fn write(buffer: &mut [u8], memory: &Memory, tasks: &[Task; 8], totals: Totals) 
 
 // The report's length. If the buffer is as long, the report stands at its start, and nothing else in it is changed; if not, nothing is.
 pub fn report(memory: &Memory, tasks: &[Task; 8], totals: Totals, buffer: &mut [u8]) -> usize
-    ensures { λ r. ⌜ Reported (reportText (shared (now (memory .entry))) (map own (now (tasks .entry))) totals)
-        (now (buffer .entry)) (now (buffer .exit)) r ⌝ }
+    ensures { λ r. ⌜ Reported (reportText (shared (now (memory .entry))) (map own (now (tasks .entry))) totals) (now (buffer .entry)) (now (buffer .exit)) r ⌝ }
 {
     let needed = write(&mut buffer[..0], memory, tasks, totals);
     if needed <= buffer.len() {

@@ -75,8 +75,7 @@ pub fn field(buffer: &mut [u8], place: usize, value: u32) -> usize
 // The numbers of a line, `count` of the values from `start` on, and the line's end.
 pub fn fields(buffer: &mut [u8], place: usize, values: &[u32], start: usize, count: usize) -> usize
     requires { ⌜ (start + count ≤ length (now values)) × (place + (11 * count + 1) ≤ farthest) ⌝ }
-    ensures { λ r. ⌜ Written (11 * count + 1) (fields (take count (drop start (now (values .entry)))))
-        (now (buffer .entry)) (now (buffer .exit)) place r ⌝ }
+    ensures { λ r. ⌜ Written (11 * count + 1) (fields (take count (drop start (now (values .entry))))) (now (buffer .entry)) (now (buffer .exit)) place r ⌝ }
 {
     let mut next = place;
     let mut i = 0;
@@ -116,8 +115,7 @@ pub fn row_line(
     count: usize,
 ) -> usize
     requires { ⌜ (count ≤ length (now values)) × (place + (11 * count + 13) ≤ farthest) ⌝ }
-    ensures { λ r. ⌜ Written (11 * count + 13) (line letter (first ∷ take count (now (values .entry))))
-        (now (buffer .entry)) (now (buffer .exit)) place r ⌝ }
+    ensures { λ r. ⌜ Written (11 * count + 13) (line letter (first ∷ take count (now (values .entry)))) (now (buffer .entry)) (now (buffer .exit)) place r ⌝ }
 {
     let next = head(&mut *buffer, place, letter, first);
     fields(&mut *buffer, next, values, 0, count)
