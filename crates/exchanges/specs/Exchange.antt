@@ -8,7 +8,8 @@ use Rattle.state.specs.State.{Shared, setCell, setStatus, setSave, Own, setInit
 use Rattle.exchanges.specs.Places.{if, nextOf, Went, went, Noted, noted, Left, left}
 use Rattle.exchanges.specs.Reading.{owned, savedFor}
 use Rattle.exchanges.specs.declared.exchange.Step.{Step}
-use Rattle.exchanges.specs.declared.exchange.Step.the-variants.{Start, Test, Load, Look, Fetch, Save, Fail, Mark, Install, Commit, Clean, CleanMark}
+use Rattle.exchanges.specs.declared.exchange.Step.the-variants.{Start, Test, Load, Look, Fetch, Save, Fail}
+use Rattle.exchanges.specs.declared.exchange.Step.the-variants.{Mark, Install, Commit, Clean, CleanMark}
 use Rattle.exchanges.specs.declared.exchange.Found.{Found}
 use Rattle.exchanges.specs.declared.exchange.Exchanged.{Exchanged}
 use Rattle.exchanges.specs.declared.exchange.Exchanged.the-variants.{Goes, Finds, Ends}
@@ -28,7 +29,8 @@ found i x = Finds (record { i = i; value = x })
 
 unfoldable pub afterLook : Shared → Own → ℕ → Noted Exchanged
 afterLook m t i =
-    if (owned m (at 0 (t .entries .inits) i)) (noted (found i (valueOf (at 0 (t .entries .inits) i))) (setOverlapped t i 0)) (noted (Goes (Fetch i)) (setOverlapped t i 1))
+    if (owned m (at 0 (t .entries .inits) i)) (noted (found i (valueOf (at 0 (t .entries .inits) i))) (setOverlapped t i 0))
+    (noted (Goes (Fetch i)) (setOverlapped t i 1))
 
 unfoldable pub afterFetch : Shared → Own → ℕ → Exchanged
 afterFetch m t i = found i (savedFor m (at 0 (t .entries .inits) i))
@@ -42,7 +44,10 @@ savedStep true false false i = Mark i
 
 unfoldable pub afterSave : Shared → Own → ℕ → ℕ → ℕ → Went Step
 afterSave m t p i v =
-    went (savedStep (eqb v (at 0 (t .entries .olds) i)) (eqb (at 0 (t .entries .overlapped) i) 0) (eqb (at 0 (t .entries .olds) i) (at 0 (t .entries .news) i)) i) (setSave m (8 * p + i) v)
+    went
+    (savedStep (eqb v (at 0 (t .entries .olds) i)) (eqb (at 0 (t .entries .overlapped) i) 0)
+    (eqb (at 0 (t .entries .olds) i) (at 0 (t .entries .news) i)) i)
+    (setSave m (8 * p + i) v)
 
 unfoldable pub afterFail : Shared → ℕ → ℕ → Went Step
 afterFail m p i = went (Test i) (setStatus m p 1)

@@ -19,7 +19,21 @@ use Rattle.exchanges.specs.Places.{Noted, noted, Left, left}
 use Rattle.jobs.specs.declared.Phase.{Phase}
 use Rattle.jobs.specs.declared.Job.{Job}
 use Rattle.statements.specs.Statements.{beginTick, stepTick, starting?, lineOf, statement}
-use Rattle.machine.specs.Flat.{unfinished?, stopsBy, topOf, droppedBy, begunBy, zeroedBy, startedBy, finished, tickOf, leftBy, FlatMachine, flat, noJob}
+use Rattle.machine.specs.Flat.{
+  unfinished?,
+  stopsBy,
+  topOf,
+  droppedBy,
+  begunBy,
+  zeroedBy,
+  startedBy,
+  finished,
+  tickOf,
+  leftBy,
+  FlatMachine,
+  flat,
+  noJob,
+}
 use Rattle.machine.specs.Flat.{pendingAt, comingFor, comingBy, untilBy, untilOf, released, ticked, comingIn, Ends, stopped, arrives, moves}
 use Rattle.machine.specs.declared.releases.Pending.{Pending}
 use Rattle.machine.specs.declared.releases.Coming.{Coming}
@@ -113,7 +127,8 @@ module _ (program : List BodyCommand) (bounds : List ℕ) (m : Shared) (ts : Lis
   tick-turn x {end = end} {m' = m'} {j = j} work top lt e1 e2 =
       rw (record-set ts p x (own x) refl, ← set-set jobs p k j) (ap after e2 ∙ is-ticked)
     where
-      is-ticked : after (tickOf end (statement program m (own (getD ts p [])) p k)) ≡ ticked program bounds (flat m (map own ts) (set jobs p k) n r t d)
+      is-ticked : after (tickOf end (statement program m (own (getD ts p [])) p k)) ≡ ticked program bounds
+          (flat m (map own ts) (set jobs p k) n r t d)
       is-ticked = rw (ne-eqb n 0 work, ← top, getD-set-same jobs p k noJob lt, record-at ts p, ← e1)
 
 pub pass-turn : (program : List BodyCommand) (bounds : List ℕ) (m : Shared) (ts : List Own) (jobs : List Job) (n r t d : ℕ) → n ≡ 0

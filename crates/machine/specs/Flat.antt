@@ -193,7 +193,8 @@ abbrev pub comingIn : List ℕ → FlatMachine → Coming
 comingIn sheet w = comingBy (pendingAt (M.commandAt sheet (w .place))) (w .ticks)
 
 -- the run of a program, whose bodies lie within those bounds, from one machine ends in another
-pub data Ends (sheet : List ℕ) (program : List BodyCommand) (bounds : List ℕ) (limit : ℕ) : FlatMachine → FlatMachine → Type 0 where
+pub data Ends (sheet : List ℕ) (program : List BodyCommand) (bounds : List ℕ) (limit : ℕ)
+    : FlatMachine → FlatMachine → Type 0 where
   limited : {w : FlatMachine} → limit ≤ w .ticks → Ends sheet program bounds limit w w
   stopped : {w : FlatMachine} → stopsBy (comingIn sheet w) (w .mask) ≡ true → Ends sheet program bounds limit w w
   arrives : {w u : FlatMachine} (task next : ℕ) → w .ticks < limit → comingIn sheet w ≡ Due task next

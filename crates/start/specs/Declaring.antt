@@ -24,7 +24,8 @@ nothing = record { words = []; blocks = []; bodies = []; releases = [] }
 
 -- the first words and blocks, that many, and all else
 abbrev pub declaring : Sheet → ℕ → ℕ → Sheet
-declaring s words blocks = record { words = take words (s .words); blocks = take blocks (s .blocks); bodies = s .bodies; releases = s .releases }
+declaring s words blocks =
+    record { words = take words (s .words); blocks = take blocks (s .blocks); bodies = s .bodies; releases = s .releases }
 
 -- the sheet declares block b, and those before it are in the memory
 pub record NextBlock (s : List ℕ) (n : Counts) (m : Shared) (b : ℕ) : Type 0 where
@@ -40,5 +41,6 @@ pub record Before (m : Shared) (store : ℕ) (values : List ℕ) : Type 0 where
 
 -- the store has these values, and all else is as before
 pub record Stored (m : Shared) (store : ℕ) (values : List ℕ) (r : Shared) : Type 0 where
-  pub memory : memoryOf r ≡ memory (memoryOf m .cells) (memoryOf m .status) (memoryOf m .saves) (replace (memoryOf m .stores) store values)
+  pub memory :
+      memoryOf r ≡ memory (memoryOf m .cells) (memoryOf m .status) (memoryOf m .saves) (replace (memoryOf m .stores) store values)
   pub sized : SharedSized r

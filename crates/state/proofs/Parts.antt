@@ -47,7 +47,8 @@ unfolding part
 part-most o n l = simp length-take (omega arith)
 
 -- word i of the n words from place o on
-pub word-part : (o n i : ℕ) (l : List ℕ) → o + 2 * n ≤ length l → i < n → at 0 (words (part o (2 * n) l)) i ≡ at 0 l (o + 2 * i) + 4294967296 * at 0 l (o + 2 * i + 1)
+pub word-part : (o n i : ℕ) (l : List ℕ) → o + 2 * n ≤ length l → i < n → at 0 (words (part o (2 * n) l)) i ≡ at 0 l
+    (o + 2 * i) + 4294967296 * at 0 l (o + 2 * i + 1)
 word-part o n i l f h =
     let e : o + (2 * i + 1) ≡ o + 2 * i + 1 = omega arith in
     at-words (part o (2 * n) l) i (omega (arith, length-part o (2 * n) l f))
@@ -79,9 +80,11 @@ within-change o n l i v = test? (ltb i n) (λ e. inside e (ltb-true i n e)) (λ 
         under p k d q b = rw q (ap (take k) (drop-set-add p l d v) ∙ take-set-le k (drop p l) d v b)
 
     outside : ltb i n ≡ false → n ≤ i → Change o n l (by (ltb i n) (set l (o + i) v) l) (set (take n (drop o l)) i v)
-    outside e h = rw e (record { same = sym (set-out (take n (drop o l)) i v (simp length-take (omega arith))); below = λ p k b. refl; above = λ p k b. refl })
+    outside e h = rw e (record
+        { same = sym (set-out (take n (drop o l)) i v (simp length-take (omega arith))); below = λ p k b. refl; above = λ p k b. refl })
 
-pub words-change : (o n : ℕ) (l : List ℕ) (i w : ℕ) → Change o n l (withinWords o n l i w) (replace (replace (part o n l) (2 * i) (w % 4294967296)) (2 * i + 1) (w / 4294967296))
+pub words-change : (o n : ℕ) (l : List ℕ) (i w : ℕ) → Change o n l (withinWords o n l i w)
+    (replace (replace (part o n l) (2 * i) (w % 4294967296)) (2 * i + 1) (w / 4294967296))
 unfolding withinWords
 words-change o n l i w =
     let a = within-change o n l (2 * i) (w % 4294967296) in
@@ -100,7 +103,8 @@ pub within-out : (o n : ℕ) (l : List ℕ) (i v : ℕ) → n ≤ i → within o
 unfolding within
 within-out o n l i v h = rw (le-ltb i n h)
 
-pub words-in : (o n : ℕ) (l : List ℕ) (i w : ℕ) → i < n → withinWords o (2 * n) l i w ≡ replace (replace l (o + 2 * i) (w % 4294967296)) (o + 2 * i + 1) (w / 4294967296)
+pub words-in : (o n : ℕ) (l : List ℕ) (i w : ℕ) → i < n → withinWords o (2 * n) l i w ≡ replace (replace l (o + 2 * i) (w % 4294967296))
+    (o + 2 * i + 1) (w / 4294967296)
 unfolding withinWords
 words-in o n l i w h =
     let e : o + (2 * i + 1) ≡ o + 2 * i + 1 = omega arith in
@@ -108,7 +112,8 @@ words-in o n l i w h =
 
 pub words-out : (o n : ℕ) (l : List ℕ) (i w : ℕ) → n ≤ i → withinWords o (2 * n) l i w ≡ l
 unfolding withinWords
-words-out o n l i w h = rw (within-out o (2 * n) l (2 * i) (w % 4294967296) (omega arith)) (within-out o (2 * n) l (2 * i + 1) (w / 4294967296) (omega arith))
+words-out o n l i w h = rw (within-out o (2 * n) l (2 * i) (w % 4294967296) (omega arith))
+    (within-out o (2 * n) l (2 * i + 1) (w / 4294967296) (omega arith))
 
 -- two numbers written are one word written
 pub words-replace : (l : List ℕ) (i w : ℕ) → words (replace (replace l (2 * i) (w % 4294967296)) (2 * i + 1) (w / 4294967296)) ≡ replace (words l) i w

@@ -5,7 +5,22 @@ use mathlib.Core.List.{List, []}
 use Rattle.model.specs.Lists.{at, replace}
 use Rattle.state.specs.Parts.{part, words, within, withinWords, cut}
 use Rattle.state.specs.State.{Shared, sharedSizes, shared, setCell, setStatus, setSave, setValue}
-use Rattle.state.specs.State.{Own, ownSizes, own, setRegister, setKept, setCopy, setTarget, setOld, setNew, setInit, setOverlapped, setTouched, setRemembered, setCount}
+use Rattle.state.specs.State.{
+  Own,
+  ownSizes,
+  own,
+  setRegister,
+  setKept,
+  setCopy,
+  setTarget,
+  setOld,
+  setNew,
+  setInit,
+  setOverlapped,
+  setTouched,
+  setRemembered,
+  setCount,
+}
 use Rattle.state.proofs.Parts.{within-change, words-change, words-replace, cut-change}
 
 -- the parts by their numbers

@@ -37,7 +37,8 @@ setSave m i x = record { cells = m .cells; status = m .status; saves = replace (
 abbrev pub setValue : Shared → ℕ → ℕ → Shared
 setValue m i x = record { cells = m .cells; status = m .status; saves = m .saves; stores = replace (m .stores) i x }
 
--- ONE TASK'S OWN. The entries of an exchange: each its target cell, old and new value, the packed word loaded there, whether that was overlapped.
+-- ONE TASK'S OWN. The entries of an exchange: each its target cell, old and new value, the packed word loaded there, and whether that
+-- was overlapped.
 pub record Entries : Type 0 where
   pub targets : List ℕ
   pub olds : List ℕ
@@ -45,7 +46,8 @@ pub record Entries : Type 0 where
   pub inits : List ℕ
   pub overlapped : List ℕ
 
--- The blocks of a transaction: touched is 0 for not, 1 for remembered, 2 + k for copied into slot k; the bank word's value that was remembered.
+-- The blocks of a transaction: touched is 0 for not, 1 for remembered, 2 + k for copied into slot k; and the bank word's value that was
+-- remembered.
 pub record Blocks : Type 0 where
   pub touched : List ℕ
   pub remembered : List ℕ
@@ -69,25 +71,29 @@ own t =
       registers = part 0 8 t;
       kept = part 8 8 t;
       copies = part 16 4 t;
-      entries = record { targets = part 20 8 t; olds = part 28 8 t; news = part 36 8 t; inits = words (part 44 16 t); overlapped = part 60 8 t };
+      entries =
+          record { targets = part 20 8 t; olds = part 28 8 t; news = part 36 8 t; inits = words (part 44 16 t); overlapped = part 60 8 t };
       blocks = record { touched = part 68 16 t; remembered = part 84 16 t };
       counts = part 100 8 t;
     }
 
+abbrev entriesWith : List ℕ → List ℕ → List ℕ → List ℕ → List ℕ → Entries
+entriesWith t o n i v = record { targets = t; olds = o; news = n; inits = i; overlapped = v }
+
 abbrev inTargets : Entries → ℕ → ℕ → Entries
-inTargets e i x = record { targets = replace (e .targets) i x; olds = e .olds; news = e .news; inits = e .inits; overlapped = e .overlapped }
+inTargets e i x = entriesWith (replace (e .targets) i x) (e .olds) (e .news) (e .inits) (e .overlapped)
 
 abbrev inOlds : Entries → ℕ → ℕ → Entries
-inOlds e i x = record { targets = e .targets; olds = replace (e .olds) i x; news = e .news; inits = e .inits; overlapped = e .overlapped }
+inOlds e i x = entriesWith (e .targets) (replace (e .olds) i x) (e .news) (e .inits) (e .overlapped)
 
 abbrev inNews : Entries → ℕ → ℕ → Entries
-inNews e i x = record { targets = e .targets; olds = e .olds; news = replace (e .news) i x; inits = e .inits; overlapped = e .overlapped }
+inNews e i x = entriesWith (e .targets) (e .olds) (replace (e .news) i x) (e .inits) (e .overlapped)
 
 abbrev inInits : Entries → ℕ → ℕ → Entries
-inInits e i x = record { targets = e .targets; olds = e .olds; news = e .news; inits = replace (e .inits) i x; overlapped = e .overlapped }
+inInits e i x = entriesWith (e .targets) (e .olds) (e .news) (replace (e .inits) i x) (e .overlapped)
 
 abbrev inOverlapped : Entries → ℕ → ℕ → Entries
-inOverlapped e i x = record { targets = e .targets; olds = e .olds; news = e .news; inits = e .inits; overlapped = replace (e .overlapped) i x }
+inOverlapped e i x = entriesWith (e .targets) (e .olds) (e .news) (e .inits) (replace (e .overlapped) i x)
 
 abbrev inTouched : Blocks → ℕ → ℕ → Blocks
 inTouched e i x = record { touched = replace (e .touched) i x; remembered = e .remembered }
@@ -95,30 +101,33 @@ inTouched e i x = record { touched = replace (e .touched) i x; remembered = e .r
 abbrev inRemembered : Blocks → ℕ → ℕ → Blocks
 inRemembered e i x = record { touched = e .touched; remembered = replace (e .remembered) i x }
 
+abbrev ownWith : List ℕ → List ℕ → List ℕ → Entries → Blocks → List ℕ → Own
+ownWith r k c e b n = record { registers = r; kept = k; copies = c; entries = e; blocks = b; counts = n }
+
 -- the record with one part given
 abbrev pub withRegisters : Own → List ℕ → Own
-withRegisters t l = record { registers = l; kept = t .kept; copies = t .copies; entries = t .entries; blocks = t .blocks; counts = t .counts }
+withRegisters t l = ownWith l (t .kept) (t .copies) (t .entries) (t .blocks) (t .counts)
 
 abbrev pub withKept : Own → List ℕ → Own
-withKept t l = record { registers = t .registers; kept = l; copies = t .copies; entries = t .entries; blocks = t .blocks; counts = t .counts }
+withKept t l = ownWith (t .registers) l (t .copies) (t .entries) (t .blocks) (t .counts)
 
 abbrev pub withCopies : Own → List ℕ → Own
-withCopies t l = record { registers = t .registers; kept = t .kept; copies = l; entries = t .entries; blocks = t .blocks; counts = t .counts }
+withCopies t l = ownWith (t .registers) (t .kept) l (t .entries) (t .blocks) (t .counts)
 
 abbrev pub withEntries : Own → Entries → Own
-withEntries t e = record { registers = t .registers; kept = t .kept; copies = t .copies; entries = e; blocks = t .blocks; counts = t .counts }
+withEntries t e = ownWith (t .registers) (t .kept) (t .copies) e (t .blocks) (t .counts)
 
 abbrev pub withBlocks : Own → Blocks → Own
-withBlocks t b = record { registers = t .registers; kept = t .kept; copies = t .copies; entries = t .entries; blocks = b; counts = t .counts }
+withBlocks t b = ownWith (t .registers) (t .kept) (t .copies) (t .entries) b (t .counts)
 
 abbrev pub setRegister : Own → ℕ → ℕ → Own
-setRegister t i x = record { registers = replace (t .registers) i x; kept = t .kept; copies = t .copies; entries = t .entries; blocks = t .blocks; counts = t .counts }
+setRegister t i x = ownWith (replace (t .registers) i x) (t .kept) (t .copies) (t .entries) (t .blocks) (t .counts)
 
 abbrev pub setKept : Own → ℕ → ℕ → Own
-setKept t i x = record { registers = t .registers; kept = replace (t .kept) i x; copies = t .copies; entries = t .entries; blocks = t .blocks; counts = t .counts }
+setKept t i x = ownWith (t .registers) (replace (t .kept) i x) (t .copies) (t .entries) (t .blocks) (t .counts)
 
 abbrev pub setCopy : Own → ℕ → ℕ → Own
-setCopy t i x = record { registers = t .registers; kept = t .kept; copies = replace (t .copies) i x; entries = t .entries; blocks = t .blocks; counts = t .counts }
+setCopy t i x = ownWith (t .registers) (t .kept) (replace (t .copies) i x) (t .entries) (t .blocks) (t .counts)
 
 abbrev pub setTarget : Own → ℕ → ℕ → Own
 setTarget t i x = withEntries t (inTargets (t .entries) i x)
@@ -142,4 +151,4 @@ abbrev pub setRemembered : Own → ℕ → ℕ → Own
 setRemembered t i x = withBlocks t (inRemembered (t .blocks) i x)
 
 abbrev pub setCount : Own → ℕ → ℕ → Own
-setCount t i x = record { registers = t .registers; kept = t .kept; copies = t .copies; entries = t .entries; blocks = t .blocks; counts = replace (t .counts) i x }
+setCount t i x = ownWith (t .registers) (t .kept) (t .copies) (t .entries) (t .blocks) (replace (t .counts) i x)

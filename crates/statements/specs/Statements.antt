@@ -1,4 +1,5 @@
--- One statement of a task: it takes up the command at work, outside or inside a transaction, or goes on inside one, by the phase of its job.
+-- One statement of a task: it takes up the command at work, outside or inside a transaction, or goes on inside a command, by the
+-- phase of its job.
 use Prim.Native.Nat.{ℕ, _+_}
 use mathlib.Core.Bool.{Bool, true, false}
 use mathlib.Core.List.{List}

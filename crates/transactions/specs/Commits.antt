@@ -19,7 +19,8 @@ gatheredIn t g = noted (g .count) (withEntries t (g .entries))
 
 -- the exchange of the gathered entries begins
 abbrev pub exchangeOf : Own → Job → Gathering → Noted Job
-exchangeOf t j g = noted (job (Transaction (Committing Start)) (j .value) (j .at) (j .begin) (g .count) (j .used)) (withEntries t (g .entries))
+exchangeOf t j g =
+    noted (job (Transaction (Committing Start)) (j .value) (j .at) (j .begin) (g .count) (j .used)) (withEntries t (g .entries))
 
 unfoldable pub commitBy : Own → Job → Noted Job
 commitBy t j =

@@ -40,7 +40,15 @@ same-length : tie.Need-same-length
 same-length c = search needs
 
 returns : tie.Need-returns
-returns c = ran-by (c .before .before .before .before .before .before .before .before .before .before .before .before .before .before .before .before .before .before .index .ensures) (c .before .before .before .before .before .before .before .before .before .before .before .before .before .before .memory .ensures) (c .before .before .before .before .before .before .before .before .before .before .before .before .before .tasks .ensures) (c .before .before .before .before .before .before .before .before .before .before .before .program .ensures) (c .before .before .before .before .before .before .before .before .before .before .start .ensures) (c .before .before .before .before .before .before .run .ensures .0) (c .before .before .report .ensures)
+returns c = ran-by (c .before .before .before .before .before .before .before .before .before .before .before .before .before .before
+    .before .before .before .before .index .ensures)
+    (c .before .before .before .before .before .before .before .before .before .before .before .before .before .before .memory .ensures)
+    (c .before .before .before .before .before .before .before .before .before .before .before .before .before .tasks .ensures)
+    (c .before .before .before .before .before .before .before .before .before .before .before .program .ensures)
+    (c .before .before .before .before .before .before .before .before .before .before .start .ensures)
+    (c .before .before .before .before .before .before .run .ensures .0) (c .before .before .report .ensures)
 
 pub run-accepted-spec : {M : Type 1} → statement M
-run-accepted-spec = tie.close (tie.spec index-requires cast-t13 cast-t14 cast-t15 memory-requires tasks-requires program-requires start-requires run-requires report-requires same-length returns)
+run-accepted-spec = tie.close
+    (tie.spec index-requires cast-t13 cast-t14 cast-t15 memory-requires tasks-requires program-requires start-requires run-requires
+    report-requires same-length returns)

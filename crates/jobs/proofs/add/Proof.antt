@@ -18,7 +18,12 @@ set-register-requires c κs = search needs
 
 returns : tie.Need-returns
 unfolding added
-returns c = rw (← c .before .before .before .before .before .register .ensures, ← c .before .before .before .register2 .ensures, ← c .before .before .wrapping-add-u32 .ensures, c .set-register .ensures)
+returns c = rw (
+  ← c .before .before .before .before .before .register .ensures,
+  ← c .before .before .before .register2 .ensures,
+  ← c .before .before .wrapping-add-u32 .ensures,
+  c .set-register .ensures,
+)
 
 pub add-spec : {M : Type 1} → statement M
 add-spec = tie.close (tie.spec register-requires register-requires-2 wrapping-add-u32-requires set-register-requires returns)

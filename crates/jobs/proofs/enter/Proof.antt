@@ -27,7 +27,17 @@ set-overlapped-requires c κs = search needs
 
 returns : tie.Need-returns
 unfolding enteredIn
-returns c = rw (c .set-overlapped .ensures, c .before .before .set-init .ensures, c .before .before .before .before .pack .ensures, c .before .before .before .before .before .fresh .ensures, c .before .before .before .before .before .before .set-new .ensures, c .before .before .before .before .before .before .before .before .set-old .ensures, c .before .before .before .before .before .before .before .before .before .before .set-target .ensures)
+returns c = rw (
+  c .set-overlapped .ensures,
+  c .before .before .set-init .ensures,
+  c .before .before .before .before .pack .ensures,
+  c .before .before .before .before .before .fresh .ensures,
+  c .before .before .before .before .before .before .set-new .ensures,
+  c .before .before .before .before .before .before .before .before .set-old .ensures,
+  c .before .before .before .before .before .before .before .before .before .before .set-target .ensures,
+)
 
 pub enter-spec : {M : Type 1} → statement M
-enter-spec = tie.close (tie.spec set-target-requires set-old-requires set-new-requires fresh-requires pack-requires set-init-requires set-overlapped-requires returns)
+enter-spec = tie.close
+    (tie.spec set-target-requires set-old-requires set-new-requires fresh-requires pack-requires set-init-requires set-overlapped-requires
+    returns)

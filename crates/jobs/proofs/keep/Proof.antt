@@ -33,7 +33,11 @@ loop-less c = search needs
 
 loop-again : tie.Need-loop-again Inv-loop μ-loop
 unfolding copied
-loop-again c = (omega arith, rw (add-one, c .set-kept .ensures, c .before .before .register .ensures, c .before .before .before .before .before .loop .inv .1))
+loop-again c = (
+  omega arith,
+  rw
+      (add-one, c .set-kept .ensures, c .before .before .register .ensures, c .before .before .before .before .before .loop .inv .1),
+)
 
 returns : tie.Need-returns Inv-loop μ-loop
 returns c = let l = c .before .loop in let q : l .n ≡ 8 = omega (arith, c .loop-test) in rw q at (l .inv .1)

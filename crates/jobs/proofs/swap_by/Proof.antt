@@ -41,4 +41,6 @@ unfolding swapBy
 returns-3 c = rw (c .before .before .exchanged3 .given .1, ← c .with-value .ensures)
 
 pub swap-by-spec : {M : Type 1} → statement M
-swap-by-spec = tie.close (tie.spec enum-known-exchanged in-phase-requires returns enum-known-exchanged-2 cast-set-register set-register-requires done-requires returns-2 enum-known-exchanged-3 with-value-requires returns-3)
+swap-by-spec = tie.close
+    (tie.spec enum-known-exchanged in-phase-requires returns enum-known-exchanged-2 cast-set-register set-register-requires done-requires
+    returns-2 enum-known-exchanged-3 with-value-requires returns-3)

@@ -38,14 +38,35 @@ to-next-requires c κs = search needs
 
 returns : tie.Need-returns
 unfolding afterClean
-returns c = rw (← c .before .before .before .before .before .before .before .before .installed .ensures, ← c .before .before .before .before .before .before .before .before .before .before .before .before .target .ensures, ← c .before .before .before .before .before .before .before .before .before .cell .ensures, ← c .before .before .before .before .before .before .before .before .before .before .before .new .ensures, ← c .before .before .before .before .before .before .before .old .ensures, sym (c .before .before .before .before .before .before .as-new .ensures) ∙ c .before .before .before .before .before .if1 .taken, c .before .before .before .before .if2 .taken, c .before .set-cell .ensures, c .before .before .before .pack .ensures, c .to-next .ensures)
+returns c = rw (
+  ← c .before .before .before .before .before .before .before .before .installed .ensures,
+  ← c .before .before .before .before .before .before .before .before .before .before .before .before .target .ensures,
+  ← c .before .before .before .before .before .before .before .before .before .cell .ensures,
+  ← c .before .before .before .before .before .before .before .before .before .before .before .new .ensures,
+  ← c .before .before .before .before .before .before .before .old .ensures,
+  sym
+      (c .before .before .before .before .before .before .as-new .ensures) ∙ c .before .before .before .before .before .if1 .taken,
+  c .before .before .before .before .if2 .taken,
+  c .before .set-cell .ensures,
+  c .before .before .before .pack .ensures,
+  c .to-next .ensures,
+)
 
 to-next-requires-2 : tie.Need-to-next-requires-2
 to-next-requires-2 c κs = search needs
 
 returns-2 : tie.Need-returns-2
 unfolding afterClean
-returns-2 c = rw (← c .before .before .before .before .before .installed .ensures, ← c .before .before .before .before .before .before .before .before .before .target .ensures, ← c .before .before .before .before .before .before .cell .ensures, ← c .before .before .before .before .before .before .before .before .new .ensures, ← c .before .before .before .before .old .ensures, sym (c .before .before .before .as-new .ensures) ∙ c .before .before .if1 .taken, c .before .if2 .left, c .to-next2 .ensures)
+returns-2 c = rw (
+  ← c .before .before .before .before .before .installed .ensures,
+  ← c .before .before .before .before .before .before .before .before .before .target .ensures,
+  ← c .before .before .before .before .before .before .cell .ensures,
+  ← c .before .before .before .before .before .before .before .before .new .ensures,
+  ← c .before .before .before .before .old .ensures,
+  sym (c .before .before .before .as-new .ensures) ∙ c .before .before .if1 .taken,
+  c .before .if2 .left,
+  c .to-next2 .ensures,
+)
 
 init-requires : tie.Need-init-requires
 init-requires c κs = search needs
@@ -58,7 +79,19 @@ to-next-requires-3 c κs = search needs
 
 returns-3 : tie.Need-returns-3
 unfolding afterClean
-returns-3 c = rw (← c .before .before .before .before .before .before .before .before .installed .ensures, ← c .before .before .before .before .before .before .before .before .before .before .before .before .target .ensures, ← c .before .before .before .before .before .before .before .before .before .cell .ensures, ← c .before .before .before .before .before .before .before .before .before .before .before .new .ensures, ← c .before .before .before .before .before .before .before .old .ensures, sym (c .before .before .before .before .before .before .as-new .ensures) ∙ c .before .before .before .before .before .if1 .left, c .before .before .before .before .if3 .taken, ← c .before .before .before .init .ensures, c .before .set-cell2 .ensures, c .to-next3 .ensures)
+returns-3 c = rw (
+  ← c .before .before .before .before .before .before .before .before .installed .ensures,
+  ← c .before .before .before .before .before .before .before .before .before .before .before .before .target .ensures,
+  ← c .before .before .before .before .before .before .before .before .before .cell .ensures,
+  ← c .before .before .before .before .before .before .before .before .before .before .before .new .ensures,
+  ← c .before .before .before .before .before .before .before .old .ensures,
+  sym
+      (c .before .before .before .before .before .before .as-new .ensures) ∙ c .before .before .before .before .before .if1 .left,
+  c .before .before .before .before .if3 .taken,
+  ← c .before .before .before .init .ensures,
+  c .before .set-cell2 .ensures,
+  c .to-next3 .ensures,
+)
 
 overlapped-requires : tie.Need-overlapped-requires
 overlapped-requires c κs = search needs
@@ -68,11 +101,37 @@ to-next-requires-4 c κs = search needs
 
 returns-4 : tie.Need-returns-4
 unfolding afterClean
-returns-4 c = rw (← c .before .before .before .before .before .before .before .installed .ensures, ← c .before .before .before .before .before .before .before .before .before .before .before .target .ensures, ← c .before .before .before .before .before .before .before .before .cell .ensures, ← c .before .before .before .before .before .before .before .before .before .before .new .ensures, ← c .before .before .before .before .before .before .old .ensures, sym (c .before .before .before .before .before .as-new .ensures) ∙ c .before .before .before .before .if1 .left, c .before .before .before .if3 .left, ← c .before .before .overlapped .ensures, eq-eqb _ _ (c .before .if4 .taken), c .to-next4 .ensures)
+returns-4 c = rw (
+  ← c .before .before .before .before .before .before .before .installed .ensures,
+  ← c .before .before .before .before .before .before .before .before .before .before .before .target .ensures,
+  ← c .before .before .before .before .before .before .before .before .cell .ensures,
+  ← c .before .before .before .before .before .before .before .before .before .before .new .ensures,
+  ← c .before .before .before .before .before .before .old .ensures,
+  sym (c .before .before .before .before .before .as-new .ensures)
+      ∙ c .before .before .before .before .if1 .left,
+  c .before .before .before .if3 .left,
+  ← c .before .before .overlapped .ensures,
+  eq-eqb _ _ (c .before .if4 .taken),
+  c .to-next4 .ensures,
+)
 
 returns-5 : tie.Need-returns-5
 unfolding afterClean
-returns-5 c = rw (← c .before .before .before .before .before .before .installed .ensures, ← c .before .before .before .before .before .before .before .before .before .before .target .ensures, ← c .before .before .before .before .before .before .before .cell .ensures, ← c .before .before .before .before .before .before .before .before .before .new .ensures, ← c .before .before .before .before .before .old .ensures, sym (c .before .before .before .before .as-new .ensures) ∙ c .before .before .before .if1 .left, c .before .before .if3 .left, ← c .before .overlapped .ensures, ne-eqb _ _ (c .if4 .left))
+returns-5 c = rw (
+  ← c .before .before .before .before .before .before .installed .ensures,
+  ← c .before .before .before .before .before .before .before .before .before .before .target .ensures,
+  ← c .before .before .before .before .before .before .before .cell .ensures,
+  ← c .before .before .before .before .before .before .before .before .before .new .ensures,
+  ← c .before .before .before .before .before .old .ensures,
+  sym (c .before .before .before .before .as-new .ensures)
+      ∙ c .before .before .before .if1 .left,
+  c .before .before .if3 .left,
+  ← c .before .overlapped .ensures,
+  ne-eqb _ _ (c .if4 .left),
+)
 
 pub clean-spec : {M : Type 1} → statement M
-clean-spec = tie.close (tie.spec target-requires cast-cell new-requires cell-requires installed-requires old-requires as-new-requires pack-requires set-cell-requires to-next-requires returns to-next-requires-2 returns-2 init-requires set-cell-requires-2 to-next-requires-3 returns-3 overlapped-requires to-next-requires-4 returns-4 returns-5)
+clean-spec = tie.close
+    (tie.spec target-requires cast-cell new-requires cell-requires installed-requires old-requires as-new-requires pack-requires
+    set-cell-requires to-next-requires returns to-next-requires-2 returns-2 init-requires set-cell-requires-2 to-next-requires-3 returns-3
+    overlapped-requires to-next-requires-4 returns-4 returns-5)

@@ -16,7 +16,12 @@ to-clean-requires c κs = search needs
 
 returns : tie.Need-returns
 unfolding afterCommit
-returns c = rw (← c .before .before .before .before .status .ensures, eq-eqb _ _ (c .before .before .before .if1 .taken), c .before .set-status .ensures, c .to-clean .ensures)
+returns c = rw (
+  ← c .before .before .before .before .status .ensures,
+  eq-eqb _ _ (c .before .before .before .if1 .taken),
+  c .before .set-status .ensures,
+  c .to-clean .ensures,
+)
 
 to-clean-requires-2 : tie.Need-to-clean-requires-2
 to-clean-requires-2 c κs = search needs

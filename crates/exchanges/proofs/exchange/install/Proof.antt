@@ -28,14 +28,29 @@ next-requires c κs = search needs
 
 returns : tie.Need-returns
 unfolding afterInstall
-returns c = rw (← c .before .before .before .before .before .before .before .before .target .ensures, ← c .before .before .before .before .before .before .cell .ensures, ← c .before .before .before .before .before .init .ensures, c .before .set-cell .ensures, c .before .before .before .installed .ensures, c .next .ensures) (when-equal _ _ _ _ (c .before .before .before .before .if1 .taken))
+returns c = rw (
+  ← c .before .before .before .before .before .before .before .before .target .ensures,
+  ← c .before .before .before .before .before .before .cell .ensures,
+  ← c .before .before .before .before .before .init .ensures,
+  c .before .set-cell .ensures,
+  c .before .before .before .installed .ensures,
+  c .next .ensures,
+)
+    (when-equal _ _ _ _ (c .before .before .before .before .if1 .taken))
 
 next-requires-2 : tie.Need-next-requires-2
 next-requires-2 c κs = search needs
 
 returns-2 : tie.Need-returns-2
 unfolding afterInstall
-returns-2 c = rw (← c .before .before .before .before .before .target .ensures, ← c .before .before .before .cell .ensures, ← c .before .before .init .ensures, c .next2 .ensures) (when-not _ _ _ _ (c .before .if1 .left))
+returns-2 c = rw (
+  ← c .before .before .before .before .before .target .ensures,
+  ← c .before .before .before .cell .ensures,
+  ← c .before .before .init .ensures,
+  c .next2 .ensures,
+) (when-not _ _ _ _ (c .before .if1 .left))
 
 pub install-spec : {M : Type 1} → statement M
-install-spec = tie.close (tie.spec target-requires cast-cell cell-requires init-requires installed-requires set-cell-requires next-requires returns next-requires-2 returns-2)
+install-spec = tie.close
+    (tie.spec target-requires cast-cell cell-requires init-requires installed-requires set-cell-requires next-requires returns
+    next-requires-2 returns-2)

@@ -21,7 +21,12 @@ set-overlapped-requires c κs = search needs
 
 returns : tie.Need-returns
 unfolding afterLoad
-returns c = rw (← c .before .before .before .before .before .target .ensures, ← c .before .before .before .before .cell .ensures, c .set-overlapped .ensures, c .before .before .set-init .ensures)
+returns c = rw (
+  ← c .before .before .before .before .before .target .ensures,
+  ← c .before .before .before .before .cell .ensures,
+  c .set-overlapped .ensures,
+  c .before .before .set-init .ensures,
+)
 
 pub load-spec : {M : Type 1} → statement M
 load-spec = tie.close (tie.spec target-requires cast-cell cell-requires set-init-requires set-overlapped-requires returns)

@@ -17,7 +17,11 @@ wrapping-add-u32-requires : tie.Need-wrapping-add-u32-requires
 wrapping-add-u32-requires c κs = search needs
 
 returns-2 : tie.Need-returns-2
-returns-2 c = rw (sym (c .before .before .before .unfinished .ensures) ∙ c .before .before .if1 .left, ← c .before .bit .ensures, c .wrapping-add-u32 .ensures)
+returns-2 c = rw (
+  sym (c .before .before .before .unfinished .ensures) ∙ c .before .before .if1 .left,
+  ← c .before .bit .ensures,
+  c .wrapping-add-u32 .ensures,
+)
 
 pub begun-spec : {M : Type 1} → statement M
 begun-spec = tie.close (tie.spec unfinished-requires returns bit-requires wrapping-add-u32-requires returns-2)

@@ -15,7 +15,13 @@ in-phase-requires : tie.Need-in-phase-requires
 in-phase-requires c κs = search needs
 
 returns : tie.Need-returns
-returns c = rw (sym (c .before .before .before .before .before .before .is-plain .ensures) ∙ c .before .before .before .before .before .if1 .taken, eq-eqb _ _ (c .before .before .before .if2 .taken), c .before .count .ensures, c .in-phase .ensures)
+returns c = rw (
+  sym (c .before .before .before .before .before .before .is-plain .ensures)
+      ∙ c .before .before .before .before .before .if1 .taken,
+  eq-eqb _ _ (c .before .before .before .if2 .taken),
+  c .before .count .ensures,
+  c .in-phase .ensures,
+)
 
 returns-2 : tie.Need-returns-2
 returns-2 c = rw (sym (c .before .before .before .is-plain .ensures) ∙ c .before .before .if1 .taken, ne-eqb _ _ (c .if2 .left))

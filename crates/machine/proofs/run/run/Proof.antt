@@ -13,7 +13,18 @@ use Rattle.machine.specs.declared.releases.Coming.{Coming}
 use Rattle.machine.specs.declared.releases.Coming.the-variants.{Nothing, Later, Due}
 use Rattle.machine.proofs.releases.Coming.{the-type}
 use Rattle.machine.proofs.Pending.{due-within}
-use Rattle.machine.proofs.Runs.{apart, apart-most, same-machine, switched, resumed, release-turn, pass-turn, after-release, after-tick, after-stop}
+use Rattle.machine.proofs.Runs.{
+  apart,
+  apart-most,
+  same-machine,
+  switched,
+  resumed,
+  release-turn,
+  pass-turn,
+  after-release,
+  after-tick,
+  after-stop,
+}
 use Rattle.machine.proofs.Runs.{either, came, begin-statement, step-statement, until-limit, until-due, goes-before, stretch}
 use borrow.Author.Tests.{eq-eqb, ne-eqb}
 use mathlib.Core.Path.{_≡_, refl, sym, ap, _∙_}
@@ -76,7 +87,8 @@ mul-jobs : tie.Need-mul-jobs Inv-loop2 μ-loop2 Inv-loop μ-loop
 mul-jobs c = omega (arith, c .before .before .before .before .before .loop .inv .0)
 
 array-set-from-jobs : tie.Need-array-set-from-jobs Inv-loop2 μ-loop2 Inv-loop μ-loop
-array-set-from-jobs c = omega (arith, c .before .before .before .before .before .loop .inv .0, c .before .before .before .before .before .loop .inv .1)
+array-set-from-jobs c = omega
+    (arith, c .before .before .before .before .before .loop .inv .0, c .before .before .before .before .before .loop .inv .1)
 
 task-number-requires : tie.Need-task-number-requires Inv-loop2 μ-loop2 Inv-loop μ-loop
 task-number-requires c κs = search needs
@@ -115,10 +127,40 @@ pending-at-requires-2 : tie.Need-pending-at-requires-2 Inv-loop2 μ-loop2 Inv-lo
 pending-at-requires-2 c κs = search needs
 
 loop-less : tie.Need-loop-less Inv-loop2 μ-loop2 Inv-loop μ-loop
-loop-less c = let l = c .before .before .before .before .before .before .before .before .before .before .before .before .before .before .loop in let d = due-within _ _ _ _ _ (ap (λ q. comingBy q (l .tick)) (sym (l .inv .2)) ∙ sym (c .before .before .before .before .before .before .before .before .before .before .before .before .coming-at .ensures) ∙ c .before .before .before .before .before .before .before .before .before .before .release .given .1) in omega (arith, d .0, d .1, c .before .before .before .before .before .before .before .before .before .before .before .before .before .loop-test, apart-most (eqb (topOf 8 (c .before .before .before .before .before .begun .result)) (c .before .before .before .before .before .before .before .before .task-number .result)))
+loop-less c = let l = c .before .before .before .before .before .before .before .before .before .before .before .before .before .before
+    .loop in let d = due-within _ _ _ _ _
+    (ap (λ q. comingBy q (l .tick)) (sym (l .inv .2)) ∙ sym
+    (c .before .before .before .before .before .before .before .before .before .before .before .before .coming-at .ensures)
+    ∙ c .before .before .before .before .before .before .before .before .before .before .release .given .1) in omega (
+      arith,
+      d .0,
+      d .1,
+      c .before .before .before .before .before .before .before .before .before .before .before .before .before
+          .loop-test,
+      apart-most
+          (eqb (topOf 8 (c .before .before .before .before .before .begun .result))
+          (c .before .before .before .before .before .before .before .before .task-number .result)),
+    )
 
 loop-again : tie.Need-loop-again Inv-loop2 μ-loop2 Inv-loop μ-loop
-loop-again c = let l = c .before .before .before .before .before .before .before .before .before .before .before .before .before .before .loop in (c .before .before .before .before .before .before .before .before .task-number .ensures .1, length-set (l .jobs) (l .p) (l .job) ∙ l .inv .1, c .pending-at2 .ensures, λ u e. l .inv .3 u (after-release _ _ _ _ _ _ _ _ (c .before .before .before .before .before .before .before .before .before .before .before .before .before .loop-test .taken) (c .before .before .before .before .before .before .before .before .before .before .before .before .coming-at .ensures ∙ ap (λ q. comingBy q (l .tick)) (l .inv .2)) (c .before .before .before .before .before .before .before .before .before .before .release .given .1) (release-turn _ _ (l .tasks) (l .jobs) (l .job) _ _ _ _ _ _ (l .p) (c .before .before .before .before .before .before .before .before .task-number .result) (c .before .before .before .zero-by .last .0) (c .before .before .before .before .before .before .before .before .task-number .ensures .0) (c .before .before .before .before .before .before .drop-by .ensures) (c .before .before .before .before .before .begun .ensures) (c .before .before .before .zero-by .ensures) (c .before .before .bound .ensures) (c .before .started .ensures)) u e))
+loop-again c = let l =
+    c .before .before .before .before .before .before .before .before .before .before .before .before .before .before .loop in (
+      c .before .before .before .before .before .before .before .before .task-number .ensures .1,
+      length-set (l .jobs) (l .p) (l .job)
+          ∙ l .inv .1,
+      c .pending-at2 .ensures,
+      λ u e. l .inv .3 u
+          (after-release _ _ _ _ _ _ _ _
+          (c .before .before .before .before .before .before .before .before .before .before .before .before .before .loop-test .taken)
+          (c .before .before .before .before .before .before .before .before .before .before .before .before .coming-at .ensures ∙ ap
+          (λ q. comingBy q (l .tick)) (l .inv .2))
+          (c .before .before .before .before .before .before .before .before .before .before .release .given .1)
+          (release-turn _ _ (l .tasks) (l .jobs) (l .job) _ _ _ _ _ _ (l .p)
+          (c .before .before .before .before .before .before .before .before .task-number .result) (c .before .before .before .zero-by .last .0)
+          (c .before .before .before .before .before .before .before .before .task-number .ensures .0)
+          (c .before .before .before .before .before .before .drop-by .ensures) (c .before .before .before .before .before .begun .ensures)
+          (c .before .before .before .zero-by .ensures) (c .before .before .bound .ensures) (c .before .started .ensures)) u e),
+    )
 
 stops-requires : tie.Need-stops-requires Inv-loop2 μ-loop2 Inv-loop μ-loop
 stops-requires c κs = search needs
@@ -130,10 +172,16 @@ mul-jobs-2 : tie.Need-mul-jobs-2 Inv-loop2 μ-loop2 Inv-loop μ-loop
 mul-jobs-2 c = omega (arith, c .before .before .before .before .before .loop .inv .0)
 
 array-set-from-jobs-2 : tie.Need-array-set-from-jobs-2 Inv-loop2 μ-loop2 Inv-loop μ-loop
-array-set-from-jobs-2 c = omega (arith, c .before .before .before .before .before .loop .inv .0, c .before .before .before .before .before .loop .inv .1)
+array-set-from-jobs-2 c = omega
+    (arith, c .before .before .before .before .before .loop .inv .0, c .before .before .before .before .before .loop .inv .1)
 
 returns : tie.Need-returns Inv-loop2 μ-loop2 Inv-loop μ-loop
-returns c = let l = c .before .before .before .before .before .loop in (resumed _ _ _ _ _ _ _ _ _ _ _ _ (l .inv .3 _ (after-stop _ _ _ _ _ (c .before .before .before .coming-at .ensures ∙ ap (λ q. comingBy q (l .tick)) (l .inv .2)) (sym (c .before .stops .ensures) ∙ c .if1 .taken))), length-set (l .jobs) (l .p) (l .job) ∙ l .inv .1)
+returns c = let l = c .before .before .before .before .before .loop in (
+  resumed _ _ _ _ _ _ _ _ _ _ _ _
+      (l .inv .3 _ (after-stop _ _ _ _ _ (c .before .before .before .coming-at .ensures ∙ ap (λ q. comingBy q (l .tick)) (l .inv .2))
+      (sym (c .before .stops .ensures) ∙ c .if1 .taken))),
+  length-set (l .jobs) (l .p) (l .job) ∙ l .inv .1,
+)
 
 add-tick : tie.Need-add-tick Inv-loop2 μ-loop2 Inv-loop μ-loop
 add-tick c = search needs
@@ -142,7 +190,16 @@ loop-less-2 : tie.Need-loop-less-2 Inv-loop2 μ-loop2 Inv-loop μ-loop
 loop-less-2 c = omega (arith, c .before .before .before .before .before .loop-test)
 
 loop-again-2 : tie.Need-loop-again-2 Inv-loop2 μ-loop2 Inv-loop μ-loop
-loop-again-2 c = let l = c .before .before .before .before .before .before .loop in (l .inv .0, l .inv .1, l .inv .2, λ u e. l .inv .3 u (after-tick _ _ _ _ _ _ (c .before .before .before .before .before .loop-test .taken) (c .before .before .before .before .coming-at .ensures ∙ ap (λ q. comingBy q (l .tick)) (l .inv .2)) (not-due _ (c .before .before .before .match .keys2)) (sym (c .before .before .stops .ensures) ∙ c .before .if1 .left) (pass-turn _ _ _ _ (set (l .jobs) (l .p) (l .job)) _ _ _ _ (c .if2 .taken)) u e))
+loop-again-2 c = let l = c .before .before .before .before .before .before .loop in (
+  l .inv .0,
+  l .inv .1,
+  l .inv .2,
+  λ u e. l .inv .3 u
+      (after-tick _ _ _ _ _ _ (c .before .before .before .before .before .loop-test .taken)
+      (c .before .before .before .before .coming-at .ensures ∙ ap (λ q. comingBy q (l .tick)) (l .inv .2))
+      (not-due _ (c .before .before .before .match .keys2)) (sym (c .before .before .stops .ensures) ∙ c .before .if1 .left)
+      (pass-turn _ _ _ _ (set (l .jobs) (l .p) (l .job)) _ _ _ _ (c .if2 .taken)) u e),
+)
 
 top-requires : tie.Need-top-requires Inv-loop2 μ-loop2 Inv-loop μ-loop
 top-requires c κs = search needs
@@ -154,7 +211,11 @@ mul-jobs-3 : tie.Need-mul-jobs-3 Inv-loop2 μ-loop2 Inv-loop μ-loop
 mul-jobs-3 c = omega (arith, c .before .before .before .before .before .before .before .before .loop .inv .0)
 
 array-set-from-jobs-3 : tie.Need-array-set-from-jobs-3 Inv-loop2 μ-loop2 Inv-loop μ-loop
-array-set-from-jobs-3 c = omega (arith, c .before .before .before .before .before .before .before .before .loop .inv .0, c .before .before .before .before .before .before .before .before .loop .inv .1)
+array-set-from-jobs-3 c = omega (
+  arith,
+  c .before .before .before .before .before .before .before .before .loop .inv .0,
+  c .before .before .before .before .before .before .before .before .loop .inv .1,
+)
 
 cast-job : tie.Need-cast-job Inv-loop2 μ-loop2 Inv-loop μ-loop
 cast-job c = search needs
@@ -166,10 +227,17 @@ array-copy-out-job-2 : tie.Need-array-copy-out-job-2 Inv-loop2 μ-loop2 Inv-loop
 array-copy-out-job-2 c = omega (arith, c .before .top .ensures .1)
 
 loop-less-3 : tie.Need-loop-less-3 Inv-loop2 μ-loop2 Inv-loop μ-loop
-loop-less-3 c = let away = ne-eqb _ _ (λ q. c .before .if3 .taken (c .before .before .top .ensures .0 ∙ q)) in let here = eq-eqb _ _ (sym (c .before .before .top .ensures .0)) in rw (away, here) (omega arith)
+loop-less-3 c = let away = ne-eqb _ _ (λ q. c .before .if3 .taken (c .before .before .top .ensures .0 ∙ q)) in let here = eq-eqb _ _
+    (sym (c .before .before .top .ensures .0)) in rw (away, here) (omega arith)
 
 loop-again-3 : tie.Need-loop-again-3 Inv-loop2 μ-loop2 Inv-loop μ-loop
-loop-again-3 c = let l = c .before .before .before .before .before .before .before .before .before .loop in ((c .before .before .top .ensures .1), length-set (l .jobs) (l .p) (l .job) ∙ l .inv .1, l .inv .2, λ u e. l .inv .3 u (same-machine _ _ _ _ _ _ (switched _ _ (l .jobs) (l .job) _ _ _ _ _ _) u e))
+loop-again-3 c = let l = c .before .before .before .before .before .before .before .before .before .loop in (
+  (c .before .before .top .ensures .1),
+  length-set (l .jobs) (l .p) (l .job) ∙ l .inv .1,
+  l .inv .2,
+  λ u e. l .inv .3 u
+      (same-machine _ _ _ _ _ _ (switched _ _ (l .jobs) (l .job) _ _ _ _ _ _) u e),
+)
 
 cast-i-2 : tie.Need-cast-i-2 Inv-loop2 μ-loop2 Inv-loop μ-loop
 cast-i-2 c = search needs
@@ -184,7 +252,15 @@ bound-requires-2 : tie.Need-bound-requires-2 Inv-loop2 μ-loop2 Inv-loop μ-loop
 bound-requires-2 c κs = search needs
 
 loop2-holds : tie.Need-loop2-holds Inv-loop2 μ-loop2 Inv-loop μ-loop
-loop2-holds c = let l = c .before .before .before .before .before .before .before .before .before .before .loop in (λ h. c .before .before .before .before .before .before .before .before .before .loop-test .taken, λ h task next e. not-due _ (c .before .before .before .before .before .before .before .match .keys2) task next (c .before .before .before .before .before .before .before .before .coming-at .ensures ∙ e), omega arith, λ h. absurd (true≢false h), λ u e. e)
+loop2-holds c = let l = c .before .before .before .before .before .before .before .before .before .before .loop in (
+  λ h. c .before .before .before .before .before .before .before .before .before .loop-test .taken,
+  λ h task next e. not-due _
+      (c .before .before .before .before .before .before .before .match .keys2) task next
+      (c .before .before .before .before .before .before .before .before .coming-at .ensures ∙ e),
+  omega arith,
+  λ h. absurd (true≢false h),
+  λ u e. e,
+)
 
 starting-requires : tie.Need-starting-requires Inv-loop2 μ-loop2 Inv-loop μ-loop
 starting-requires c κs = search needs
@@ -199,25 +275,46 @@ array-copy-out-command : tie.Need-array-copy-out-command Inv-loop2 μ-loop2 Inv-
 array-copy-out-command c = omega (arith, c .line .ensures .1)
 
 mul-begin-tick : tie.Need-mul-begin-tick Inv-loop2 μ-loop2 Inv-loop μ-loop
-mul-begin-tick c = omega (arith, c .before .before .before .before .before .before .before .before .before .before .before .before .before .before .before .before .before .loop .inv .0)
+mul-begin-tick c = omega (
+  arith,
+  c .before .before .before .before .before .before .before .before .before .before .before .before .before .before .before
+      .before .before .loop .inv .0,
+)
 
 index-1-begin-tick : tie.Need-index-1-begin-tick Inv-loop2 μ-loop2 Inv-loop μ-loop
-index-1-begin-tick c = omega (arith, c .before .before .before .before .before .before .before .before .before .before .before .before .before .before .before .before .before .loop .inv .0)
+index-1-begin-tick c = omega (
+  arith,
+  c .before .before .before .before .before .before .before .before .before .before .before .before .before .before .before
+      .before .before .loop .inv .0,
+)
 
 begin-tick-requires : tie.Need-begin-tick-requires Inv-loop2 μ-loop2 Inv-loop μ-loop
 begin-tick-requires c κs = search needs
 
 mul-step-tick : tie.Need-mul-step-tick Inv-loop2 μ-loop2 Inv-loop μ-loop
-mul-step-tick c = omega (arith, c .before .before .before .before .before .before .before .before .before .before .before .before .before .before .before .loop .inv .0)
+mul-step-tick c = omega (
+  arith,
+  c .before .before .before .before .before .before .before .before .before .before .before .before .before .before .before .loop
+      .inv .0,
+)
 
 index-1-step-tick : tie.Need-index-1-step-tick Inv-loop2 μ-loop2 Inv-loop μ-loop
-index-1-step-tick c = omega (arith, c .before .before .before .before .before .before .before .before .before .before .before .before .before .before .before .loop .inv .0)
+index-1-step-tick c = omega (
+  arith,
+  c .before .before .before .before .before .before .before .before .before .before .before .before .before .before .before .loop
+      .inv .0,
+)
 
 step-tick-requires : tie.Need-step-tick-requires Inv-loop2 μ-loop2 Inv-loop μ-loop
 step-tick-requires c κs = search needs
 
 add-tick-2 : tie.Need-add-tick-2 Inv-loop2 μ-loop2 Inv-loop μ-loop
-add-tick-2 c = omega (arith, c .before .before .before .loop2 .inv .0 (c .before .before .loop2-test .taken), c .before .before .before .before .before .before .before .before .before .before .before .before .before .before .before .before .before .before .before .fits)
+add-tick-2 c = omega (
+  arith,
+  c .before .before .before .loop2 .inv .0 (c .before .before .loop2-test .taken),
+  c .before .before .before .before .before .before .before .before .before .before .before .before .before .before .before .before
+      .before .before .before .fits,
+)
 
 goes-on-requires : tie.Need-goes-on-requires Inv-loop2 μ-loop2 Inv-loop μ-loop
 goes-on-requires c κs = search needs
@@ -226,16 +323,56 @@ loop2-less : tie.Need-loop2-less Inv-loop2 μ-loop2 Inv-loop μ-loop
 loop2-less c = omega (arith, c .before .before .before .before .loop2 .inv .0 (c .before .before .before .loop2-test .taken))
 
 loop2-again : tie.Need-loop2-again Inv-loop2 μ-loop2 Inv-loop μ-loop
-loop2-again c = let l = c .before .before .before .before .before .before .before .before .before .before .before .before .before .before .before .loop in let g = c .before .before .before .before .loop2 in let v = c .before .if4 in let on = rw (c .before .before .before .loop2-test .taken) at (g .inv .4) in let before : c .goes-on .result ≡ true → g .tick + 1 < c .before .before .before .before .before .before .until .result = λ h. goes-before (v .job .phase) _ _ (c .goes-on .ensures) h in (λ h. until-limit (l .next) _ _ (rw (c .before .before .before .before .before .before .until .ensures) at (before h)), λ h. until-due (l .next) _ _ (rw (c .before .before .before .before .before .before .until .ensures) at (before h)), omega (arith, g .inv .2), λ h. omega (arith, g .inv .2), λ u e. either (λ x. on u (stretch _ _ _ _ _ (g .tasks) (l .jobs) (g .job) _ _ _ _ (l .p) (l .next) (x .5 .last .1 .0) (c .before .before .before .before .before .before .until .result) (c .before .before .before .before .before .before .before .before .before .if2 .left) (sym (c .before .before .before .before .before .before .before .if3 .left) ∙ c .before .before .before .before .before .before .before .before .top .ensures .0) (omega (arith, l .inv .0, l .inv .1)) (c .before .before .before .before .before .bound2 .ensures) (g .inv .0 (c .before .before .before .loop2-test .taken)) (l .inv .2) (g .inv .1 (c .before .before .before .loop2-test .taken)) (x .7) (came _ (x .5 .last .1 .0) (x .8) (x .6) (x .5 .ensures) (begin-statement _ _ _ _ (g .job) (sym (c .before .before .starting .ensures) ∙ x .0 .taken) (x .1 .ensures .0) refl)) (c .goes-on .ensures) u e)) (λ y. on u (stretch _ _ _ _ _ (g .tasks) (l .jobs) (g .job) _ _ _ _ (l .p) (l .next) (y .3 .last .1 .0) (c .before .before .before .before .before .before .until .result) (c .before .before .before .before .before .before .before .before .before .if2 .left) (sym (c .before .before .before .before .before .before .before .if3 .left) ∙ c .before .before .before .before .before .before .before .before .top .ensures .0) (omega (arith, l .inv .0, l .inv .1)) (c .before .before .before .before .before .bound2 .ensures) (g .inv .0 (c .before .before .before .loop2-test .taken)) (l .inv .2) (g .inv .1 (c .before .before .before .loop2-test .taken)) (y .5) (came _ (y .3 .last .1 .0) (y .6) (y .4) (y .3 .ensures) (step-statement _ _ _ _ (g .job) (sym (c .before .before .starting .ensures) ∙ y .0 .left))) (c .goes-on .ensures) u e)) (v .came))
+loop2-again c = let l =
+    c .before .before .before .before .before .before .before .before .before .before .before .before .before .before .before .loop in
+    let g = c .before .before .before .before .loop2 in let v = c .before .if4 in let on = rw
+    (c .before .before .before .loop2-test .taken) at (g .inv .4) in
+    let before : c .goes-on .result ≡ true → g .tick + 1 < c .before .before .before .before .before .before .until .result = λ h.
+    goes-before (v .job .phase) _ _ (c .goes-on .ensures) h in (
+      λ h. until-limit (l .next) _ _ (rw (c .before .before .before .before .before .before .until .ensures) at (before h)),
+      λ h. until-due
+          (l .next) _ _ (rw (c .before .before .before .before .before .before .until .ensures) at (before h)),
+      omega (arith, g .inv .2),
+      λ h. omega (arith, g .inv .2),
+      λ u e. either
+          (λ x. on u (stretch _ _ _ _ _ (g .tasks) (l .jobs) (g .job) _ _ _ _ (l .p) (l .next) (x .5 .last .1 .0)
+          (c .before .before .before .before .before .before .until .result)
+          (c .before .before .before .before .before .before .before .before .before .if2 .left)
+          (sym (c .before .before .before .before .before .before .before .if3 .left)
+          ∙ c .before .before .before .before .before .before .before .before .top .ensures .0) (omega (arith, l .inv .0, l .inv .1))
+          (c .before .before .before .before .before .bound2 .ensures) (g .inv .0 (c .before .before .before .loop2-test .taken)) (l .inv .2)
+          (g .inv .1 (c .before .before .before .loop2-test .taken)) (x .7)
+          (came _ (x .5 .last .1 .0) (x .8) (x .6) (x .5 .ensures)
+          (begin-statement _ _ _ _ (g .job) (sym (c .before .before .starting .ensures) ∙ x .0 .taken) (x .1 .ensures .0) refl))
+          (c .goes-on .ensures) u e))
+          (λ y. on u (stretch _ _ _ _ _ (g .tasks) (l .jobs) (g .job) _ _ _ _ (l .p) (l .next) (y .3 .last .1 .0)
+          (c .before .before .before .before .before .before .until .result)
+          (c .before .before .before .before .before .before .before .before .before .if2 .left)
+          (sym (c .before .before .before .before .before .before .before .if3 .left)
+          ∙ c .before .before .before .before .before .before .before .before .top .ensures .0) (omega (arith, l .inv .0, l .inv .1))
+          (c .before .before .before .before .before .bound2 .ensures) (g .inv .0 (c .before .before .before .loop2-test .taken)) (l .inv .2)
+          (g .inv .1 (c .before .before .before .loop2-test .taken)) (y .5)
+          (came _ (y .3 .last .1 .0) (y .6) (y .4) (y .3 .ensures)
+          (step-statement _ _ _ _ (g .job) (sym (c .before .before .starting .ensures) ∙ y .0 .left))) (c .goes-on .ensures) u e)) (v .came),
+    )
 
 leaving-requires : tie.Need-leaving-requires Inv-loop2 μ-loop2 Inv-loop μ-loop
 leaving-requires c κs = search needs
 
 loop-less-4 : tie.Need-loop-less-4 Inv-loop2 μ-loop2 Inv-loop μ-loop
-loop-less-4 c = omega (arith, c .before .before .loop2 .inv .3 (c .before .loop2-test .left), c .before .before .before .before .before .before .before .before .before .before .before .before .loop-test, apart-most (eqb (topOf 8 (c .leaving .result)) (c .before .before .before .before .before .before .before .before .before .before .before .before .before .loop .p)))
+loop-less-4 c = omega (
+  arith,
+  c .before .before .loop2 .inv .3 (c .before .loop2-test .left),
+  c .before .before .before .before .before .before .before .before .before .before .before .before .loop-test,
+  apart-most
+      (eqb (topOf 8 (c .leaving .result))
+      (c .before .before .before .before .before .before .before .before .before .before .before .before .before .loop .p)),
+)
 
 loop-again-4 : tie.Need-loop-again-4 Inv-loop2 μ-loop2 Inv-loop μ-loop
-loop-again-4 c = let l = c .before .before .before .before .before .before .before .before .before .before .before .before .before .loop in let g = c .before .before .loop2 in let off = rw (c .before .loop2-test .left) at (g .inv .4) in (l .inv .0, l .inv .1, l .inv .2, λ u e. l .inv .3 u (off u (rw (c .leaving .ensures) at e)))
+loop-again-4 c = let l = c .before .before .before .before .before .before .before .before .before .before .before .before .before .loop in
+    let g = c .before .before .loop2 in let off = rw (c .before .loop2-test .left) at (g .inv .4) in
+    (l .inv .0, l .inv .1, l .inv .2, λ u e. l .inv .3 u (off u (rw (c .leaving .ensures) at e)))
 
 cast-jobs-4 : tie.Need-cast-jobs-4 Inv-loop2 μ-loop2 Inv-loop μ-loop
 cast-jobs-4 c = search needs
@@ -247,7 +384,15 @@ array-set-from-jobs-4 : tie.Need-array-set-from-jobs-4 Inv-loop2 μ-loop2 Inv-lo
 array-set-from-jobs-4 c = omega (arith, c .before .loop .inv .0, c .before .loop .inv .1)
 
 returns-2 : tie.Need-returns-2 Inv-loop2 μ-loop2 Inv-loop μ-loop
-returns-2 c = let l = c .before .loop in (resumed _ _ _ _ _ _ _ _ _ _ _ _ (l .inv .3 _ (limited (c .loop-test .left))), length-set (l .jobs) (l .p) (l .job) ∙ l .inv .1)
+returns-2 c = let l = c .before .loop in
+    (resumed _ _ _ _ _ _ _ _ _ _ _ _ (l .inv .3 _ (limited (c .loop-test .left))), length-set (l .jobs) (l .p) (l .job) ∙ l .inv .1)
 
 pub run-spec : {M : Type 1} → statement M
-run-spec = tie.close (tie.spec Inv-loop2 μ-loop2 Inv-loop μ-loop array-copy-out-job pending-at-requires loop-holds coming-at-requires enum-known-release cast-jobs mul-jobs array-set-from-jobs task-number-requires cast-i mul-found array-copy-out-found drop-by-requires begun-requires mul-zero-by index-1-zero-by zero-by-requires bound-requires started-requires pending-at-requires-2 loop-less loop-again stops-requires cast-jobs-2 mul-jobs-2 array-set-from-jobs-2 returns add-tick loop-less-2 loop-again-2 top-requires cast-jobs-3 mul-jobs-3 array-set-from-jobs-3 cast-job mul-job array-copy-out-job-2 loop-less-3 loop-again-3 cast-i-2 until-requires add-bound bound-requires-2 loop2-holds starting-requires line-requires mul-command array-copy-out-command mul-begin-tick index-1-begin-tick begin-tick-requires mul-step-tick index-1-step-tick step-tick-requires add-tick-2 goes-on-requires loop2-less loop2-again leaving-requires loop-less-4 loop-again-4 cast-jobs-4 mul-jobs-4 array-set-from-jobs-4 returns-2)
+run-spec = tie.close (tie.spec Inv-loop2 μ-loop2 Inv-loop μ-loop array-copy-out-job pending-at-requires loop-holds coming-at-requires
+    enum-known-release cast-jobs mul-jobs array-set-from-jobs task-number-requires cast-i mul-found array-copy-out-found drop-by-requires
+    begun-requires mul-zero-by index-1-zero-by zero-by-requires bound-requires started-requires pending-at-requires-2 loop-less loop-again
+    stops-requires cast-jobs-2 mul-jobs-2 array-set-from-jobs-2 returns add-tick loop-less-2 loop-again-2 top-requires cast-jobs-3
+    mul-jobs-3 array-set-from-jobs-3 cast-job mul-job array-copy-out-job-2 loop-less-3 loop-again-3 cast-i-2 until-requires add-bound
+    bound-requires-2 loop2-holds starting-requires line-requires mul-command array-copy-out-command mul-begin-tick index-1-begin-tick
+    begin-tick-requires mul-step-tick index-1-step-tick step-tick-requires add-tick-2 goes-on-requires loop2-less loop2-again
+    leaving-requires loop-less-4 loop-again-4 cast-jobs-4 mul-jobs-4 array-set-from-jobs-4 returns-2)

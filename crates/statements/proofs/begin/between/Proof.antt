@@ -48,4 +48,6 @@ unfolding betweenTick
 returns-4 c = rw (c .enum-told .given .1)
 
 pub between-spec : {M : Type 1} → statement M
-between-spec = tie.close (tie.spec enum-known-command set-register-requires goes-on-requires returns enum-known-command-2 add-requires goes-on-requires-2 returns-2 enum-known-command-3 inside-requires returns-3 enum-told returns-4)
+between-spec = tie.close
+    (tie.spec enum-known-command set-register-requires goes-on-requires returns enum-known-command-2 add-requires goes-on-requires-2
+    returns-2 enum-known-command-3 inside-requires returns-3 enum-told returns-4)

@@ -43,7 +43,14 @@ done-requires c κs = search needs
 
 returns-2 : tie.Need-returns-2
 unfolding outsideTick
-returns-2 c = rw (c .before .before .before .before .before .before .before .before .before .command2 .given .1, ← c .before .before .before .before .before .before .register .ensures, ← c .before .before .before .before .register2 .ensures, ← c .before .next .ensures, ← c .done .ensures, c .before .before .enter .ensures)
+returns-2 c = rw (
+  c .before .before .before .before .before .before .before .before .before .command2 .given .1,
+  ← c .before .before .before .before .before .before .register .ensures,
+  ← c .before .before .before .before .register2 .ensures,
+  ← c .before .next .ensures,
+  ← c .done .ensures,
+  c .before .before .enter .ensures,
+)
 
 enum-known-command-3 : tie.Need-enum-known-command-3
 enum-known-command-3 c = search needs
@@ -75,7 +82,16 @@ job-at-requires c κs = search needs
 
 returns-4 : tie.Need-returns-4
 unfolding outsideTick
-returns-4 c = rw (c .before .before .before .before .before .before .enum-told .given .1, c .job-at .ensures, c .before .next-line .ensures, c .before .before .clear .ensures, c .before .before .before .before .keep .ensures)
+returns-4 c = rw (
+  c .before .before .before .before .before .before .enum-told .given .1,
+  c .job-at .ensures,
+  c .before .next-line .ensures,
+  c .before .before .clear .ensures,
+  c .before .before .before .before .keep .ensures,
+)
 
 pub outside-spec : {M : Type 1} → statement M
-outside-spec = tie.close (tie.spec enum-known-command cast-read-tick read-tick-requires read-by-requires returns enum-known-command-2 register-requires register-requires-2 cast-enter enter-requires next-requires done-requires returns-2 enum-known-command-3 start-requires in-phase-requires returns-3 enum-told keep-requires clear-requires next-line-requires job-at-requires returns-4)
+outside-spec = tie.close
+    (tie.spec enum-known-command cast-read-tick read-tick-requires read-by-requires returns enum-known-command-2 register-requires
+    register-requires-2 cast-enter enter-requires next-requires done-requires returns-2 enum-known-command-3 start-requires
+    in-phase-requires returns-3 enum-told keep-requires clear-requires next-line-requires job-at-requires returns-4)

@@ -48,4 +48,6 @@ unfolding plainTick
 returns-4 c = rw (c .enum-told .given .1)
 
 pub plain-command-spec : {M : Type 1} → statement M
-plain-command-spec = tie.close (tie.spec enum-known-command set-register-requires done-requires returns enum-known-command-2 add-requires done-requires-2 returns-2 enum-known-command-3 outside-requires returns-3 enum-told returns-4)
+plain-command-spec = tie.close
+    (tie.spec enum-known-command set-register-requires done-requires returns enum-known-command-2 add-requires done-requires-2 returns-2
+    enum-known-command-3 outside-requires returns-3 enum-told returns-4)

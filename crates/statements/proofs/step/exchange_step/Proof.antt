@@ -71,4 +71,6 @@ unfolding exchangeStep
 returns-9 c = rw (c .before .before .before .before .phase2 .given .1, c .before .inner .given .1)
 
 pub exchange-step-spec : {M : Type 1} → statement M
-exchange-step-spec = tie.close (tie.spec enum-told enum-told-2 enum-told-3 enum-known-phase enum-known-phase-2 enum-told-4 enum-told-5 enum-told-6 enum-told-7 enum-known-inner returns returns-2 returns-3 returns-4 returns-5 returns-6 returns-7 returns-8 returns-9)
+exchange-step-spec = tie.close
+    (tie.spec enum-told enum-told-2 enum-told-3 enum-known-phase enum-known-phase-2 enum-told-4 enum-told-5 enum-told-6 enum-told-7
+    enum-known-inner returns returns-2 returns-3 returns-4 returns-5 returns-6 returns-7 returns-8 returns-9)

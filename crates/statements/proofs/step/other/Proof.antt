@@ -33,7 +33,8 @@ read-by-requires c κs = search needs
 
 returns-3 : tie.Need-returns-3
 unfolding otherTick
-returns-3 c = other-read _ _ _ (c .before .before .before .before .before .phase .given .1) (c .before .before .read-tick .ensures) (c .read-by .ensures)
+returns-3 c = other-read _ _ _ (c .before .before .before .before .before .phase .given .1) (c .before .before .read-tick .ensures)
+    (c .read-by .ensures)
 
 enum-told-3 : tie.Need-enum-told-3
 enum-told-3 c = search needs
@@ -53,4 +54,6 @@ unfolding otherTick
 returns-5 c = other-transaction _ _ _ (c .before .before .before .before .phase2 .given .1) (c .transact .ensures)
 
 pub other-spec : {M : Type 1} → statement M
-other-spec = tie.close (tie.spec enum-told returns enum-told-2 returns-2 enum-known-phase cast-read-tick read-tick-requires read-by-requires returns-3 enum-told-3 returns-4 enum-known-phase-2 transact-requires returns-5)
+other-spec = tie.close
+    (tie.spec enum-told returns enum-told-2 returns-2 enum-known-phase cast-read-tick read-tick-requires read-by-requires returns-3
+    enum-told-3 returns-4 enum-known-phase-2 transact-requires returns-5)

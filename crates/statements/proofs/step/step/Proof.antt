@@ -21,13 +21,18 @@ swap-by-requires : tie.Need-swap-by-requires
 swap-by-requires c κs = search needs
 
 returns : tie.Need-returns
-returns c = step-exchange _ _ _ _ (c .before .before .before .before .before .before .before .before .before .before .before .exchange-step .ensures) (c .before .before .before .before .before .before .before .before .before .at .given .1) (c .before .before .before .phase .given .1) (c .before .before .before .before .before .exchange-tick .ensures) (c .swap-by .ensures)
+returns c = step-exchange _ _ _ _
+    (c .before .before .before .before .before .before .before .before .before .before .before .exchange-step .ensures)
+    (c .before .before .before .before .before .before .before .before .before .at .given .1) (c .before .before .before .phase .given .1)
+    (c .before .before .before .before .before .exchange-tick .ensures) (c .swap-by .ensures)
 
 committed-by-requires : tie.Need-committed-by-requires
 committed-by-requires c κs = search needs
 
 returns-2 : tie.Need-returns-2
-returns-2 c = step-commit _ _ _ _ _ (c .before .before .before .before .before .before .before .before .before .exchange-step .ensures) (c .before .before .before .before .before .before .before .at .given .1) (c .before .before .match2 .keys2) (c .before .before .before .exchange-tick .ensures) (c .committed-by .ensures)
+returns-2 c = step-commit _ _ _ _ _ (c .before .before .before .before .before .before .before .before .before .exchange-step .ensures)
+    (c .before .before .before .before .before .before .before .at .given .1) (c .before .before .match2 .keys2)
+    (c .before .before .before .exchange-tick .ensures) (c .committed-by .ensures)
 
 enum-told : tie.Need-enum-told
 enum-told c = search needs
@@ -36,7 +41,9 @@ other-requires : tie.Need-other-requires
 other-requires c κs = search needs
 
 returns-3 : tie.Need-returns-3
-returns-3 c = c .other .ensures ∙ step-other _ _ _ _ _ (c .before .before .before .before .before .exchange-step .ensures) (c .before .before .before .enum-told .given .1)
+returns-3 c = c .other .ensures ∙ step-other _ _ _ _ _ (c .before .before .before .before .before .exchange-step .ensures)
+    (c .before .before .before .enum-told .given .1)
 
 pub step-spec : {M : Type 1} → statement M
-step-spec = tie.close (tie.spec exchange-step-requires enum-known-at exchange-tick-requires enum-known-phase swap-by-requires returns committed-by-requires returns-2 enum-told other-requires returns-3)
+step-spec = tie.close (tie.spec exchange-step-requires enum-known-at exchange-tick-requires enum-known-phase swap-by-requires returns
+    committed-by-requires returns-2 enum-told other-requires returns-3)

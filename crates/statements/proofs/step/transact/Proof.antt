@@ -28,7 +28,13 @@ first-read-requires c κs = search needs
 
 returns-2 : tie.Need-returns-2
 unfolding transactTick
-returns-2 c = rw (c .before .before .before .before .before .before .before .inner .given .1, ← c .before .before .before .before .block .ensures, ← c .before .before .before .bank .ensures, ← c .before .before .read-tick .ensures, ← c .first-read .ensures)
+returns-2 c = rw (
+  c .before .before .before .before .before .before .before .inner .given .1,
+  ← c .before .before .before .before .block .ensures,
+  ← c .before .before .before .bank .ensures,
+  ← c .before .before .read-tick .ensures,
+  ← c .first-read .ensures,
+)
 
 enum-known-inner-2 : tie.Need-enum-known-inner-2
 enum-known-inner-2 c = search needs
@@ -57,7 +63,13 @@ again-read-requires c κs = search needs
 
 returns-4 : tie.Need-returns-4
 unfolding transactTick
-returns-4 c = rw (c .before .before .before .before .before .before .before .inner3 .given .1, ← c .before .before .before .before .block2 .ensures, ← c .before .before .before .bank2 .ensures, ← c .before .before .read-tick2 .ensures, ← c .again-read .ensures)
+returns-4 c = rw (
+  c .before .before .before .before .before .before .before .inner3 .given .1,
+  ← c .before .before .before .before .block2 .ensures,
+  ← c .before .before .before .bank2 .ensures,
+  ← c .before .before .read-tick2 .ensures,
+  ← c .again-read .ensures,
+)
 
 enum-told-2 : tie.Need-enum-told-2
 enum-told-2 c = search needs
@@ -67,4 +79,7 @@ unfolding transactTick
 returns-5 c = rw (c .enum-told2 .given .1)
 
 pub transact-spec : {M : Type 1} → statement M
-transact-spec = tie.close (tie.spec enum-told returns enum-known-inner block-requires bank-requires read-tick-requires first-read-requires returns-2 enum-known-inner-2 copy-requires returns-3 enum-known-inner-3 block-requires-2 bank-requires-2 read-tick-requires-2 again-read-requires returns-4 enum-told-2 returns-5)
+transact-spec = tie.close
+    (tie.spec enum-told returns enum-known-inner block-requires bank-requires read-tick-requires first-read-requires returns-2
+    enum-known-inner-2 copy-requires returns-3 enum-known-inner-3 block-requires-2 bank-requires-2 read-tick-requires-2 again-read-requires
+    returns-4 enum-told-2 returns-5)

@@ -22,7 +22,15 @@ first-read-requires c κs = search needs
 
 returns : tie.Need-returns
 unfolding accessTick
-returns c = rw (← c .before .before .before .before .before .before .before .before .block .ensures, ← c .before .before .before .before .before .before .touched .ensures, eq-eqb _ _ (c .before .before .before .before .before .if1 .taken), ← c .before .before .before .bank .ensures, ← c .before .before .read-tick .ensures, ← c .first-read .ensures)
+returns c = rw (
+  ← c .before .before .before .before .before .before .before .before .block .ensures,
+  ← c .before .before .before .before .before .before .touched .ensures,
+  eq-eqb _ _
+      (c .before .before .before .before .before .if1 .taken),
+  ← c .before .before .before .bank .ensures,
+  ← c .before .before .read-tick .ensures,
+  ← c .first-read .ensures,
+)
 
 enum-known-access : tie.Need-enum-known-access
 enum-known-access c = search needs
@@ -32,7 +40,14 @@ get-requires c κs = search needs
 
 returns-2 : tie.Need-returns-2
 unfolding accessTick
-returns-2 c = rw (← c .before .before .before .before .before .before .before .before .before .block .ensures, ← c .before .before .before .before .before .before .before .touched .ensures, ne-eqb _ _ (c .before .before .before .before .before .before .if1 .left), c .before .before .before .before .access .given .1, ← c .get .ensures)
+returns-2 c = rw (
+  ← c .before .before .before .before .before .before .before .before .before .block .ensures,
+  ← c .before .before .before .before .before .before .before .touched .ensures,
+  ne-eqb _ _
+      (c .before .before .before .before .before .before .if1 .left),
+  c .before .before .before .before .access .given .1,
+  ← c .get .ensures,
+)
 
 enum-known-access-2 : tie.Need-enum-known-access-2
 enum-known-access-2 c = search needs
@@ -42,14 +57,32 @@ copy-requires c κs = search needs
 
 returns-3 : tie.Need-returns-3
 unfolding accessTick
-returns-3 c = rw (← c .before .before .before .before .before .before .before .before .before .before .block .ensures, ← c .before .before .before .before .before .before .before .before .touched .ensures, ne-eqb _ _ (c .before .before .before .before .before .before .before .if1 .left), c .before .before .before .before .before .access2 .given .1, eq-eqb _ _ (c .before .before .before .if2 .taken), ← c .copy .ensures)
+returns-3 c = rw (
+  ← c .before .before .before .before .before .before .before .before .before .before .block .ensures,
+  ← c .before .before .before .before .before .before .before .before .touched .ensures,
+  ne-eqb _ _
+      (c .before .before .before .before .before .before .before .if1 .left),
+  c .before .before .before .before .before .access2 .given .1,
+  eq-eqb _ _ (c .before .before .before .if2 .taken),
+  ← c .copy .ensures,
+)
 
 put-requires : tie.Need-put-requires
 put-requires c κs = search needs
 
 returns-4 : tie.Need-returns-4
 unfolding accessTick
-returns-4 c = rw (← c .before .before .before .before .before .before .before .before .before .before .block .ensures, ← c .before .before .before .before .before .before .before .before .touched .ensures, ne-eqb _ _ (c .before .before .before .before .before .before .before .if1 .left), c .before .before .before .before .before .access2 .given .1, ne-eqb _ _ (c .before .before .before .if2 .left), ← c .put .ensures)
+returns-4 c = rw (
+  ← c .before .before .before .before .before .before .before .before .before .before .block .ensures,
+  ← c .before .before .before .before .before .before .before .before .touched .ensures,
+  ne-eqb _ _
+      (c .before .before .before .before .before .before .before .if1 .left),
+  c .before .before .before .before .before .access2 .given .1,
+  ne-eqb _ _ (c .before .before .before .if2 .left),
+  ← c .put .ensures,
+)
 
 pub access-spec : {M : Type 1} → statement M
-access-spec = tie.close (tie.spec block-requires touched-requires bank-requires read-tick-requires first-read-requires returns enum-known-access get-requires returns-2 enum-known-access-2 copy-requires returns-3 put-requires returns-4)
+access-spec = tie.close
+    (tie.spec block-requires touched-requires bank-requires read-tick-requires first-read-requires returns enum-known-access get-requires
+    returns-2 enum-known-access-2 copy-requires returns-3 put-requires returns-4)

@@ -30,14 +30,26 @@ check-requires c κs = search needs
 
 returns-2 : tie.Need-returns-2
 unfolding againRead
-returns-2 c = rw (c .before .before .before .before .before .before .before .read2 .given .1, ← c .before .before .before .before .block .ensures, ← c .before .before .before .remembered .ensures) (c .check .ensures ∙ when-equal _ _ _ _ (c .before .before .if1 .taken))
+returns-2 c = rw (
+  c .before .before .before .before .before .before .before .read2 .given .1,
+  ← c .before .before .before .before .block .ensures,
+  ← c .before .before .before .remembered .ensures,
+)
+    (c .check .ensures ∙ when-equal _ _ _ _ (c .before .before .if1 .taken))
 
 restart-requires : tie.Need-restart-requires
 restart-requires c κs = search needs
 
 returns-3 : tie.Need-returns-3
 unfolding againRead
-returns-3 c = rw (c .before .before .before .before .before .before .before .read2 .given .1, ← c .before .before .before .before .block .ensures, ← c .before .before .before .remembered .ensures) (c .restart .ensures ∙ when-not _ _ _ _ (c .before .before .if1 .left))
+returns-3 c = rw (
+  c .before .before .before .before .before .before .before .read2 .given .1,
+  ← c .before .before .before .before .block .ensures,
+  ← c .before .before .before .remembered .ensures,
+)
+    (c .restart .ensures ∙ when-not _ _ _ _ (c .before .before .if1 .left))
 
 pub again-read-spec : {M : Type 1} → statement M
-again-read-spec = tie.close (tie.spec enum-known-read inner-requires returns enum-known-read-2 block-requires remembered-requires check-requires returns-2 restart-requires returns-3)
+again-read-spec = tie.close
+    (tie.spec enum-known-read inner-requires returns enum-known-read-2 block-requires remembered-requires check-requires returns-2
+    restart-requires returns-3)

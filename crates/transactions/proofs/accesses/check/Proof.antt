@@ -34,7 +34,14 @@ next-requires c κs = search needs
 
 returns-2 : tie.Need-returns-2
 unfolding checkedBy
-returns-2 c = rw (c .before .before .before .before .before .access2 .given .1, c .before .before .struct-known .given .1, ← c .next .ensures, c .before .set-touched .ensures)
+returns-2 c = rw (
+  c .before .before .before .before .before .access2 .given .1,
+  c .before .before .struct-known .given .1,
+  ← c .next .ensures,
+  c .before .set-touched .ensures,
+)
 
 pub check-spec : {M : Type 1} → statement M
-check-spec = tie.close (tie.spec enum-known-access set-register-requires goes-on-requires returns enum-known-access-2 cast-set-touched add-set-touched set-touched-requires next-requires returns-2)
+check-spec = tie.close
+    (tie.spec enum-known-access set-register-requires goes-on-requires returns enum-known-access-2 cast-set-touched add-set-touched
+    set-touched-requires next-requires returns-2)

@@ -31,7 +31,15 @@ inner-requires-2 c κs = search needs
 
 returns-2 : tie.Need-returns-2
 unfolding firstRead
-returns-2 c = rw (c .before .before .before .before .before .before .before .read2 .given .1, ← c .before .before .before .before .before .block .ensures, ← c .inner2 .ensures, c .before .set-remembered .ensures, c .before .before .before .set-touched .ensures)
+returns-2 c = rw (
+  c .before .before .before .before .before .before .before .read2 .given .1,
+  ← c .before .before .before .before .before .block .ensures,
+  ← c .inner2 .ensures,
+  c .before .set-remembered .ensures,
+  c .before .before .before .set-touched .ensures,
+)
 
 pub first-read-spec : {M : Type 1} → statement M
-first-read-spec = tie.close (tie.spec enum-known-read inner-requires returns enum-known-read-2 block-requires set-touched-requires set-remembered-requires inner-requires-2 returns-2)
+first-read-spec = tie.close
+    (tie.spec enum-known-read inner-requires returns enum-known-read-2 block-requires set-touched-requires set-remembered-requires
+    inner-requires-2 returns-2)

@@ -32,14 +32,29 @@ job-at-requires c κs = search needs
 
 returns-2 : tie.Need-returns-2
 unfolding commitBy
-returns-2 c = rw (← c .before .before .before .before .before .before .before .untouched .ensures, c .before .before .before .before .before .before .if1 .left, ← c .before .before .before .before .spent .ensures, c .before .before .before .if2 .taken, ← c .job-at .ensures, c .before .count .ensures)
+returns-2 c = rw (
+  ← c .before .before .before .before .before .before .before .untouched .ensures,
+  c .before .before .before .before .before .before .if1 .left,
+  ← c .before .before .before .before .spent .ensures,
+  c .before .before .before .if2 .taken,
+  ← c .job-at .ensures,
+  c .before .count .ensures,
+)
 
 gather-requires : tie.Need-gather-requires
 gather-requires c κs = search needs
 
 returns-3 : tie.Need-returns-3
 unfolding commitBy
-returns-3 c = let j = c .before .before .before .before .before .before .before .before .args .job in rw (← c .before .before .before .before .before .before .untouched .ensures, c .before .before .before .before .before .if1 .left, ← c .before .before .before .spent .ensures, c .before .before .if2 .left) (ap (λ (w : Noted ℕ). noted (job (Transaction (Committing Start)) (j .value) (j .at) (j .begin) (w .next) (j .used)) (w .task)) (c .gather .ensures))
+returns-3 c = let j = c .before .before .before .before .before .before .before .before .args .job in rw (
+  ← c .before .before .before .before .before .before .untouched .ensures,
+  c .before .before .before .before .before .if1 .left,
+  ← c .before .before .before .spent .ensures,
+  c .before .before .if2 .left,
+)
+    (ap (λ (w : Noted ℕ). noted (job (Transaction (Committing Start)) (j .value) (j .at) (j .begin) (w .next) (j .used)) (w .task))
+    (c .gather .ensures))
 
 pub commit-spec : {M : Type 1} → statement M
-commit-spec = tie.close (tie.spec untouched-requires done-requires returns spent-requires count-requires job-at-requires returns-2 gather-requires returns-3)
+commit-spec = tie.close
+    (tie.spec untouched-requires done-requires returns spent-requires count-requires job-at-requires returns-2 gather-requires returns-3)

@@ -25,7 +25,12 @@ done-requires c κs = search needs
 
 returns-2 : tie.Need-returns-2
 unfolding committedBy
-returns-2 c = rw (c .before .before .before .before .before .exchanged2 .given .1, c .before .before .before .if1 .taken, ← c .done .ensures, c .before .take-back .ensures)
+returns-2 c = rw (
+  c .before .before .before .before .before .exchanged2 .given .1,
+  c .before .before .before .if1 .taken,
+  ← c .done .ensures,
+  c .before .take-back .ensures,
+)
 
 count-requires : tie.Need-count-requires
 count-requires c κs = search needs
@@ -35,7 +40,12 @@ restart-requires c κs = search needs
 
 returns-3 : tie.Need-returns-3
 unfolding committedBy
-returns-3 c = rw (c .before .before .before .before .before .before .exchanged2 .given .1, c .before .before .before .before .if1 .left, ← c .before .before .count .ensures, ← c .restart .ensures)
+returns-3 c = rw (
+  c .before .before .before .before .before .before .exchanged2 .given .1,
+  c .before .before .before .before .if1 .left,
+  ← c .before .before .count .ensures,
+  ← c .restart .ensures,
+)
 
 enum-known-exchanged-3 : tie.Need-enum-known-exchanged-3
 enum-known-exchanged-3 c = search needs
@@ -48,4 +58,6 @@ unfolding committedBy
 returns-4 c = rw (c .before .before .exchanged3 .given .1, ← c .with-value .ensures)
 
 pub committed-by-spec : {M : Type 1} → statement M
-committed-by-spec = tie.close (tie.spec enum-known-exchanged inner-requires returns enum-known-exchanged-2 take-back-requires done-requires returns-2 count-requires restart-requires returns-3 enum-known-exchanged-3 with-value-requires returns-4)
+committed-by-spec = tie.close
+    (tie.spec enum-known-exchanged inner-requires returns enum-known-exchanged-2 take-back-requires done-requires returns-2 count-requires
+    restart-requires returns-3 enum-known-exchanged-3 with-value-requires returns-4)

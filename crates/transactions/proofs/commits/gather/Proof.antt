@@ -33,7 +33,8 @@ loop-less : tie.Need-loop-less Inv-loop μ-loop
 loop-less c = search needs
 
 loop-again : tie.Need-loop-again Inv-loop μ-loop
-loop-again c = let l = c .before .before .before .loop in (omega (arith, c .before .before .loop-test), gathered-more _ _ _ _ _ _ (l .inv .1) (c .gather-one .ensures))
+loop-again c = let l = c .before .before .before .loop in
+    (omega (arith, c .before .before .loop-test), gathered-more _ _ _ _ _ _ (l .inv .1) (c .gather-one .ensures))
 
 returns : tie.Need-returns Inv-loop μ-loop
 returns c = let l = c .before .loop in let q : l .b ≡ 16 = omega (arith, c .loop-test) in rw q at (l .inv .1)

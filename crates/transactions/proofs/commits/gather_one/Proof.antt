@@ -32,7 +32,16 @@ next-requires c κs = search needs
 
 returns-2 : tie.Need-returns-2
 unfolding gatheredOne
-returns-2 c = rw (← c .before .before .before .before .before .before .before .before .touched .ensures, ne-eqb _ _ (c .before .before .before .before .before .before .before .if1 .left), ← c .before .before .before .before .before .remembered .ensures, ← c .before .before .before .new-bank .ensures, ← c .next .ensures, c .before .enter .ensures)
+returns-2 c = rw (
+  ← c .before .before .before .before .before .before .before .before .touched .ensures,
+  ne-eqb _ _
+      (c .before .before .before .before .before .before .before .if1 .left),
+  ← c .before .before .before .before .before .remembered .ensures,
+  ← c .before .before .before .new-bank .ensures,
+  ← c .next .ensures,
+  c .before .enter .ensures,
+)
 
 pub gather-one-spec : {M : Type 1} → statement M
-gather-one-spec = tie.close (tie.spec touched-requires returns remembered-requires new-bank-requires cast-enter add-enter enter-requires next-requires returns-2)
+gather-one-spec = tie.close
+    (tie.spec touched-requires returns remembered-requires new-bank-requires cast-enter add-enter enter-requires next-requires returns-2)

@@ -23,7 +23,13 @@ wrapping-add-u32-requires-2 : tie.Need-wrapping-add-u32-requires-2
 wrapping-add-u32-requires-2 c κs = search needs
 
 returns-2 : tie.Need-returns-2
-returns-2 c = rw (le-ltb _ _ (c .before .before .before .if1 .left), c .wrapping-add-u322 .ensures, c .before .wrapping-add-u32 .ensures, c .before .before .copy .ensures)
+returns-2 c = rw (
+  le-ltb _ _ (c .before .before .before .if1 .left),
+  c .wrapping-add-u322 .ensures,
+  c .before .wrapping-add-u32 .ensures,
+  c .before .before .copy .ensures,
+)
 
 pub new-bank-spec : {M : Type 1} → statement M
-new-bank-spec = tie.close (tie.spec returns cast-copy copy-requires mul-wrapping-add-u32 wrapping-add-u32-requires wrapping-add-u32-requires-2 returns-2)
+new-bank-spec = tie.close
+    (tie.spec returns cast-copy copy-requires mul-wrapping-add-u32 wrapping-add-u32-requires wrapping-add-u32-requires-2 returns-2)

@@ -28,7 +28,10 @@ is-spent-requires : tie.Need-is-spent-requires Inv-loop μ-loop
 is-spent-requires c κs = search needs
 
 returns : tie.Need-returns Inv-loop μ-loop
-returns c = let l = c .before .before .before .before .before .loop in sym (l .inv .1 ∙ spent-stops _ 16 (l .b) (omega (arith, c .before .before .before .before .loop-test)) (rw (← c .before .before .before .touched .ensures, ← c .before .before .remembered .ensures) (sym (c .before .is-spent .ensures) ∙ c .if1 .taken)))
+returns c = let l = c .before .before .before .before .before .loop in sym
+    (l .inv .1 ∙ spent-stops _ 16 (l .b) (omega (arith, c .before .before .before .before .loop-test))
+    (rw (← c .before .before .before .touched .ensures, ← c .before .before .remembered .ensures)
+    (sym (c .before .is-spent .ensures) ∙ c .if1 .taken)))
 
 add-b : tie.Need-add-b Inv-loop μ-loop
 add-b c = search needs
@@ -37,11 +40,19 @@ loop-less : tie.Need-loop-less Inv-loop μ-loop
 loop-less c = search needs
 
 loop-again : tie.Need-loop-again Inv-loop μ-loop
-loop-again c = let l = c .before .before .before .before .before .loop in (omega (arith, c .before .before .before .before .loop-test), l .inv .1 ∙ spent-goes-on _ 16 (l .b) (omega (arith, c .before .before .before .before .loop-test)) (rw (← c .before .before .before .touched .ensures, ← c .before .before .remembered .ensures) (sym (c .before .is-spent .ensures) ∙ c .if1 .left)))
+loop-again c = let l = c .before .before .before .before .before .loop in (
+  omega (arith, c .before .before .before .before .loop-test),
+  l .inv .1 ∙ spent-goes-on _ 16 (l .b)
+      (omega (arith, c .before .before .before .before .loop-test))
+      (rw (← c .before .before .before .touched .ensures, ← c .before .before .remembered .ensures)
+      (sym (c .before .is-spent .ensures) ∙ c .if1 .left)),
+)
 
 returns-2 : tie.Need-returns-2 Inv-loop μ-loop
 unfolding spentFrom
 returns-2 c = let l = c .before .loop in let q : l .b ≡ 16 = omega (arith, c .loop-test) in sym (rw q at (l .inv .1))
 
 pub spent-spec : {M : Type 1} → statement M
-spent-spec = tie.close (tie.spec Inv-loop μ-loop loop-holds touched-requires remembered-requires is-spent-requires returns add-b loop-less loop-again returns-2)
+spent-spec = tie.close
+    (tie.spec Inv-loop μ-loop loop-holds touched-requires remembered-requires is-spent-requires returns add-b loop-less loop-again
+    returns-2)

@@ -23,7 +23,12 @@ set-copy-requires c κs = search needs
 
 returns-2 : tie.Need-returns-2
 unfolding takenOne
-returns-2 c = rw (← c .before .before .before .before .before .touched .ensures, le-ltb _ _ (c .before .before .before .before .if1 .left), ← c .before .before .remembered .ensures, c .set-copy .ensures)
+returns-2 c = rw (
+  ← c .before .before .before .before .before .touched .ensures,
+  le-ltb _ _ (c .before .before .before .before .if1 .left),
+  ← c .before .before .remembered .ensures,
+  c .set-copy .ensures,
+)
 
 pub take-one-spec : {M : Type 1} → statement M
 take-one-spec = tie.close (tie.spec touched-requires returns remembered-requires cast-set-copy set-copy-requires returns-2)

@@ -23,7 +23,9 @@ touched-requires c κs = search needs
 
 returns : tie.Need-returns Inv-loop μ-loop
 unfolding untouchedFrom
-returns c = let l = c .before .before .before .loop in sym (l .inv .1 ∙ untouched-stops _ 16 (l .b) (omega (arith, c .before .before .loop-test)) (rw (← c .before .touched .ensures) (c .if1 .taken)))
+returns c = let l = c .before .before .before .loop in sym
+    (l .inv .1 ∙ untouched-stops _ 16 (l .b) (omega (arith, c .before .before .loop-test))
+    (rw (← c .before .touched .ensures) (c .if1 .taken)))
 
 add-b : tie.Need-add-b Inv-loop μ-loop
 add-b c = search needs
@@ -32,7 +34,11 @@ loop-less : tie.Need-loop-less Inv-loop μ-loop
 loop-less c = search needs
 
 loop-again : tie.Need-loop-again Inv-loop μ-loop
-loop-again c = let l = c .before .before .before .loop in (omega (arith, c .before .before .loop-test), l .inv .1 ∙ untouched-goes-on _ 16 (l .b) (omega (arith, c .before .before .loop-test)) (rw (← c .before .touched .ensures) (c .if1 .left)))
+loop-again c = let l = c .before .before .before .loop in (
+  omega (arith, c .before .before .loop-test),
+  l .inv .1 ∙ untouched-goes-on _ 16 (l .b) (omega (arith, c .before .before .loop-test))
+      (rw (← c .before .touched .ensures) (c .if1 .left)),
+)
 
 returns-2 : tie.Need-returns-2 Inv-loop μ-loop
 unfolding untouchedFrom
