@@ -21,6 +21,9 @@ impl SheetCeilings {
 pub struct TaskCeilings;
 
 impl TaskCeilings {
+    // Each task has exactly as many registers.
+    pub const REGISTERS: u8 = 8;
+
     pub const PAIRS: usize = 8;
 
     pub const TOUCHED: usize = 8;

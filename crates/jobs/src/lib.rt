@@ -4,6 +4,7 @@ ghost use Rattle.state.specs.State.{own};
 ghost use Rattle.exchanges.specs.Places.{noted};
 ghost use Rattle.jobs.specs.Jobs.{jobAt, inPhase, withValue, nextLine, counted, added, keeping, restoring, entered, afterDone, readBy, swapBy};
 use commands::Access;
+use commands::ceilings::TaskCeilings;
 use exchanges::exchange::Exchanged;
 use exchanges::exchange::Step;
 use exchanges::read::Read;
@@ -111,7 +112,7 @@ pub fn keep(task: &mut Task)
     ensures { λ r. ⌜ own (now (task .exit)) ≡ keeping 8 (own (now (task .entry))) ⌝ }
 {
     let mut n: u8 = 0;
-    while n < 8 {
+    while n < TaskCeilings::REGISTERS {
         let value = task::register(&*task, n);
         task::set_kept(&mut *task, n, value);
         n += 1;
@@ -122,7 +123,7 @@ pub fn restore(task: &mut Task)
     ensures { λ r. ⌜ own (now (task .exit)) ≡ restoring 8 (own (now (task .entry))) ⌝ }
 {
     let mut n: u8 = 0;
-    while n < 8 {
+    while n < TaskCeilings::REGISTERS {
         let value = task::kept(&*task, n);
         task::set_register(&mut *task, n, value);
         n += 1;

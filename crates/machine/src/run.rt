@@ -14,6 +14,7 @@ use crate::releases;
 use crate::releases::Coming;
 use commands::BodyCommand;
 use commands::ceilings::SheetCeilings;
+use commands::ceilings::TaskCeilings;
 use jobs::Inner;
 use jobs::Job;
 use jobs::Phase;
@@ -144,7 +145,7 @@ fn zero(task: &mut Task)
     ensures { λ r. ⌜ own (now (task .exit)) ≡ zeroing 8 (own (now (task .entry))) ⌝ }
 {
     let mut n: u8 = 0;
-    while n < 8 {
+    while n < TaskCeilings::REGISTERS {
         task::set_register(&mut *task, n, 0);
         n += 1;
     }

@@ -13,6 +13,7 @@ ghost use Rattle.state.specs.Held.{memoryOf};
 ghost use Rattle.report.specs.Writing.{Written, farthest};
 ghost use Rattle.report.specs.Text.{taskLinesOf, reportText, Reported};
 use commands::ceilings::SheetCeilings;
+use commands::ceilings::TaskCeilings;
 use exchanges::places;
 use exchanges::read;
 use state::Memory;
@@ -32,7 +33,7 @@ const STORES: u32 = 48;
 
 const VALUES: usize = SheetCeilings::BLOCK_VALUES;
 
-const REGISTERS: usize = 8;
+const REGISTERS: usize = TaskCeilings::REGISTERS as usize;
 
 // How many of a task's counts its T line shows.
 const SHOWN: usize = 4;

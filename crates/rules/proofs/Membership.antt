@@ -1,34 +1,46 @@
 -- Membership in the first numbers of a list, and the length of such a part.
 use Prim.Native.Nat.{ℕ, zero, suc, _+_, _<_, _≤_}
-use mathlib.Core.Path.{_≡_, refl, sym, _∙_}
-use mathlib.Core.Bool.{true, false}
+use mathlib.Core.Path.{_≡_, refl, sym, ap, _∙_}
+use mathlib.Core.Bool.{Bool, true, false, _||_}
 use mathlib.Core.List.{List, [], _∷_, _++_}
 use native.Mathlib.Omega.{arith}
 use native.Mathlib.Numerals.{add-one}
-use borrow.Author.Tests.{eq-eqb, ne-eqb, lt-ltb, le-ltb, ltb-true, ltb-false}
+use borrow.Author.Tests.{eq-eqb, ne-eqb, eqb-true, eqb-false, lt-ltb, le-ltb, ltb-true, ltb-false}
 use lib.Dec.{eqb, ltb}
 use lib.ListN.{length, getD, take, drop, set, length-take, drop-of-length-le}
-use lib.Seq.{drop-cons, getD-take, take-suc-set}
+use lib.Seq.{take-all, drop-cons, getD-take, take-suc-set}
 use Rattle.model.specs.Ceilings.{maxTouched, maxPuts}
 use Rattle.model.specs.Fault.{among, none?, room, include, includeBy}
+use Rattle.bytes.specs.Bytes.{slice, indexAfter, indexOf}
 use Rattle.commands.proofs.Decoding.{cases}
 
-module _ (x n : ℕ) (l : List ℕ) where
-  within : (i : ℕ) → i < n → i < length l → i < length (take n l)
-  within i h k = rw length-take (omega arith)
+one-less : (k n : ℕ) → ltb (suc k) (suc n) ≡ ltb k n
+one-less k n =
+    cases (ltb k n) (λ e. lt-ltb (suc k) (suc n) (omega (arith, ltb-true k n e)) ∙ sym e)
+    (λ e. le-ltb (suc k) (suc n) (omega (arith, ltb-false k n e)) ∙ sym e)
 
-  -- past the part there is none
-  pub among-past : (i : ℕ) → length (take n l) ≤ i → among x (drop i (take n l)) ≡ false
-  unfolding among
-  among-past i h = rw (drop-of-length-le (take n l) h)
+-- a number is found before the end exactly if it is there
+module _ (x : ℕ) where
+  by-first : (y : ℕ) (b : Bool) → eqb y x ≡ b → (k n : ℕ) (rest : Bool) → ltb k n ≡ rest → ltb (indexAfter b k) (suc n) ≡ (eqb x y || rest)
+  unfolding indexAfter
+  by-first y true e k n rest f = rw (eq-eqb x y (sym (eqb-true y x e))) (lt-ltb 0 (suc n) (omega arith))
+  by-first y false e k n rest f = rw (ne-eqb x y (λ q. eqb-false y x e (sym q))) (one-less k n ∙ f)
 
-  pub among-here : (i : ℕ) → i < n → i < length l → getD l i 0 ≡ x → among x (drop i (take n l)) ≡ true
-  unfolding among
-  among-here i h k e = rw (drop-cons (take n l) i 0 (within i h k), getD-take n l i 0 h, eq-eqb x (getD l i 0) (sym e))
+  pub found-among : (l : List ℕ) → ltb (indexOf x l) (length l) ≡ among x l
+  unfolding indexOf among
+  found-among [] = refl
+  found-among (y ∷ l) = by-first y (eqb y x) refl (indexOf x l) (length l) (among x l) (found-among l)
 
-  pub among-next : (i : ℕ) → i < n → i < length l → (getD l i 0 ≡ x → ⊥) → among x (drop i (take n l)) ≡ among x (drop (i + 1) (take n l))
-  unfolding among
-  among-next i h k ne = rw (add-one, drop-cons (take n l) i 0 (within i h k), getD-take n l i 0 h, ne-eqb x (getD l i 0) (λ e. ne (sym e)))
+  pub found-part : (l : List ℕ) (n : ℕ) {r : ℕ} → n ≤ length l → r ≡ 0 + indexOf x (slice 0 n l) → ltb r n ≡ among x (take n l)
+  unfolding slice
+  found-part l n h e =
+      let size : length (take n l) ≡ n = rw length-take (omega arith) in
+      let here : 0 + indexOf x (take n l) ≡ indexOf x (take n l) = omega arith in
+      rw (e, here) (ap (ltb (indexOf x (take n l))) (sym size) ∙ found-among (take n l))
+
+  pub found-whole : (l : List ℕ) (n : ℕ) {r : ℕ} → length l < n → r ≡ 0 + indexOf x (slice 0 (length l) l) → ltb r (length l) ≡ among x (take n l)
+  found-whole l n h e =
+      found-part l (length l) (omega arith) e ∙ ap (among x) (take-all (length l) l (omega arith) ∙ sym (take-all n l (omega arith)))
 
 -- THE PART OF AN ARRAY
 pub part-none : (n : ℕ) (l : List ℕ) → length l ≡ maxTouched → eqb n 0 ≡ none? (take n l)

@@ -140,18 +140,12 @@ impl Numbers {
     }
 }
 
+// Whether x is among the first `count` of the values.
 fn contains(values: &[u8], count: usize, x: u8) -> bool
     ensures { λ r. ⌜ r ≡ rule.among x (take count (now (values .entry))) ⌝ }
 {
-    let mut i = 0;
-    while i < values.len() {
-        if i == count {
-            return false;
-        }
-        if values[i] == x {
-            return true;
-        }
-        i += 1;
+    if values.len() < count {
+        return bytes::scan::find(values, 0, values.len(), x) < values.len();
     }
-    false
+    bytes::scan::find(values, 0, count, x) < count
 }

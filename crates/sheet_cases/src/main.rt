@@ -92,25 +92,10 @@ fn answer_line(line: &[u8]) {
     answer(&bytes[..n]);
 }
 
-// The place of the first end of a line from a place on, or the length.
-fn line_end(text: &[u8], start: usize) -> usize
-    requires { ⌜ start ≤ length (now text) ⌝ }
-    ensures { λ r. ⌜ (start ≤ r) × (r ≤ length (now (text .entry))) ⌝ }
-{
-    let mut at = start;
-    while at < text.len() {
-        if text[at] == b'\n' {
-            return at;
-        }
-        at += 1;
-    }
-    at
-}
-
 fn answer_lines(text: &[u8]) {
     let mut at = 0;
     while at < text.len() {
-        let end = line_end(text, at);
+        let end = bytes::scan::find(text, at, text.len(), b'\n');
         answer_line(&text[at..end]);
         at = end + 1;
     }

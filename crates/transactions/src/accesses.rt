@@ -19,6 +19,8 @@ use state::Task;
 use state::shared;
 use state::task;
 
+const VALUES: u8 = SheetCeilings::BLOCK_VALUES as u8;
+
 // The cell of a block's bank word.
 pub fn bank(block: u8) -> usize
     ensures { λ r. ⌜ r ≡ bankOf block ⌝ }
@@ -121,7 +123,7 @@ pub fn copy(memory: &mut Memory, task: &Task, job: Job, access: Access, n: u8) -
     let value = shared::value(&*memory, from);
     shared::set_value(&mut *memory, to, value);
     let done = places::next(n);
-    if done == 8 {
+    if done == VALUES {
         return inner(job, Inner::Again(access, 0, Reading::Load));
     }
     inner(job, Inner::Copying(access, done))

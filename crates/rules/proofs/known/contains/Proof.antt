@@ -1,66 +1,20 @@
--- `contains` meets its contract. The loop's invariant: i is at most the count, and no number before i is x.
-use Prim.Native.Nat.{_-_, _<_, _≤_}
-use Rattle.model.specs.Fault.{among}
-use Rattle.rules.proofs.Membership.{among-here, among-next, among-past}
-use lib.ListN.{drop, length, length-take, take}
-use mathlib.Core.Path.{_∙_, _≡_, refl, sym}
-use native.Mathlib.Omega.{arith}
+-- `contains` meets its contract.
+use Rattle.rules.proofs.Membership.{found-part, found-whole}
+use borrow.Author.Needs.{needs}
 use Rattle.rules.proofs.known.contains.Statement.{statement}
 use Rattle.rules.proofs.known.contains.Tie as tie
 
-abbrev Inv-loop : tie.InvT-loop
-Inv-loop values count x i₀ i = (i ≤ length values) × (i ≤ count) × (among x (take count values) ≡ among x (drop i (take count values)))
+find-requires : tie.Need-find-requires
+find-requires c κs = search needs
 
-abbrev μ-loop : tie.MeasureT-loop
-μ-loop values count x i₀ i = length values - i
+returns : tie.Need-returns
+returns c = found-whole _ _ _ (c .before .if1 .taken) (c .find .ensures .0)
 
-loop-holds : tie.Need-loop-holds Inv-loop μ-loop
-loop-holds c = (omega arith, omega arith, refl)
+find-requires-2 : tie.Need-find-requires-2
+find-requires-2 c κs = search needs
 
-returns : tie.Need-returns Inv-loop μ-loop
-returns c = let a = c .before .before .before .args in
-    let past : length (take (a .count) (a .values .now)) ≤ c .before .before .loop .i = rw length-take (omega arith) in
-    sym (c .before .before .loop .inv .2 ∙ among-past (a .x) (a .count) (a .values .now) _ past)
-
-shared-slice-read-if2 : tie.Need-shared-slice-read-if2 Inv-loop μ-loop
-shared-slice-read-if2 c = omega arith
-
-returns-2 : tie.Need-returns-2 Inv-loop μ-loop
-returns-2 c = let a = c .before .before .before .before .before .args in
-    let below : c .before .before .before .before .loop .i < a .count = omega arith in
-    sym (c .before .before .before .before .loop .inv .2
-    ∙ among-here (a .x) _ _ _ below (c .before .before .before .loop-test .taken) (c .if2 .taken))
-
-add-i : tie.Need-add-i Inv-loop μ-loop
-add-i c = omega arith
-
-loop-less : tie.Need-loop-less Inv-loop μ-loop
-loop-less c = omega arith
-
-loop-again : tie.Need-loop-again Inv-loop μ-loop
-loop-again c = let a = c .before .before .before .before .before .args in
-    let below : c .before .before .before .before .loop .i < a .count = omega arith in (
-      omega arith,
-      omega arith,
-      c .before .before .before .before .loop .inv .2 ∙ among-next (a .x) _ _ _ below (c .before .before .before .loop-test .taken) (c .if2 .left),
-    )
-
-returns-3 : tie.Need-returns-3 Inv-loop μ-loop
-returns-3 c = let a = c .before .before .args in
-    let past : length (take (a .count) (a .values .now)) ≤ c .before .loop .i = rw length-take (omega arith) in
-    sym (c .before .loop .inv .2 ∙ among-past (a .x) (a .count) (a .values .now) _ past)
+returns-2 : tie.Need-returns-2
+returns-2 c = found-part _ _ _ (c .before .if1 .left) (c .find2 .ensures .0)
 
 pub contains-spec : {M : Type 1} → statement M
-contains-spec =
-    tie.close
-    (tie.spec
-    Inv-loop
-    μ-loop
-    loop-holds
-    returns
-    shared-slice-read-if2
-    returns-2
-    add-i
-    loop-less
-    loop-again
-    returns-3)
+contains-spec = tie.close (tie.spec find-requires returns find-requires-2 returns-2)
