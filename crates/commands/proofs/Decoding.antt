@@ -18,7 +18,6 @@ use Rattle.commands.specs.declared.Whole.the-variants as Whole
 use Rattle.commands.specs.declared.table.Entry.{Entry}
 use Rattle.commands.specs.declared.table.Named.{Named}
 use Rattle.commands.specs.declared.table.Named.the-variants.{By, Nothing}
-use Rattle.commands.specs.declared.Opcode.the-variants.{Known}
 
 -- THE TABLE
 -- the byte has a row among these, and its operands take that many bytes
@@ -84,7 +83,7 @@ module _ (s : List ℕ) (at : ℕ) where
       let past : length s < suc at + total (r .row .widths) = omega (arith, r .takes) in
       simp (lt-ltb at (length s) h, r .is) (simp (lt-leb (suc at + total (r .row .widths)) (length s) past))
 
-  pub whole : {w : ℕ} → at < length s → RowOf (getD s at 0) w → suc at + w ≤ length s → ByteSays s at (Known (getD s at 0))
+  pub whole : {w : ℕ} → at < length s → RowOf (getD s at 0) w → suc at + w ≤ length s → ByteSays s at (getD s at 0)
   unfolding commandAt commandOf widthOf
   whole h r l =
       let within : suc at + total (r .row .widths) ≤ length s = omega (arith, r .takes) in

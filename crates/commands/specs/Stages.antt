@@ -10,8 +10,6 @@ use Rattle.model.specs.Command.{Command, END, blockFrom, Row, table, rowOf, tot
 use Rattle.commands.specs.View.{viewRefusal}
 use Rattle.commands.specs.declared.Access.{Access}
 use Rattle.commands.specs.declared.Access.the-variants.{Get, Put}
-use Rattle.commands.specs.declared.Opcode.{Opcode}
-use Rattle.commands.specs.declared.Opcode.the-variants as opcode
 use Rattle.commands.specs.declared.Whole.{Whole}
 use Rattle.commands.specs.declared.Whole.the-variants as whole
 
@@ -49,13 +47,11 @@ unfoldable pub accessFrom : List ℕ → ℕ → ℕ → Access
 accessFrom s p b =
     pick (eqb b 0x21) (Get (getD s p 0) (getD s (p + 1) 0) (getD s (p + 2) 0)) (Put (getD s p 0) (getD s (p + 1) 0) (getD s (p + 2) 0))
 
--- what the byte at a place says of the command there
-abbrev pub ByteSays : List ℕ → ℕ → Opcode → Type 0
-ByteSays s at (opcode.Refused f) = commandAt s at ≡ refused (viewRefusal (f .refusal)) (f .place)
-ByteSays s at (opcode.Known b) =
-    (suc at + widthOf b ≤ length s) × (commandAt s at ≡ found (commandOf s (suc at) b) (suc at + widthOf b))
+-- what a byte at a place says of the command there
+abbrev pub ByteSays : List ℕ → ℕ → ℕ → Type 0
+ByteSays s at b = (suc at + widthOf b ≤ length s) × (commandAt s at ≡ found (commandOf s (suc at) b) (suc at + widthOf b))
 
--- the same of the entry, whose width is the byte's
+-- what its entry says, whose width is the byte's
 abbrev pub EntrySays : List ℕ → ℕ → Whole → Type 0
-EntrySays s at (whole.Refused f) = ByteSays s at (opcode.Refused f)
-EntrySays s at (whole.By e) = (e .width ≡ widthOf (e .byte)) × ByteSays s at (opcode.Known (e .byte))
+EntrySays s at (whole.Refused f) = commandAt s at ≡ refused (viewRefusal (f .refusal)) (f .place)
+EntrySays s at (whole.By e) = (e .width ≡ widthOf (e .byte)) × ByteSays s at (e .byte)

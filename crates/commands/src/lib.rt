@@ -5,7 +5,7 @@ ghost use lib.ListN.{length, getD};
 ghost use Rattle.model.specs.Command.{bigEndian, commandAt};
 ghost use Rattle.model.specs.Refusal.{number};
 ghost use Rattle.commands.specs.View.{viewRefusal, viewCommand, viewDecoded};
-ghost use Rattle.commands.specs.Stages.{commandOf, accessFrom, EntrySays, ByteSays, valuesFrom};
+ghost use Rattle.commands.specs.Stages.{commandOf, accessFrom, EntrySays, valuesFrom};
 use crate::ceilings::SheetCeilings;
 use crate::table::Entry;
 use crate::table::Named;
@@ -78,12 +78,6 @@ pub struct Fault {
 // The entry of a command whose operands all lie within the sheet, or the fault.
 pub enum Whole {
     By(Entry),
-    Refused(Fault),
-}
-
-// The same with the byte alone.
-pub enum Opcode {
-    Known(u8),
     Refused(Fault),
 }
 
@@ -176,19 +170,8 @@ fn entry_at(s: &[u8], at: usize) -> Whole
     Whole::By(e)
 }
 
-// The byte of the command at a place.
-pub fn command_byte(s: &[u8], at: usize) -> Opcode
-    ensures { λ r. ⌜ ByteSays (now (s .entry)) at r ⌝ }
-{
-    let w = entry_at(s, at);
-    match w {
-        Whole::By(e) => Opcode::Known(e.byte),
-        Whole::Refused(f) => Opcode::Refused(f),
-    }
-}
-
 // GET or PUT by its byte, its operands starting at p.
-pub fn access_of(s: &[u8], p: usize, b: u8) -> Access
+fn access_of(s: &[u8], p: usize, b: u8) -> Access
     requires { ⌜ p ≤ length (now s) ⌝ }
     ensures { λ r. ⌜ r ≡ accessFrom (now (s .entry)) p b ⌝ }
 {

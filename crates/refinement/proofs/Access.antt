@@ -37,7 +37,8 @@ use Rattle.refinement.proofs.Shape.{InsideShape, Refines}
 use Rattle.refinement.proofs.Sized.{registers-sized, blocks-sized}
 use Rattle.refinement.proofs.Lines.{next-line, lines-next}
 use Rattle.refinement.proofs.Done.{countsOf}
-use Rattle.refinement.proofs.Memory.{rows-at, rows-written}
+use Rattle.state.proofs.Held.{rows-at}
+use Rattle.refinement.proofs.Memory.{rows-written}
 use Rattle.refinement.proofs.Reading.{read-tick}
 use Rattle.refinement.proofs.Blocks.{at-blocks, blocks-written, blocks-touched, value-remembered}
 use Rattle.refinement.proofs.Copied.{restored-all, cleared-blocks, restoring-sized, clearing-sized}

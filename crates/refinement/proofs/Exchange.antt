@@ -25,9 +25,11 @@ use Rattle.exchanges.specs.declared.exchange.Exchanged.the-variants.{Goes, Find
 use Rattle.state.specs.Held.{memoryOf}
 use Rattle.refinement.proofs.View.{entryOf, entriesOf, numberOf, stepOf, exchangeOf}
 use Rattle.state.specs.Sized.{SharedSized, OwnSized}
-use Rattle.refinement.proofs.Memory.{cell-at, own-unpack, rows-written}
+use Rattle.state.proofs.Held.{cell-at}
+use Rattle.exchanges.proofs.Reading.{own-unpack}
+use Rattle.refinement.proofs.Memory.{rows-written}
 use Rattle.refinement.proofs.Entries.{at-entries, length-entries, entries-loaded, entries-looked}
-use Rattle.refinement.proofs.Reading.{saved-for}
+use Rattle.exchanges.proofs.Reading.{saved-for}
 
 -- what is known of the k entries
 pub record ExchangeShape (t : Own) (k : ℕ) : Type 0 where

@@ -35,7 +35,7 @@ use Rattle.refinement.proofs.View.{readingOf, entriesOf, pairsOf, numbe
 use Rattle.state.specs.Sized.{SharedSized, OwnSized}
 use Rattle.refinement.proofs.Shape.{OutsideShape, Refines}
 use Rattle.refinement.proofs.Lines.{next-line, lines-at}
-use Rattle.refinement.proofs.Memory.{length-map}
+use Rattle.state.proofs.Held.{length-map}
 use Rattle.refinement.proofs.Entries.{at-entries, length-entries}
 use Rattle.refinement.proofs.Reading.{read-tick}
 use Rattle.refinement.proofs.Exchange.{ExchangeShape, exchangedOf, exchange-tick}

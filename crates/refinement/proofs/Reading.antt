@@ -15,15 +15,8 @@ use Rattle.state.specs.Rows.{rows}
 use Rattle.state.specs.State.{Shared}
 use Rattle.state.specs.Held.{memoryOf}
 use Rattle.refinement.proofs.View.{readingOf, readOf}
-use Rattle.refinement.proofs.Memory.{cell-at, own-unpack, rows-at}
-
-eighth : (w : ℕ) → w % 8 < 8
-eighth w = omega arith
-
--- the save place of a word's task and count
-pub saved-for : (m : Shared) (w : ℕ) → length (m .saves) ≡ 64 → W.saved (rows 8 8 (m .saves)) (unpack w .task) (unpack w .count) ≡ savedFor m w
-unfolding unpack
-saved-for m w e = rows-at 8 8 (taskOf w) (countOf w) (m .saves) e (eighth _)
+use Rattle.state.proofs.Held.{cell-at}
+use Rattle.exchanges.proofs.Reading.{own-unpack, saved-for}
 
 module _ (m : Shared) (cell : ℕ) (below : cell < length (m .cells)) (size : length (m .saves) ≡ 64) where
   look-by : (w : ℕ) (b : Bool) → W.lookingBy b (unpack w) ≡ readOf (if b (Gives (valueOf w)) (Reads (Fetch w)))
