@@ -24,6 +24,9 @@ impl TaskCeilings {
     // Each task has exactly as many registers.
     pub const REGISTERS: u8 = 8;
 
+    // Releases that wait behind one job.
+    pub const WAITING: u8 = 4;
+
     pub const PAIRS: usize = 8;
 
     pub const TOUCHED: usize = 8;

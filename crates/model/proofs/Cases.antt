@@ -1,4 +1,4 @@
--- Document 01's worked figures: one table of sheets, limits and figures, and one fact over the whole table, by computation.
+-- Worked figures of document 01 and of the changes: one table of sheets, limits and figures, and one fact over the whole table, by computation.
 use Prim.Native.Nat.{ℕ, zero, suc, _+_}
 use mathlib.Core.Bool.{Bool, true, _&&_}
 use mathlib.Core.Path.{_≡_, refl}
@@ -8,11 +8,11 @@ use lib.ListN.{length, replicate}
 use Rattle.model.specs.Lists.{at}
 use Rattle.model.specs.Word.{current, currentOf, stored}
 use Rattle.model.specs.Transaction.{bank, versionOf, storeOf}
-use Rattle.model.specs.Machine.{Machine, run, startMachine, taskAt}
+use Rattle.model.specs.Machine.{Machine, run, startMachine, taskAt, waitingAt}
 use Rattle.model.specs.Sheet.{sheetOf}
 use Rattle.model.specs.Answer.{Checked, checkAnswer, Answer, runAnswer, finalOf}
 use Rattle.model.proofs.WholeCases.{sameNumbers}
-use Rattle.model.proofs.Sheets.{body₁, bodyTwoWords, bodyRead, sheetA, against, sheetU, sheetUU}
+use Rattle.model.proofs.Sheets.{body₁, bodyTwoWords, bodyRead, sheetA, sheetAAt, against, sheetU, sheetUAt, sheetUU}
 use Rattle.model.proofs.Bytes.{join, word, block, task, release, end, load, add, pair, begin, get}
 
 -- FIGURES of the machine when the run has stopped
@@ -30,6 +30,7 @@ pub data Figure : Type 0 where
   spentAre : ℕ → ℕ → Figure
   rejectedAre : ℕ → ℕ → Figure
   ticksUsed : ℕ → ℕ → Figure
+  waitingAre : ℕ → ℕ → Figure
   ticksDone : ℕ → Figure
   dropsAre : ℕ → Figure
 
@@ -63,6 +64,7 @@ holds m (finishedAre p n) = eqb (taskAt (m .tasks) p .counts .finished) n
 holds m (spentAre p n) = eqb (taskAt (m .tasks) p .counts .spent) n
 holds m (rejectedAre p n) = eqb (taskAt (m .tasks) p .counts .rejected) n
 holds m (ticksUsed p n) = eqb (taskAt (m .tasks) p .counts .ticks) n
+holds m (waitingAre p n) = eqb (length (waitingAt (m .waiting) p)) n
 holds m (ticksDone n) = eqb (m .now) n
 holds m (dropsAre n) = eqb (m .dropped) n
 
@@ -101,9 +103,13 @@ allPass (c ∷ l) = passes c && allPass l
 refused : List ℕ → ℕ → ℕ → Case
 refused s n place = record { sheet = s; limit = 65535; buffer = []; outcome = sheetRefused n place }
 
-figures : List ℕ → List Figure → Case
+figuresBy : ℕ → List ℕ → List Figure → Case
 unfolding fill
-figures s fs = record { sheet = s; limit = 65535; buffer = replicate 400 fill; outcome = ends fs }
+figuresBy limit s fs = record { sheet = s; limit = limit; buffer = replicate 400 fill; outcome = ends fs }
+
+figures : List ℕ → List Figure → Case
+unfolding figuresBy
+figures s fs = figuresBy 65535 s fs
 
 report : List ℕ → ℕ → List ℕ → Case
 unfolding fill
@@ -153,6 +159,17 @@ spentU =
     ∷ 0x45 ∷ 0x20 ∷ 0x32 ∷ 0x30 ∷ 0x20 ∷ 0x30 ∷ 0x0A
     ∷ []
 
+-- sheet A released at ticks 0 to 5: "W 0 5", "T 0 5 0 0 56", "R 0 0 12 5 0 0 0 0 0", "E 56 1". The first job takes 12 ticks; the next four find 5
+-- in word 0 and take 11 each, 3 and a SWAP of 8; the sixth release finds four waiting.
+reportBurst : List ℕ
+reportBurst =
+    0x57 ∷ 0x20 ∷ 0x30 ∷ 0x20 ∷ 0x35 ∷ 0x0A
+    ∷ 0x54 ∷ 0x20 ∷ 0x30 ∷ 0x20 ∷ 0x35 ∷ 0x20 ∷ 0x30 ∷ 0x20 ∷ 0x30 ∷ 0x20 ∷ 0x35 ∷ 0x36 ∷ 0x0A
+    ∷ 0x52 ∷ 0x20 ∷ 0x30 ∷ 0x20 ∷ 0x30 ∷ 0x20 ∷ 0x31 ∷ 0x32 ∷ 0x20 ∷ 0x35
+    ∷ 0x20 ∷ 0x30 ∷ 0x20 ∷ 0x30 ∷ 0x20 ∷ 0x30 ∷ 0x20 ∷ 0x30 ∷ 0x20 ∷ 0x30 ∷ 0x0A
+    ∷ 0x45 ∷ 0x20 ∷ 0x35 ∷ 0x36 ∷ 0x20 ∷ 0x31 ∷ 0x0A
+    ∷ []
+
 -- THE TABLE
 -- row 5 of the refusal table: 33 WORDs
 words33 : List ℕ
@@ -167,7 +184,7 @@ getsTo zero = []
 getsTo (suc n) = get 0 n 0 ∷ getsTo n
 
 pub table : List Case
-unfolding nineBlocks getsTo refused figures report bytesA reportA untouchedA spentU words33
+unfolding nineBlocks getsTo refused figuresBy figures report bytesA reportA untouchedA spentU reportBurst words33
 table =
     -- P1, byte for byte, and the sheet as document 01 writes it
     report sheetA 65535 reportA
@@ -206,6 +223,18 @@ table =
     ∷ report (sheetU 16777215) 65535 spentU
     -- two tasks U
     ∷ figures sheetUU (ticksDone 75 ∷ valueIs 0 0 43 ∷ versionIs 0 5 ∷ rejectedAre 0 0 ∷ rejectedAre 1 0 ∷ dropsAre 0 ∷ [])
+    -- CHANGE 1, releases that wait: a burst; the second of two has not started at limit 12, has at 13, and ends at 23
+    ∷ report (sheetAAt (0 ∷ 1 ∷ 2 ∷ 3 ∷ 4 ∷ 5 ∷ [])) 65535 reportBurst
+    ∷ figuresBy 12 (sheetAAt (0 ∷ 3 ∷ [])) (registerIs 0 0 1 ∷ registerIs 0 1 12 ∷ registerIs 0 2 5 ∷ waitingAre 0 1 ∷ ticksUsed 0 12 ∷ [])
+    ∷ figuresBy 13 (sheetAAt (0 ∷ 3 ∷ [])) (registerIs 0 0 0 ∷ registerIs 0 1 12 ∷ registerIs 0 2 0 ∷ waitingAre 0 0 ∷ ticksUsed 0 13 ∷ [])
+    ∷ figures (sheetAAt (0 ∷ 3 ∷ [])) (registerIs 0 0 0 ∷ finishedAre 0 2 ∷ ticksDone 23 ∷ dropsAre 0 ∷ [])
+    -- tick 11 ends the first job: a release in it still finds four waiting; one in tick 12 comes after the oldest has left its place
+    ∷ figures (sheetAAt (0 ∷ 1 ∷ 2 ∷ 3 ∷ 4 ∷ 11 ∷ [])) (finishedAre 0 5 ∷ ticksDone 56 ∷ dropsAre 1 ∷ [])
+    ∷ figures (sheetAAt (0 ∷ 1 ∷ 2 ∷ 3 ∷ 4 ∷ 12 ∷ [])) (finishedAre 0 6 ∷ ticksDone 67 ∷ dropsAre 0 ∷ [])
+    -- a spent job behind which one waits, 20 ticks each
+    ∷ figuresBy 20 (sheetUAt 16777215 (0 ∷ 5 ∷ [])) (registerIs 0 0 42 ∷ registerIs 0 1 1 ∷ spentAre 0 1 ∷ waitingAre 0 1 ∷ [])
+    ∷ figuresBy 21 (sheetUAt 16777215 (0 ∷ 5 ∷ [])) (registerIs 0 0 0 ∷ registerIs 0 1 0 ∷ spentAre 0 1 ∷ waitingAre 0 0 ∷ [])
+    ∷ figures (sheetUAt 16777215 (0 ∷ 5 ∷ [])) (spentAre 0 2 ∷ finishedAre 0 0 ∷ ticksDone 40 ∷ dropsAre 0 ∷ versionIs 0 16777215 ∷ [])
     ∷ []
 
 -- every sheet of the table is refused or accepted as it says, with these answers and figures

@@ -13,8 +13,11 @@ pub mod Blocks
 pub mod Pass
 pub mod TransactionTick
 pub mod Statement
--- the task that runs, every tick, the start
+-- the task that runs, what comes before a statement and the releases that wait, every tick, the start
 pub mod Running
+pub mod Enter
+pub mod Waiting
+pub mod Releases
 pub mod Tick
 pub mod Start
 -- an accepted sheet has them (`accepted-fit`), and so has every machine of its run

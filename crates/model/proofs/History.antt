@@ -21,6 +21,7 @@ pub mod Statement
 pub mod Noted
 pub mod Linked
 pub mod Ticks
+pub mod Began
 -- the start of a run, what settles an operation, and the theorem
 pub mod Start
 pub mod Hit

@@ -19,3 +19,5 @@ pub mod History
 pub mod Demand3
 -- the rates (`rates` in Rates/Theorem.antt)
 pub mod Rates
+-- releases that wait (`waits` in Waiting.antt)
+pub mod Waiting

@@ -26,6 +26,14 @@ bodyRead = task ++ read 0 0
 abbrev pub sheetA : List ℕ
 sheetA = word 12 ++ body₀ ++ release 0 0 ++ end
 
+-- sheet A's task, released at those ticks
+abbrev pub releasesAt : List ℕ → List ℕ
+releasesAt [] = end
+releasesAt (t ∷ l) = release t 0 ++ releasesAt l
+
+abbrev pub sheetAAt : List ℕ → List ℕ
+sheetAAt ts = word 12 ++ body₀ ++ releasesAt ts
+
 -- the words, task 0 and task 1, which is released at tick t
 abbrev pub against : List ℕ → List ℕ → ℕ → List ℕ
 against words body t = words ++ body₀ ++ body ++ release 0 0 ++ release t 1 ++ end
@@ -39,6 +47,9 @@ oneBlock version = block version (41 ∷ 0 ∷ 0 ∷ 0 ∷ 0 ∷ 0 ∷ 0 ∷ 77 
 
 abbrev pub sheetU : ℕ → List ℕ
 sheetU version = oneBlock version ++ bodyU ++ release 0 0 ++ end
+
+abbrev pub sheetUAt : ℕ → List ℕ → List ℕ
+sheetUAt version ts = oneBlock version ++ bodyU ++ releasesAt ts
 
 -- two of U, the upper released at tick 6
 abbrev pub sheetUU : List ℕ

@@ -17,6 +17,10 @@ maxCommands = 512
 abbrev pub maxReleases : ℕ
 maxReleases = 256
 
+-- releases that wait behind one job
+abbrev pub maxWaiting : ℕ
+maxWaiting = 4
+
 -- PAIRs for a SWAP
 abbrev pub maxPairs : ℕ
 maxPairs = 8

@@ -16,3 +16,4 @@ pub mod Plain
 pub mod History
 pub mod Claim
 pub mod Rates
+pub mod Waiting

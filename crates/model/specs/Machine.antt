@@ -1,10 +1,10 @@
--- Ticks: releases arrive, the highest task with an unfinished job does one statement, until the run stops.
+-- Ticks: waiting releases start, releases arrive, the highest task with an unfinished job does one statement, until the run stops.
 use Prim.Native.Nat.{ℕ, zero, suc, _+_, _*_, _-_}
 use mathlib.Core.Bool.{Bool, true, false, _&&_}
 use mathlib.Core.List.{List, [], _∷_, _++_, map}
 use lib.Dec.{eqb, ltb}
 use lib.ListN.{length, replicate}
-use Rattle.model.specs.Ceilings.{maxWords, maxBlocks, maxTasks, savePlaces, blockValues}
+use Rattle.model.specs.Ceilings.{maxWords, maxBlocks, maxTasks, maxWaiting, savePlaces, blockValues}
 use Rattle.model.specs.Lists.{at, replace}
 use Rattle.model.specs.Command.{Release, Block, Outside, READ, PAIR, SWAP, BEGIN, BodyCommand, LOAD, ADD, outside, inside}
 use Rattle.model.specs.Sheet.{Sheet}
@@ -80,22 +80,27 @@ statement p m t (reading r w s) = readBy m t r w (readTick m w s)
 statement p m t (exchanging r x) = swapBy t r x (exchangeTick p m x (x .step))
 statement p m t (transacting x s) = transactionTick p m t x s
 
--- THE MACHINE: the tasks by their numbers, the releases to come, the ticks done, the releases dropped
+-- THE MACHINE: the tasks by their numbers, the releases that wait behind each task's job, the oldest first, the releases to come,
+-- the ticks done, the releases dropped
 pub record Machine : Type 0 where
   pub memory : Memory
   pub tasks : List Task
+  pub waiting : List (List Release)
   pub releases : List Release
   pub now : ℕ
   pub dropped : ℕ
 
-abbrev pub machine : Memory → List Task → List Release → ℕ → ℕ → Machine
-machine m ts rs n d = record { memory = m; tasks = ts; releases = rs; now = n; dropped = d }
+abbrev pub machine : Memory → List Task → List (List Release) → List Release → ℕ → ℕ → Machine
+machine m ts ws rs n d = record { memory = m; tasks = ts; waiting = ws; releases = rs; now = n; dropped = d }
 
 abbrev pub noTask : Task
 noTask = task [] [] noCounts noJob
 
 abbrev pub taskAt : List Task → ℕ → Task
 taskAt ts p = at noTask ts p
+
+abbrev pub waitingAt : List (List Release) → ℕ → List Release
+waitingAt ws p = at [] ws p
 
 abbrev pub unfinished : Phase → Bool
 unfinished idle = false
@@ -136,18 +141,42 @@ unfolding runningFrom
 runningOf m = runningFrom m 0 (m .tasks) nobody
 
 -- RELEASES
--- a release to a task whose job is unfinished is dropped and counted, else a job starts
-unfoldable pub releaseBy : Bool → ℕ → Machine → Machine
+-- the job of task p is unfinished
+abbrev pub unfinishedAt : Machine → ℕ → Bool
+unfinishedAt m p = unfinished (taskAt (m .tasks) p .job .phase)
+
+-- a job of task p starts
+abbrev pub starting : ℕ → Machine → Machine
+starting p m =
+    machine (m .memory) (replace (m .tasks) p (started (taskAt (m .tasks) p))) (m .waiting) (m .releases) (m .now) (m .dropped)
+
+-- those wait behind the job of task p
+abbrev pub behind : ℕ → List Release → Machine → Machine
+behind p l m = machine (m .memory) (m .tasks) (replace (m .waiting) p l) (m .releases) (m .now) (m .dropped)
+
+abbrev pub dropping : Machine → Machine
+dropping m = machine (m .memory) (m .tasks) (m .waiting) (m .releases) (m .now) (suc (m .dropped))
+
+-- By: the task's job is unfinished, and there is room behind it. A release to a task whose job is unfinished waits behind it,
+-- or is dropped and counted where there is no room; else a job starts.
+unfoldable pub releaseBy : Bool → Bool → Release → Machine → Machine
 unfolding at replace
-releaseBy true p m = machine (m .memory) (m .tasks) (m .releases) (m .now) (suc (m .dropped))
-releaseBy false p m = machine (m .memory) (replace (m .tasks) p (started (taskAt (m .tasks) p))) (m .releases) (m .now) (m .dropped)
+releaseBy false room r m = starting (r .task) m
+releaseBy true true r m = behind (r .task) (waitingAt (m .waiting) (r .task) ++ (r ∷ [])) m
+releaseBy true false r m = dropping m
+
+abbrev pub roomAt : Machine → ℕ → Bool
+roomAt m p = ltb (length (waitingAt (m .waiting) p)) maxWaiting
+
+abbrev pub released : Release → Machine → Machine
+released r m = releaseBy (unfinishedAt m (r .task)) (roomAt m (r .task)) r m
 
 abbrev pub toCome : Machine → List Release → Machine
-toCome m rs = machine (m .memory) (m .tasks) rs (m .now) (m .dropped)
+toCome m rs = machine (m .memory) (m .tasks) (m .waiting) rs (m .now) (m .dropped)
 
 unfoldable pub arriveBy : Bool → (Machine → Machine) → Release → List Release → Machine → Machine
 unfolding at releaseBy
-arriveBy true go r l m = go (releaseBy (unfinished (taskAt (m .tasks) (r .task) .job .phase)) (r .task) m)
+arriveBy true go r l m = go (released r m)
 arriveBy false go r l m = toCome m (r ∷ l)
 
 -- this tick's releases arrive, the others stay to come
@@ -158,10 +187,26 @@ arrive (r ∷ l) m =
     let go : Machine → Machine = arrive l in
     arriveBy (eqb (r .tick) (m .now)) go r l m
 
--- what comes before a tick's statement
+-- By: the job of task p is unfinished. Where it has ended, the oldest of those that wait behind it starts.
+unfoldable pub startBy : Bool → List Release → ℕ → Machine → Machine
+unfolding at replace
+startBy true l p m = m
+startBy false [] p m = m
+startBy false (r ∷ l) p m = starting p (behind p l m)
+
+abbrev pub startOldest : ℕ → Machine → Machine
+startOldest p m = startBy (unfinishedAt m p) (waitingAt (m .waiting) p) p m
+
+-- so for all tasks below n
+unfoldable pub startWaiting : ℕ → Machine → Machine
+unfolding at startBy
+startWaiting zero m = m
+startWaiting (suc p) m = startWaiting p (startOldest p m)
+
+-- WHAT COMES BEFORE A TICK'S STATEMENT: those that waited start, then this tick's releases arrive
 unfoldable pub enter : Machine → Machine
-unfolding arrive
-enter m = arrive (m .releases) m
+unfolding arrive startWaiting
+enter m = arrive (m .releases) (startWaiting maxTasks m)
 
 -- TICKS
 -- one statement of task p
@@ -169,12 +214,13 @@ abbrev pub turnOf : Machine → ℕ → Turn
 turnOf m p = statement p (m .memory) (taskAt (m .tasks) p) (taskAt (m .tasks) p .job .phase)
 
 abbrev pub afterTurn : Machine → ℕ → Turn → Machine
-afterTurn m p u = machine (u .memory) (replace (m .tasks) p (counting ticks (u .task))) (m .releases) (suc (m .now)) (m .dropped)
+afterTurn m p u =
+    machine (u .memory) (replace (m .tasks) p (counting ticks (u .task))) (m .waiting) (m .releases) (suc (m .now)) (m .dropped)
 
 -- with nobody to run the tick is idle
 unfoldable pub move : Machine → Running → Machine
 unfolding at replace statement
-move m nobody = machine (m .memory) (m .tasks) (m .releases) (suc (m .now)) (m .dropped)
+move m nobody = machine (m .memory) (m .tasks) (m .waiting) (m .releases) (suc (m .now)) (m .dropped)
 move m (running p) = afterTurn m p (turnOf m p)
 
 unfoldable pub moveAny : Machine → Machine
@@ -185,18 +231,22 @@ unfoldable pub tick : Machine → Machine
 unfolding enter moveAny
 tick m = moveAny (enter m)
 
-abbrev pub noneToCome : List Release → Bool
-noneToCome [] = true
-noneToCome (r ∷ l) = false
+abbrev pub none? : List Release → Bool
+none? [] = true
+none? (r ∷ l) = false
+
+abbrev pub noneWaits : List (List Release) → Bool
+noneWaits [] = true
+noneWaits (l ∷ ls) = none? l && noneWaits ls
 
 abbrev pub nobody? : Running → Bool
 nobody? nobody = true
 nobody? (running p) = false
 
--- no job is unfinished and no release is to come
+-- no job is unfinished, no release waits and none is to come
 unfoldable pub over : Machine → Bool
 unfolding runningOf
-over m = noneToCome (m .releases) && nobody? (runningOf m)
+over m = none? (m .releases) && noneWaits (m .waiting) && nobody? (runningOf m)
 
 unfoldable pub runBy : Bool → (Machine → Machine) → Machine → Machine
 unfolding tick
@@ -261,4 +311,4 @@ startMemory s =
 
 unfoldable pub startMachine : Sheet → Machine
 unfolding filled tasksFrom startMemory
-startMachine s = machine (startMemory s) (filled maxTasks noTask (tasksFrom 0 (s .bodies))) (s .releases) 0 0
+startMachine s = machine (startMemory s) (filled maxTasks noTask (tasksFrom 0 (s .bodies))) (replicate maxTasks []) (s .releases) 0 0

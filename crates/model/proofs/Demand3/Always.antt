@@ -15,7 +15,8 @@ use Rattle.model.proofs.Lists.{at-map}
 use Rattle.model.proofs.Fit.Elements.{append-every, replicate-every}
 use Rattle.model.proofs.Fit.Sheet.{SheetFit}
 use Rattle.model.proofs.Fit.Machine.{Fit}
-use Rattle.model.proofs.Fit.Tick.{tick-fit, arrive-fit, arrived-fit}
+use Rattle.model.proofs.Fit.Releases.{enter-fit}
+use Rattle.model.proofs.Fit.Tick.{tick-fit}
 use Rattle.model.proofs.Fit.Start.{start-fit}
 use Rattle.model.proofs.Exchanges.Act.{free, actAt}
 use Rattle.model.proofs.Exchanges.Preserve.{invariant-at-first}
@@ -89,7 +90,7 @@ module _ {s : Sheet} (c : SheetFit s) where
   module _ (t : ℕ) (k : Holds s valueAfter t (stateAfter (startMachine s) t) (historyAfter (startMachine s) t)) where
     fit-arrived : Fit s (arrivedAt (startMachine s) t)
     unfolding arrivedAt
-    fit-arrived = arrived-fit (arrive-fit c (k .fit))
+    fit-arrived = enter-fit c (k .fit)
 
     fit-next : Fit s (stateAfter (startMachine s) (suc t))
     unfolding stateAfter

@@ -18,7 +18,8 @@ use Rattle.model.proofs.Lists.{same?, replace-same, replace-other, map-
 use Rattle.model.proofs.Fit.Sheet.{SheetFit}
 use Rattle.model.proofs.Fit.Machine.{Fit}
 use Rattle.model.proofs.Fit.Statement.{statement-fit}
-use Rattle.model.proofs.Fit.Tick.{tasks-of, declared}
+use Rattle.model.proofs.Fit.Releases.{tasks-of}
+use Rattle.model.proofs.Fit.Tick.{declared}
 use Rattle.model.proofs.Exchanges.Act.{Act, free, actAt}
 use Rattle.model.proofs.Exchanges.Invariant.{Invariant}
 use Rattle.model.proofs.Exchanges.Reorder.{invariant-reordered, past-reordered}
@@ -28,7 +29,7 @@ use Rattle.model.proofs.Transactions.Contents.{ext-at}
 use Rattle.model.proofs.Transactions.Machine.{statementOf, Later, statement-keeps}
 use Rattle.model.proofs.Transactions.Machine.{RunningTask}
 use Rattle.model.proofs.Fit.Running.{Foremost}
-use Rattle.model.proofs.History.Arrive.{JobArrived, TaskArrived, waits, starts, Arrived}
+use Rattle.model.proofs.History.Arrive.{JobArrived, TaskArrived, sameJob, newJob, Arrived}
 use Rattle.model.proofs.History.Statement.{moves}
 use Rattle.model.proofs.History.Moves.{given}
 use Rattle.model.proofs.History.Noted.{latestOf}
@@ -52,8 +53,8 @@ arrived-act : {t t′ : Task} → TaskArrived t t′ → taskAct t′ ≡ taskAc
 arrived-act {t} {t′} a = go (a .job)
   where
     go : JobArrived t (t′ .job) → taskAct t′ ≡ taskAct t
-    go (waits e) = rw e
-    go (starts i e) = rw (e, i)
+    go (sameJob e) = rw e
+    go (newJob i e) = rw (e, i)
 
 arrived-acts : {m m′ : Machine} → Arrived m m′ → actsOf (m′ .tasks) ≡ actsOf (m .tasks)
 arrived-acts {m} {m′} a =
@@ -64,15 +65,15 @@ arrived-slots : {t t′ : Task} → TaskArrived t t′ → slotsOf t′ ≡ slot
 arrived-slots {t} {t′} a = go (a .job)
   where
     go : JobArrived t (t′ .job) → slotsOf t′ ≡ slotsOf t
-    go (waits e) = rw (e, a .copies)
-    go (starts i e) = rw (e, i, a .copies)
+    go (sameJob e) = rw (e, a .copies)
+    go (newJob i e) = rw (e, i, a .copies)
 
 arrived-facts : (blocks : ℕ) (n : Memory) {t t′ : Task} (o : Operation) → TaskArrived t t′ → TaskFacts blocks n t o → TaskFacts blocks n t′ o
 arrived-facts blocks n {t} {t′} o a k = go (a .job)
   where
     go : JobArrived t (t′ .job) → TaskFacts blocks n t′ o
-    go (waits e) = rw (e, a .copies) k
-    go (starts i e) = rw e tt
+    go (sameJob e) = rw (e, a .copies) k
+    go (newJob i e) = rw e tt
 
 arrived-transactions : {blocks tasks : ℕ} {m m′ : Machine} {operations : ℕ → Operation} → Arrived m m′
     → Transactions blocks tasks (m .memory) (m .tasks) operations → Transactions blocks tasks (m′ .memory) (m′ .tasks) operations

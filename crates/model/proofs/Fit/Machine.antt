@@ -5,12 +5,12 @@ use mathlib.Core.Bool.{false}
 use mathlib.Core.List.{List, [], _∷_, map}
 use lib.ListN.{length}
 use Rattle.model.specs.Lists.{at}
-use Rattle.model.specs.Command.{READ, SWAP, BodyCommand, outside}
+use Rattle.model.specs.Command.{Release, READ, SWAP, BodyCommand, outside}
 use Rattle.model.specs.Fault.{Known}
 use Rattle.model.specs.Sheet.{Sheet}
 use Rattle.model.specs.Exchange.{Entry, Exchange}
 use Rattle.model.specs.Job.{Phase, idle, plain, reading, exchanging, transacting, Task}
-use Rattle.model.specs.Machine.{Machine, noTask, taskAt}
+use Rattle.model.specs.Machine.{Machine, noTask, taskAt, waitingAt}
 use Rattle.model.proofs.Fit.Body.{Faultless, Open}
 use Rattle.model.proofs.Fit.Sheet.{ReleasesFit}
 use Rattle.model.proofs.Fit.Memory.{MemoryFit}
@@ -76,11 +76,18 @@ pub record TaskFit (words blocks : ℕ) (text : List BodyCommand) (now : ℕ) (t
 abbrev pub DeclaredFit : Sheet → ℕ → ℕ → Task → Type 0
 DeclaredFit s now p t = TaskFit (length (s .words)) (length (s .blocks)) (at [] (s .bodies) p) now t
 
+-- behind each of eight jobs wait at most four releases, and none behind those of tasks that the sheet does not declare
+pub record WaitingFit (declared : ℕ) (ws : List (List Release)) : Type 0 where
+  pub size : length ws ≡ 8
+  pub most : (p : ℕ) → length (waitingAt ws p) ≤ 4
+  pub undeclared : (p : ℕ) → declared ≤ p → waitingAt ws p ≡ []
+
 pub record Fit (s : Sheet) (m : Machine) : Type 0 where
   pub memory : MemoryFit (m .memory)
   pub tasks : length (m .tasks) ≡ 8
   -- the tasks that the sheet declares, and the others
   pub task : (p : ℕ) → p < length (s .bodies) → DeclaredFit s (m .now) p (taskAt (m .tasks) p)
   pub undeclared : (p : ℕ) → length (s .bodies) ≤ p → taskAt (m .tasks) p ≡ noTask
+  pub waiting : WaitingFit (length (s .bodies)) (m .waiting)
   pub releases : ReleasesFit (length (s .bodies)) (m .now) (m .releases)
   pub dropped : m .dropped + length (m .releases) ≤ 256

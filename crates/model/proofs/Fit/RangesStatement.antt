@@ -4,23 +4,24 @@ use mathlib.Core.Path.{refl}
 use mathlib.Core.Bool.{Bool, true, false}
 use mathlib.Core.List.{List, [], _∷_}
 use native.Mathlib.Omega.{arith}
-use lib.Dec.{eqb}
 use lib.ListN.{length, replicate}
 use Rattle.model.specs.Lists.{at, replace}
-use Rattle.model.specs.Command.{Release, Outside, READ, PAIR, SWAP, BEGIN, BodyCommand, LOAD, ADD, outside, inside}
+use Rattle.model.specs.Command.{Outside, READ, PAIR, SWAP, BEGIN, BodyCommand, LOAD, ADD, outside, inside}
 use Rattle.model.specs.Word.{Memory, loading, Read, reads, gives, readTick}
 use Rattle.model.specs.Sheet.{Sheet}
 use Rattle.model.specs.Exchange.{Entry, entry, Exchanged, goes, ends, exchangeOf, start, exchangeTick, Exchange}
 use Rattle.model.specs.Job.{between, Phase, idle, plain, reading, exchanging, transacting, Task, turn, started, counting, ticks, Deed, Turn}
 use Rattle.model.specs.Transaction.{loaded, added, freshTransaction}
-use Rattle.model.specs.Machine.{answer, readBy, swapBy, plainTick, statement, Machine, machine, noTask, taskAt, unfinished, Running, nobody}
-use Rattle.model.specs.Machine.{running, runningOf, releaseBy, arriveBy, move, moveAny, tick, arrive, enter, beginning, outsideTick, recorded}
+use Rattle.model.specs.Machine.{answer, readBy, swapBy, plainTick, statement, Machine, noTask, taskAt, starting, Running, nobody}
+use Rattle.model.specs.Machine.{running, runningOf, move, moveAny, tick, enter, beginning, outsideTick, recorded}
 use Rattle.model.specs.Arguments.{Arguments}
 use Rattle.model.proofs.Fit.Elements.{replace-all, append-all, replicate-every}
 use Rattle.model.proofs.Fit.Sheet.{SheetFit}
 use Rattle.model.proofs.Fit.Machine.{PhaseFit, TaskFit, Fit}
 use Rattle.model.proofs.Fit.Running.{RunningFit, running-fit}
-use Rattle.model.proofs.Fit.Tick.{tasks-of, arrive-fit, arrived-fit, declared, after-ticks-fit}
+use Rattle.model.proofs.Fit.Enter.{Entering, oldest, starts, waits, drops, along, entered}
+use Rattle.model.proofs.Fit.Releases.{tasks-of, enter-fit}
+use Rattle.model.proofs.Fit.Tick.{declared, after-ticks-fit}
 use Rattle.model.proofs.History.Steps.{stateAfter}
 use Rattle.model.proofs.Fit.Ranges.{Value, MemoryRange, ReadRange, EntryRange, CommandsRange, PhaseRange, TaskRange, Ranges}
 use Rattle.model.proofs.Fit.RangesExchange.{read-range, ExchangedRange, exchange-range}
@@ -112,24 +113,14 @@ started-range f = record { body = f .body; commands = f .body; register = zeros-
 ticked-range : {t : Task} → TaskRange t → TaskRange (counting ticks t)
 ticked-range f = record { body = f .body; commands = f .commands; register = f .register; pair = f .pair; copy = f .copy; phase = f .phase }
 
-arrive-range : (l : List Release) (m : Machine) → Ranges m → Ranges (arrive l m)
-unfolding arrive
-arrive-range [] m f = record { memory = f .memory; task = f .task }
-arrive-range (r ∷ l) m f = go (eqb (r .tick) (m .now)) (arrive-range l)
-  where
-    p : ℕ
-    p = r .task
+starting-range : {m : Machine} → Ranges m → (p : ℕ) → (q : ℕ) → TaskRange (taskAt (starting p m .tasks) q)
+starting-range {m} f p = replace-all noTask TaskRange (m .tasks) p _ (started-range (f .task p)) (f .task)
 
-    released : (b : Bool) → ((m : Machine) → Ranges m → Ranges (arrive l m)) → Ranges (arrive l (releaseBy b p m))
-    released true on = on (machine (m .memory) (m .tasks) (m .releases) (m .now) (suc (m .dropped))) (record { memory = f .memory; task = f .task })
-    released false on =
-        let t : Task = started (taskAt (m .tasks) p) in
-        on (machine (m .memory) (replace (m .tasks) p t) (m .releases) (m .now) (m .dropped))
-        (record { memory = f .memory; task = replace-all noTask TaskRange (m .tasks) p t (started-range (f .task p)) (f .task) })
-
-    go : (b : Bool) → ((m : Machine) → Ranges m → Ranges (arrive l m)) → Ranges (arriveBy b (arrive l) r l m)
-    go true on = released (unfinished (taskAt (m .tasks) p .job .phase)) on
-    go false on = record { memory = f .memory; task = f .task }
+pub entering-range : (m n : Machine) → Entering m n → Ranges m → Ranges n
+entering-range m n (oldest p r l h u w) f = record { memory = f .memory; task = starting-range f p }
+entering-range m n (starts r l e u) f = record { memory = f .memory; task = starting-range f (r .task) }
+entering-range m n (waits r l e u k) f = record { memory = f .memory; task = f .task }
+entering-range m n (drops r l e u) f = record { memory = f .memory; task = f .task }
 
 -- TICKS
 module _ {s : Sheet} (c : SheetFit s) where
@@ -142,10 +133,10 @@ module _ {s : Sheet} (c : SheetFit s) where
       record { memory = u .memory; task = replace-all noTask TaskRange (m .tasks) p _ (ticked-range (u .task)) (k .task) }
 
   pub tick-range : {m : Machine} → Fit s m → Ranges m → Ranges (tick m)
-  unfolding tick moveAny enter
+  unfolding tick moveAny
   tick-range {m} f k =
       let n : Machine = enter m in
-      move-range (arrived-fit (arrive-fit c f)) (arrive-range (m .releases) m k) (runningOf n) (running-fit n)
+      move-range (enter-fit c f) (along Ranges entering-range (entered m) k) (runningOf n) (running-fit n)
 
   pub after-ticks-range : (n : ℕ) {m : Machine} → Fit s m → Ranges m → Ranges (stateAfter m n)
   unfolding stateAfter

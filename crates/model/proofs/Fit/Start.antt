@@ -10,7 +10,7 @@ use Rattle.model.specs.Command.{Block, BodyCommand, noBlock}
 use Rattle.model.specs.Sheet.{Sheet}
 use Rattle.model.specs.Word.{Word, freshWord}
 use Rattle.model.specs.Job.{Task, task, noCounts, noJob}
-use Rattle.model.specs.Machine.{noTask, taskAt, filled, zeros, copiesOf, banksFrom, tasksFrom, startMemory, startMachine, startValues}
+use Rattle.model.specs.Machine.{noTask, taskAt, waitingAt, filled, zeros, copiesOf, banksFrom, tasksFrom, startMemory, startMachine, startValues}
 use Rattle.model.proofs.Lists.{at-append, at-map, at-replicate}
 use Rattle.model.proofs.Fit.Elements.{append-each, replicate-each, at-filled}
 use Rattle.model.proofs.Fit.Sheet.{SheetFit}
@@ -108,6 +108,13 @@ start-task-fit words blocks body p =
     record { body = refl; registers = refl; copies = refl; counts = omega arith; ticks = omega arith; phase = record { commands = refl; noPairs = refl } }
 
 -- THE MACHINE
+-- none waits
+at-empty : (n p : ℕ) → waitingAt (replicate n []) p ≡ []
+unfolding at
+at-empty zero p = refl
+at-empty (suc n) zero = refl
+at-empty (suc n) (suc p) = at-empty n p
+
 pub start-fit : {s : Sheet} → SheetFit s → Fit s (startMachine s)
 unfolding startMachine
 start-fit {s} c =
@@ -118,6 +125,11 @@ start-fit {s} c =
           subst (λ (t : Task). DeclaredFit s 0 p t) (sym (start-task s p h))
           (start-task-fit (length (s .words)) (length (s .blocks)) (at [] (s .bodies) p) p);
       undeclared = start-undeclared s;
+      waiting = record {
+        size = refl;
+        most = λ p. rw (at-empty 8 p) (omega arith);
+        undeclared = λ p h. at-empty 8 p;
+      };
       releases = c .releases;
       dropped = omega (arith, c .mostReleases);
     }

@@ -7,6 +7,7 @@ use mathlib.Core.List.{List, [], _∷_, _++_}
 use mathlib.Core.Option.{Option, none, some}
 use native.Mathlib.Omega.{arith}
 use lib.ListN.{length, length-append}
+use lib.Seq.{set-getD}
 use Rattle.model.specs.Lists.{at, replace}
 use Rattle.model.specs.History.{Operation, History, operationAt, Event, nothing, begins, amends, amendBy, noted}
 use Rattle.model.specs.Arguments.{Arguments}
@@ -90,6 +91,15 @@ module _ (u p : ℕ) (h : History) (size : length (h .began) ≡ u) where
         at-default-end none (replace (h .began) (latestOf h p) (amendBy f (operationAt h (latestOf h p)))) b
         ∙ replace-other none (h .began) (latestOf h p) b _ ne;
   }
+
+  -- or there is none to amend
+  pub noted-amends-none : (f : Operation → Operation) → operationAt h (latestOf h p) ≡ none → (b : ℕ)
+      → operationAt (noted u p (amends f) h) b ≡ operationAt h b
+  unfolding noted at replace
+  noted-amends-none f z b =
+      at-default-end none (replace (h .began) (latestOf h p) (amendBy f (operationAt h (latestOf h p)))) b
+      ∙ ap (λ (x : Option Operation). at none (replace (h .began) (latestOf h p) x) b) (ap (amendBy f) z ∙ sym z)
+      ∙ ap (λ (l : List (Option Operation)). at none l b) (set-getD (h .began) (latestOf h p) none)
 
   pub size-amends : (f : Operation → Operation) → length (noted u p (amends f) h .began) ≡ suc u
   unfolding noted

@@ -11,14 +11,14 @@ use lib.ListN.{length, replicate}
 use borrow.Author.Tests.{lt-ltb}
 use Rattle.model.specs.Lists.{at, replace}
 use Rattle.model.specs.Job.{idle, Task, counting, ticks}
-use Rattle.model.specs.Machine.{Machine, noTask, taskAt, runsBefore, enter, Running, nobody, running, runningOf, move, statement}
+use Rattle.model.specs.Machine.{Machine, noTask, taskAt, runsBefore, Running, nobody, running, runningOf, move, statement}
 use Rattle.model.specs.History.{History, operationAt, nothing, observed}
 use Rattle.model.specs.Arguments.{Arguments}
 use Rattle.model.proofs.Lists.{same?, replace-same, replace-other, length-replace}
 use Rattle.model.proofs.Fit.Tick.{move-now}
 use Rattle.model.proofs.History.Steps.{stateAfter, arrivedAt, historyAfter, state-next, history-next}
 use Rattle.model.proofs.Fit.Running.{Foremost, running-foremost}
-use Rattle.model.proofs.History.Arrive.{before-idle, JobArrived, TaskArrived, waits, starts, Arrived, arrived, none-runs}
+use Rattle.model.proofs.History.Arrive.{before-idle, JobArrived, TaskArrived, sameJob, newJob, Arrived, arrived, none-runs}
 use Rattle.model.proofs.History.Advance.{Advance, same}
 use Rattle.model.proofs.History.Moves.{given, hasCommitted}
 use Rattle.model.proofs.History.Statement.{moves}
@@ -30,15 +30,15 @@ pub given-arrived : {t t′ : Task} → TaskArrived t t′ → given (t′ .job 
 given-arrived {t} {t′} a = go (a .job)
   where
     go : JobArrived t (t′ .job) → given (t′ .job .phase) ≡ given (t .job .phase)
-    go (waits e) = rw e refl
-    go (starts i e) = rw (e, i) refl
+    go (sameJob e) = rw e refl
+    go (newJob i e) = rw (e, i) refl
 
 committed-arrived : {t t′ : Task} → TaskArrived t t′ → hasCommitted (t′ .job .phase) ≡ hasCommitted (t .job .phase)
 committed-arrived {t} {t′} a = go (a .job)
   where
     go : JobArrived t (t′ .job) → hasCommitted (t′ .job .phase) ≡ hasCommitted (t .job .phase)
-    go (waits e) = rw e refl
-    go (starts i e) = rw (e, i) refl
+    go (sameJob e) = rw e refl
+    go (newJob i e) = rw (e, i) refl
 
 pub linked-arrived : {u : ℕ} {m m′ : Machine} {h : History} → Arrived m m′ → Linked u (m .tasks) h → Linked u (m′ .tasks) h
 linked-arrived a l = record {
@@ -201,8 +201,8 @@ pub record Started (m : Machine) : Type 0 where
   pub idle : (p : ℕ) → taskAt (m .tasks) p .job .phase ≡ idle
 
 pub arrived-at : (m : Machine) (t : ℕ) → Arrived (stateAfter m t) (arrivedAt m t)
-unfolding arrivedAt enter
-arrived-at m t = arrived (stateAfter m t .releases) (stateAfter m t)
+unfolding arrivedAt
+arrived-at m t = arrived (stateAfter m t)
 
 -- no operation has begun
 no-latest : (n p : ℕ) → _≡_ {A = ℕ} (at 0 (replicate n 0) p) 0

@@ -16,7 +16,7 @@ use Rattle.model.proofs.Fit.Sheet.{SheetFit}
 use Rattle.model.proofs.Exchanges.Rates.{Reads, at-first, goes-on, reading-rate, reading-ends}
 use Rattle.model.proofs.History.Steps.{stateAfter, arrivedAt, state-next}
 use Rattle.model.proofs.Fit.Running.{running-foremost}
-use Rattle.model.proofs.History.Arrive.{JobArrived, waits, starts, Arrived, none-runs}
+use Rattle.model.proofs.History.Arrive.{JobArrived, sameJob, newJob, Arrived, none-runs}
 use Rattle.model.proofs.History.Ticks.{arrived-at}
 use Rattle.model.proofs.Rates.Own.{other-task, own-none, own-runs, own-waits}
 use Rattle.model.proofs.Rates.Run.{who}
@@ -96,13 +96,13 @@ module _ {p : ℕ} {a : Access} {t : ℕ} where
   underway-arrived {m} {m′} h k = record { step = k .step; inside = go (h .task p .job); read = k .read }
     where
       go : JobArrived (taskAt (m .tasks) p) (taskAt (m′ .tasks) p .job) → BankStepIn m′ p a (k .step)
-      go (waits e) = record {
+      go (sameJob e) = record {
         transaction = k .inside .transaction;
         inner = k .inside .inner;
         phase = rw e (k .inside .phase);
         does = rw e (k .inside .does);
       }
-      go (starts i e) = not-idle (sym i ∙ k .inside .phase)
+      go (newJob i e) = not-idle (sym i ∙ k .inside .phase)
 
   module _ (m : Machine) where
     -- ANOTHER TASK RUNS

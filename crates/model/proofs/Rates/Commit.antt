@@ -18,7 +18,7 @@ use Rattle.model.proofs.Fit.Sheet.{SheetFit}
 use Rattle.model.proofs.Exchanges.Rates.{Ran, before-start, own-tick, others, exchange-rate, exchange-ends}
 use Rattle.model.proofs.History.Steps.{stateAfter, arrivedAt, state-next}
 use Rattle.model.proofs.Fit.Running.{running-foremost}
-use Rattle.model.proofs.History.Arrive.{JobArrived, waits, starts, Arrived, none-runs}
+use Rattle.model.proofs.History.Arrive.{JobArrived, sameJob, newJob, Arrived, none-runs}
 use Rattle.model.proofs.History.Ticks.{arrived-at}
 use Rattle.model.proofs.Rates.Own.{other-task, own-none, own-runs, own-waits}
 use Rattle.model.proofs.Rates.Status.{status-stays}
@@ -55,8 +55,8 @@ module _ {p : ℕ} {es : List Entry} {t : ℕ} where
     where
       go : JobArrived (taskAt (m .tasks) p) (taskAt (m′ .tasks) p .job)
           → taskAt (m′ .tasks) p .job .phase ≡ transacting (k .inside .transaction) (committing (k .exchange))
-      go (waits e) = rw e (k .inside .phase)
-      go (starts i e) = not-idle (sym i ∙ k .inside .phase)
+      go (sameJob e) = rw e (k .inside .phase)
+      go (newJob i e) = not-idle (sym i ∙ k .inside .phase)
 
   module _ {m : Machine} where
     -- ANOTHER TASK RUNS

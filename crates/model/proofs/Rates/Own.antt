@@ -1,20 +1,22 @@
 -- Ticks of its own, counted one tick at a time; and the machine in tick u of a run is the one after u ticks.
 use Prim.Native.Nat.{ℕ, zero, suc, _+_, _≤_}
-use mathlib.Core.Bool.{Bool, true, false, true≢false}
+use mathlib.Core.Bool.{Bool, true, false, true≢false, _&&_}
 use mathlib.Core.Path.{_≡_, refl, sym, _∙_, ap}
 use mathlib.Core.Logic.{_≢_, _⊎_, inl, inr}
 use mathlib.Core.List.{List, [], _∷_}
 use native.Mathlib.Omega.{arith}
 use lib.Dec.{leb}
 use borrow.Author.Tests.{eq-eqb, ne-eqb}
+use Rattle.model.specs.Lists.{at}
 use Rattle.model.specs.Command.{Release}
 use Rattle.model.specs.Job.{Task}
 use Rattle.model.specs.Machine.{Machine, Running, nobody, running, runningOf, moveAny, move}
-use Rattle.model.specs.Machine.{tick, over, noneToCome, nobody?, runBy, run, arrive, enter}
+use Rattle.model.specs.Machine.{tick, over, none?, noneWaits, nobody?, runBy, run, arrive, enter, waitingAt}
 use Rattle.model.specs.Rates.{inTick, runningIn, isTask, oneIf, onlyIf, sumBefore, ownBefore}
 use Rattle.model.proofs.Lists.{test?}
 use Rattle.model.proofs.Sums.{sum-none, sum-next}
 use Rattle.model.proofs.Fit.Elements.{and-left, and-right}
+use Rattle.model.proofs.Fit.Waiting.{none-starts}
 use Rattle.model.proofs.Fit.Running.{busy, running-foremost, nobody-none, none-nobody}
 use Rattle.model.proofs.History.Steps.{stateAfter, arrivedAt}
 
@@ -44,10 +46,26 @@ module _ (who : ℕ → Running) (p a : ℕ) where
 
 -- THE MACHINE IN TICK u
 -- the same but for the clock
-record Alike (m n : Machine) : Type 0 where
-  memory : m .memory ≡ n .memory
-  tasks : m .tasks ≡ n .tasks
-  releases : m .releases ≡ n .releases
+pub record Alike (m n : Machine) : Type 0 where
+  pub memory : m .memory ≡ n .memory
+  pub tasks : m .tasks ≡ n .tasks
+  pub waiting : m .waiting ≡ n .waiting
+  pub releases : m .releases ≡ n .releases
+
+alike : (m : Machine) → Alike m m
+alike m = record { memory = refl; tasks = refl; waiting = refl; releases = refl }
+
+alike-back : {m n : Machine} → Alike m n → Alike n m
+alike-back a = record { memory = sym (a .memory); tasks = sym (a .tasks); waiting = sym (a .waiting); releases = sym (a .releases) }
+
+alike-then : {m n k : Machine} → Alike m n → Alike n k → Alike m k
+alike-then a b =
+    record {
+      memory = a .memory ∙ b .memory;
+      tasks = a .tasks ∙ b .tasks;
+      waiting = a .waiting ∙ b .waiting;
+      releases = a .releases ∙ b .releases;
+    }
 
 -- nobody runs just where no job is unfinished
 nobody-alike : (m n : Machine) → m .tasks ≡ n .tasks → nobody? (runningOf m) ≡ nobody? (runningOf n)
@@ -63,36 +81,52 @@ nobody-alike m n e = go (runningOf m) refl
 
 over-alike : {m n : Machine} → Alike m n → over m ≡ over n
 unfolding over
-over-alike {m} {n} k = rw (nobody-alike m n (k .tasks), k .releases) refl
+over-alike {m} {n} k = rw (nobody-alike m n (k .tasks), k .waiting, k .releases) refl
 
 -- a run that is over idles
-module _ (m : Machine) (e : over m ≡ true) where
-  none-to-come : (l : List Release) → noneToCome l ≡ true → l ≡ []
-  none-to-come [] h = refl
-  none-to-come (r ∷ l) h = cc
+none-left : (l : List Release) → none? l ≡ true → l ≡ []
+none-left [] h = refl
+none-left (r ∷ l) h = cc
 
-  nobody-runs : (r : Running) → nobody? r ≡ true → r ≡ nobody
-  nobody-runs nobody h = refl
-  nobody-runs (running p) h = cc
+nobody-runs : (r : Running) → nobody? r ≡ true → r ≡ nobody
+nobody-runs nobody h = refl
+nobody-runs (running p) h = cc
+
+none-waiting : (ls : List (List Release)) → noneWaits ls ≡ true → (p : ℕ) → waitingAt ls p ≡ []
+unfolding at
+none-waiting [] h p = refl
+none-waiting (l ∷ ls) h zero = none-left l (and-left (none? l) (noneWaits ls) h)
+none-waiting (l ∷ ls) h (suc p) = none-waiting ls (and-right (none? l) (noneWaits ls) h) p
+
+module _ (m : Machine) (e : over m ≡ true) where
+  abbrev noneLeft : Bool
+  noneLeft = none? (m .releases) && noneWaits (m .waiting)
+
+  none-left-over : noneLeft ≡ true
+  unfolding over
+  none-left-over = and-left noneLeft (nobody? (runningOf m)) e
 
   over-releases : m .releases ≡ []
-  unfolding over
-  over-releases = none-to-come (m .releases) (and-left (noneToCome (m .releases)) (nobody? (runningOf m)) e)
+  over-releases = none-left (m .releases) (and-left (none? (m .releases)) (noneWaits (m .waiting)) none-left-over)
+
+  over-waiting : (p : ℕ) → waitingAt (m .waiting) p ≡ []
+  over-waiting = none-waiting (m .waiting) (and-right (none? (m .releases)) (noneWaits (m .waiting)) none-left-over)
 
   over-running : runningOf m ≡ nobody
   unfolding over
-  over-running = nobody-runs (runningOf m) (and-right (noneToCome (m .releases)) (nobody? (runningOf m)) e)
+  over-running = nobody-runs (runningOf m) (and-right noneLeft (nobody? (runningOf m)) e)
 
   over-arrives : Alike (enter m) m
   unfolding enter arrive
-  over-arrives = rw over-releases (record { memory = refl; tasks = refl; releases = refl })
+  over-arrives = rw (none-starts 8 {m = m} (λ p i. over-waiting p), over-releases)
+      (record { memory = refl; tasks = refl; waiting = refl; releases = refl })
 
   over-enters : runningOf (enter m) ≡ nobody
   over-enters = nobody-runs (runningOf (enter m)) (nobody-alike (enter m) m (over-arrives .tasks) ∙ ap nobody? over-running)
 
   over-tick : Alike (tick m) m
   unfolding tick moveAny move
-  over-tick = let a = over-arrives in rw over-enters (record { memory = a .memory; tasks = a .tasks; releases = a .releases })
+  over-tick = let a = over-arrives in rw over-enters (record { memory = a .memory; tasks = a .tasks; waiting = a .waiting; releases = a .releases })
 
 -- one tick more of the run, if it is not over
 run-last : (u : ℕ) (m : Machine) → run (suc u) m ≡ runBy (over (run u m)) (λ n. n) (run u m)
@@ -107,26 +141,33 @@ After m u = (run u m ≡ stateAfter m u) ⊎ ((over (run u m) ≡ true) × Alike
 after : (m : Machine) (u : ℕ) → After m u
 unfolding run stateAfter runBy
 after m zero = inl refl
-after m (suc u) = test? (over (run u m)) (λ e. inr (stays e (alike (after m u)))) (λ e. goes e (after m u))
+after m (suc u) = test? (over (run u m)) (λ e. inr (stays e (either (after m u)))) (λ e. goes e (after m u))
   where
-    alike : After m u → Alike (run u m) (stateAfter m u)
-    alike (inl e) = rw e (record { memory = refl; tasks = refl; releases = refl })
-    alike (inr k) = k .1
+    either : After m u → Alike (run u m) (stateAfter m u)
+    either (inl e) = rw e (alike (stateAfter m u))
+    either (inr k) = k .1
 
     stays : over (run u m) ≡ true → Alike (run u m) (stateAfter m u) → (over (run (suc u) m) ≡ true) × Alike (run (suc u) m) (stateAfter m (suc u))
     stays e k =
         let idle = over-tick (stateAfter m u) (sym (over-alike k) ∙ e) in
-        rw (run-last u m, e)
-        (e, record { memory = k .memory ∙ sym (idle .memory); tasks = k .tasks ∙ sym (idle .tasks); releases = k .releases ∙ sym (idle .releases) })
+        rw (run-last u m, e) (e, alike-then k (alike-back idle))
 
     goes : over (run u m) ≡ false → After m u → After m (suc u)
     goes e (inl k) = inl (rw (run-last u m, e) (ap tick k))
     goes e (inr k) = absurd (true≢false (sym (k .0) ∙ e))
 
+pub run-alike : (m : Machine) (u : ℕ) → Alike (run u m) (stateAfter m u)
+run-alike m u = go (after m u)
+  where
+    go : After m u → Alike (run u m) (stateAfter m u)
+    go (inl e) = rw e (alike (stateAfter m u))
+    go (inr k) = k .1
+
 -- so in tick u they have the same tasks and the same memory, and the same task runs
 pub record InTick (m : Machine) (u : ℕ) : Type 0 where
   pub memory : inTick m u .memory ≡ arrivedAt m u .memory
   pub tasks : inTick m u .tasks ≡ arrivedAt m u .tasks
+  pub waiting : inTick m u .waiting ≡ arrivedAt m u .waiting
   pub runs : runningIn m u ≡ runningOf (arrivedAt m u)
 
 pub in-tick : (m : Machine) (u : ℕ) → InTick m u
@@ -134,7 +175,7 @@ unfolding inTick arrivedAt
 in-tick m u = go (after m u)
   where
     go : After m u → InTick m u
-    go (inl e) = record { memory = rw e refl; tasks = rw e refl; runs = rw e refl }
+    go (inl e) = record { memory = rw e refl; tasks = rw e refl; waiting = rw e refl; runs = rw e refl }
     go (inr k) =
         let over : over (stateAfter m u) ≡ true = sym (over-alike (k .1)) ∙ k .0 in
         let a = over-arrives (run u m) (k .0) in
@@ -142,5 +183,6 @@ in-tick m u = go (after m u)
         record {
           memory = a .memory ∙ k .1 .memory ∙ sym (b .memory);
           tasks = a .tasks ∙ k .1 .tasks ∙ sym (b .tasks);
+          waiting = a .waiting ∙ k .1 .waiting ∙ sym (b .waiting);
           runs = over-enters (run u m) (k .0) ∙ sym (over-enters (stateAfter m u) over);
         }

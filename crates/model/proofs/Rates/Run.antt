@@ -18,7 +18,7 @@ use Rattle.model.proofs.Lists.{same?, replace-same, replace-other, impo
 use Rattle.model.proofs.Fit.Sheet.{SheetFit}
 use Rattle.model.proofs.History.Steps.{stateAfter, arrivedAt, historyAfter, state-next, history-next}
 use Rattle.model.proofs.Fit.Running.{Foremost, running-foremost}
-use Rattle.model.proofs.History.Arrive.{JobArrived, waits, starts, Arrived, none-runs}
+use Rattle.model.proofs.History.Arrive.{JobArrived, sameJob, newJob, Arrived, none-runs}
 use Rattle.model.proofs.History.Moves.{given, staysOutside}
 use Rattle.model.proofs.History.Statement.{moves}
 use Rattle.model.proofs.History.Noted.{latestOf}
@@ -68,8 +68,8 @@ module _ {who : ℕ → Running} {h : History} where
     where
       go : (p : ℕ) → JobArrived (taskAt (m .tasks) p) (taskAt (m′ .tasks) p .job)
           → Timely (ownBefore who p (latestOf h p) n) p (m .memory) (taskAt (m′ .tasks) p .job .phase)
-      go p (waits e) = rw e (k .timely p)
-      go p (starts i e) = rw e tt
+      go p (sameJob e) = rw e (k .timely p)
+      go p (newJob i e) = rw e tt
 
   module _ {m : Machine} (linked : MachineLinked m h) (k : Rated who (m .now) m h) where
     -- AN IDLE TICK
