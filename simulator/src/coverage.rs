@@ -5,7 +5,7 @@ use std::fmt;
 use crate::generator::Case;
 use crate::history::{History, Kind, Operation};
 use crate::machine::Machine;
-use crate::observer::{Event, Observer, Statement};
+use crate::observer::{Event, Fate, Observer, Statement};
 use crate::sheet::{self, MAX_TASKS};
 use crate::{run, TOP_LIMIT};
 
@@ -224,7 +224,7 @@ impl Observer for Counter<'_> {
         self.coverage.count(Outcome::IdleTick, 1);
     }
 
-    fn dropped(&mut self, _tick: u32, _task: usize) {
-        self.coverage.count(Outcome::DroppedRelease, 1);
+    fn release(&mut self, _tick: u32, _task: usize, fate: Fate) {
+        self.coverage.count(Outcome::DroppedRelease, u64::from(fate == Fate::Dropped));
     }
 }
