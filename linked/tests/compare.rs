@@ -2,6 +2,7 @@
 //!
 //! `COMPARE_SEED` and `COMPARE_CASES` run another or a larger corpus.
 
+use simulator::builder::{end, load, pair, release, sheet, swap, task, word};
 use simulator::generator::{case, SEED};
 
 const CASES: u64 = 24_000;
@@ -65,6 +66,27 @@ fn every_limit_agrees() {
             "limit {limit}"
         );
         assert!(found == expected, "limit {limit}");
+    }
+}
+
+/// Sheet A released at ticks 0 and 3, limits just before and after the waiting job's start, worked out by hand: the first job ends in
+/// tick 11, and the second does its first LOAD in tick 12.
+#[test]
+fn a_limit_around_the_start_of_a_waiting_job() {
+    let releases = sheet(&[release(0, 0), release(3, 0)]);
+    let body = sheet(&[task(), load(1, 12), load(2, 5), pair(0, 1, 2), swap(0)]);
+    let sheet = sheet(&[word(12), body, releases, end()]);
+    let reports = [
+        (12, "W 0 5\nT 0 1 0 0 12\nR 0 1 12 5 0 0 0 0 0\nE 12 0\n"),
+        (13, "W 0 5\nT 0 1 0 0 13\nR 0 0 12 0 0 0 0 0 0\nE 13 0\n"),
+        (22, "W 0 5\nT 0 1 0 0 22\nR 0 0 12 5 0 0 0 0 0\nE 22 0\n"),
+        (23, "W 0 5\nT 0 2 0 0 23\nR 0 0 12 5 0 0 0 0 0\nE 23 0\n"),
+    ];
+    for (limit, report) in reports {
+        let mut found = [0x2E; 128];
+        let length = hizgrael::run(&sheet, limit, &mut found).accepted().expect("a good sheet");
+        assert_eq!(String::from_utf8_lossy(&found[..length]), report, "limit {limit}");
+        assert!(found[length..].iter().all(|&byte| byte == 0x2E), "limit {limit}");
     }
 }
 

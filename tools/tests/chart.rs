@@ -2,7 +2,7 @@
 
 use simulator::generator::{case, SEED};
 use simulator::machine::Machine;
-use simulator::observer::{NoObserver, Statement};
+use simulator::observer::{Fate, NoObserver, Statement};
 use simulator::report::render;
 use simulator::sheet::{parse, Sheet};
 use simulator::TOP_LIMIT;
@@ -23,6 +23,10 @@ fn recording(sheet: &[u8]) -> Recording {
 
 fn all_done(recording: &Recording) -> impl Iterator<Item = &Done> {
     recording.ticks.iter().filter_map(|tick| tick.done.as_ref())
+}
+
+fn with_fate(recording: &Recording, fate: Fate) -> usize {
+    recording.ticks.iter().map(|tick| tick.tasks_with(fate).count()).sum()
 }
 
 /// The good sheets of the corpus, but for the longest runs.
@@ -58,7 +62,7 @@ fn a_recording_has_the_figures_of_the_report() {
             });
             assert_eq!(rejected.count(), counts.rejected as usize);
         }
-        let dropped: usize = recording.ticks.iter().map(|tick| tick.dropped.len()).sum();
+        let dropped = with_fate(&recording, Fate::Dropped);
         assert_eq!(dropped, machine.dropped as usize);
         drops += dropped;
         // The last value of each series is that of the report's W and B lines.
@@ -79,13 +83,13 @@ fn a_recording_has_the_figures_of_the_report() {
 }
 
 #[test]
-fn the_highest_task_with_a_job_runs_and_lower_ones_wait() {
+fn the_highest_task_with_a_job_runs_before_lower_ones() {
     for sheet in good_sheets() {
         let recording = Recording::new(&sheet, 0, TOP_LIMIT as u32 - 1);
         for tick in &recording.ticks {
             match &tick.done {
-                Some(done) => assert!(tick.waiting.iter().all(|task| *task < done.task)),
-                None => assert!(tick.waiting.is_empty() && tick.started.is_empty()),
+                Some(done) => assert!(tick.preempted.iter().all(|task| *task < done.task)),
+                None => assert!(tick.preempted.is_empty() && tick.releases.is_empty()),
             }
         }
     }

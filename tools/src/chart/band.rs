@@ -129,20 +129,26 @@ impl Band<'_> {
         // The name is in bold, so it takes more room than its width says.
         let name = shortened(&self.names.of(Subject::Task(task)), LEFT - 24.0);
         svg.text("task", 4.0, middle + 3.0, &name);
-        let waits = |tick: usize| self.recording.ticks[tick].waiting.contains(&task);
-        for run in runs(self.ticks.clone(), waits) {
-            marks::waiting(svg, self.x(run.start), self.x(run.end), middle);
+        let preempted = |tick: usize| self.recording.ticks[tick].preempted.contains(&task);
+        for run in runs(self.ticks.clone(), preempted) {
+            marks::preempted(svg, self.x(run.start), self.x(run.end), middle);
         }
         for (tick, recorded) in self.recorded() {
             if let Some(done) = recorded.done.as_ref().filter(|done| done.task == task) {
                 self.draw_cell(svg, tick, done);
             }
-            if recorded.started.contains(&task) {
-                marks::release(svg, self.x(tick), top - 1.0);
-            }
-            if recorded.dropped.contains(&task) {
-                marks::drop(svg, self.x(tick), top - 1.0);
-            }
+            self.draw_releases(svg, tick, task);
+        }
+    }
+
+    /// One of its releases may arrive where one that waited starts: then they stand side by side.
+    fn draw_releases(&self, svg: &mut Svg, tick: usize, task: usize) {
+        let releases = self.recording.ticks[tick].releases.iter();
+        let y = self.cells_top(task) - 1.0;
+        let mut x = self.x(tick);
+        for (_, fate) in releases.filter(|release| release.0 == task) {
+            marks::release(svg, *fate, x, y);
+            x = self.middle(tick);
         }
     }
 
