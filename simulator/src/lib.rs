@@ -3,10 +3,11 @@
 //!
 //! `sheet` reads a sheet, `machine` runs it with `releases`, `reading`, `exchange` and
 //! `transaction`, `report` prints the end. `history` observes a run and `plain` checks it as whole
-//! operations. `generator` makes cases from `contention` (good sheets) and `damage` (bad ones);
-//! `coverage` counts them.
+//! operations. `generator` makes cases from `contention` (good sheets, with `bursts` of releases)
+//! and `damage` (bad ones); `coverage` and `waiting_coverage` count them.
 
 pub mod builder;
+pub mod bursts;
 pub mod contention;
 pub mod coverage;
 pub mod damage;
@@ -22,6 +23,7 @@ pub mod releases;
 pub mod report;
 pub mod sheet;
 pub mod transaction;
+pub mod waiting_coverage;
 
 use machine::Machine;
 use observer::{NoObserver, Observer};

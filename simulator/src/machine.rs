@@ -151,6 +151,9 @@ impl<'a> Machine<'a> {
                 let task = (u8::BITS - 1 - self.unfinished.leading_zeros()) as usize;
                 self.counts[task].ticks += 1;
                 self.statement(task, observer);
+                if self.unfinished & 1 << task == 0 {
+                    observer.job_ends(self.tick, task);
+                }
             }
             self.tick += 1;
         }

@@ -94,7 +94,8 @@ pub enum Fate {
     StartsAfterWaiting,
 }
 
-/// In each tick the releases come first, then the statement, then the events that belong to it.
+/// In each tick the releases come first, then the statement, then the events that belong to it, and
+/// last the end of the job.
 pub trait Observer {
     #[inline(always)]
     fn release(&mut self, _tick: u32, _task: usize, _fate: Fate) {}
@@ -102,6 +103,9 @@ pub trait Observer {
     fn statement(&mut self, _tick: u32, _task: usize, _statement: Statement) {}
     #[inline(always)]
     fn event(&mut self, _tick: u32, _task: usize, _event: Event<'_>) {}
+    /// The job has finished or is spent.
+    #[inline(always)]
+    fn job_ends(&mut self, _tick: u32, _task: usize) {}
     #[inline(always)]
     fn idle(&mut self, _tick: u32) {}
 }
@@ -126,6 +130,11 @@ impl<A: Observer, B: Observer> Observer for (A, B) {
     fn event(&mut self, tick: u32, task: usize, event: Event<'_>) {
         self.0.event(tick, task, event);
         self.1.event(tick, task, event);
+    }
+
+    fn job_ends(&mut self, tick: u32, task: usize) {
+        self.0.job_ends(tick, task);
+        self.1.job_ends(tick, task);
     }
 
     fn idle(&mut self, tick: u32) {
