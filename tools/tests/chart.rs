@@ -201,10 +201,10 @@ fn waiting_releases_are_drawn() {
     let middles: Vec<f32> = waits.iter().map(|bar| bar.0).collect();
     assert_eq!(middles, [128.0 + 3.0 * 14.0, 128.0 + 12.0 * 14.0]);
     assert!(waits[0].1 > waits[1].1);
-    // Before tick 2 one starts and another waits, half a cell to its right.
+    // Before tick 2 one starts and another waits, which stands 9 to its right.
     let ends = bars(&picture("worked/release-as-a-job-ends"));
     let middles: Vec<f32> = ends.iter().map(|bar| bar.0).collect();
-    assert_eq!(middles, [142.0, 156.0, 163.0, 184.0]);
+    assert_eq!(middles, [142.0, 156.0, 165.0, 184.0]);
     assert!(ends[1].1 < ends[2].1);
     assert_eq!(bars(&picture("worked/p5")), []);
 }

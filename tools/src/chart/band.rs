@@ -18,6 +18,8 @@ const CELL_HEIGHT: f32 = 48.0;
 const SCALE_HEIGHT: f32 = 16.0;
 /// The height of a row's middle where its task does not run in the band.
 const EMPTY_HEIGHT: f32 = 8.0;
+/// How far a release stands beside one that waited and starts in the same tick.
+const BESIDE: f32 = 9.0;
 /// The room above the cells for releases and commits, and below them for restarts.
 const ABOVE: f32 = 15.0;
 const BELOW: f32 = 8.0;
@@ -137,18 +139,12 @@ impl Band<'_> {
             if let Some(done) = recorded.done.as_ref().filter(|done| done.task == task) {
                 self.draw_cell(svg, tick, done);
             }
-            self.draw_releases(svg, tick, task);
-        }
-    }
-
-    /// One of its releases may arrive where one that waited starts: then they stand side by side.
-    fn draw_releases(&self, svg: &mut Svg, tick: usize, task: usize) {
-        let releases = self.recording.ticks[tick].releases.iter();
-        let y = self.cells_top(task) - 1.0;
-        let mut x = self.x(tick);
-        for (_, fate) in releases.filter(|release| release.0 == task) {
-            marks::release(svg, *fate, x, y);
-            x = self.middle(tick);
+            let releases = recorded.releases.iter().filter(|release| release.0 == task);
+            // One may arrive where one that waited starts: then they stand side by side.
+            for (number, (_, fate)) in releases.enumerate() {
+                let x = self.x(tick) + BESIDE * number as f32;
+                marks::release(svg, *fate, x, top - 1.0);
+            }
         }
     }
 

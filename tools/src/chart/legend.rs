@@ -18,9 +18,15 @@ type Sign = fn(&mut Svg, f32, f32);
 const SIGNS: [(Sign, &str); 10] = [
     (|svg, x, y| release(svg, Fate::Starts, x, y), "a release starts a job before the tick"),
     (|svg, x, y| release(svg, Fate::Waits, x, y), "a release waits: the job is unfinished"),
-    (|svg, x, y| release(svg, Fate::StartsAfterWaiting, x, y), "one that waited starts its job"),
+    (
+        |svg, x, y| release(svg, Fate::StartsAfterWaiting, x, y),
+        "a release that waited starts its job",
+    ),
     (|svg, x, y| release(svg, Fate::Dropped, x, y), "a release is dropped: four wait already"),
-    (|svg, x, y| marks::preempted(svg, x - 12.0, x + 12.0, y), "a higher task runs before the job"),
+    (
+        |svg, x, y| marks::preempted(svg, x - 12.0, x + 12.0, y),
+        "the job is unfinished, a higher task runs",
+    ),
     (|svg, x, y| marks::commit(svg, x, y + 6.0, true), "Commit turns status 0 into 2: yes"),
     (|svg, x, y| marks::commit(svg, x, y + 6.0, false), "Commit finds status 1: no"),
     (|svg, x, y| marks::restart(svg, x + 6.0, y - 4.0), "the transaction restarts"),
