@@ -3,7 +3,11 @@
 //! `COMPARE_SEED` and `COMPARE_CASES` run another or a larger corpus.
 
 use simulator::builder::{end, load, pair, release, sheet, swap, task, word};
-use simulator::generator::{case, SEED};
+use simulator::contention::Style;
+use simulator::generator::{case, valid_sheet, SEED};
+use simulator::observer::NoObserver;
+use simulator::random::Random;
+use simulator::{run_observed, TOP_LIMIT};
 
 const CASES: u64 = 24_000;
 
@@ -48,18 +52,24 @@ fn library_and_simulator_agree() {
     }
 }
 
-/// Every small limit of one contended sheet.
+/// Every small limit of one contended sheet, and of one with releases that wait and are dropped.
 #[test]
 fn every_limit_agrees() {
-    let sheet = (0..)
+    let contended = (0..)
         .map(|index| case(SEED, index).sheet)
         .find(|sheet| simulator::check(sheet).number == 0 && sheet.len() > 150)
         .expect("the corpus has valid sheets");
-    for limit in 0..600 {
+    let bursts = (0..)
+        .map(|index| valid_sheet(&mut Random::new(SEED, index), Style::Bursts))
+        .find(|sheet| drops_a_release(sheet))
+        .expect("the generator has sheets with drops");
+    for (sheet, limit) in
+        [contended, bursts].iter().flat_map(|sheet| (0..600).map(move |limit| (sheet, limit)))
+    {
         let mut expected = [0x2E; 4096];
         let mut found = [0x2E; 4096];
-        let answer = simulator::run(&sheet, limit, &mut expected);
-        let other = hizgrael::run(&sheet, limit, &mut found);
+        let answer = simulator::run(sheet, limit, &mut expected);
+        let other = hizgrael::run(sheet, limit, &mut found);
         assert_eq!(
             (other.number, other.place),
             (answer.number, answer.place as u64),
@@ -67,6 +77,11 @@ fn every_limit_agrees() {
         );
         assert!(found == expected, "limit {limit}");
     }
+}
+
+fn drops_a_release(sheet: &[u8]) -> bool {
+    let report = run_observed(sheet, TOP_LIMIT, &mut NoObserver).expect("a good sheet");
+    !report.ends_with(" 0\n")
 }
 
 /// Sheet A released at ticks 0 and 3, limits just before and after the waiting job's start, worked out by hand: the first job ends in

@@ -13,7 +13,7 @@ const LOOKED_THROUGH: u64 = 2000;
 /// Tick and task: rising, and never twice.
 type Releases = BTreeSet<(u16, u8)>;
 
-/// Releases for the words, blocks and bodies in front, at most 76.
+/// Releases for the words, blocks and bodies in front, at most 71.
 pub fn releases(random: &mut Random, front: &[u8], tasks: usize) -> Vec<Bytes> {
     let mut releases = Releases::from([(0, 0)]);
     burst(random, tasks, &mut releases);
