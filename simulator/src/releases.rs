@@ -4,7 +4,10 @@ use std::collections::VecDeque;
 
 use crate::machine::Machine;
 use crate::observer::{Fate, Observer};
-use crate::sheet::{Release, MAX_TASKS, MAX_WAITING};
+use crate::sheet::{Release, MAX_TASKS};
+
+/// How many releases may wait for a task behind its unfinished job.
+pub const MAX_WAITING: usize = 4;
 
 /// The tick of a release that does not come.
 const NEVER: u32 = u32::MAX;

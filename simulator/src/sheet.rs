@@ -7,8 +7,6 @@ pub const MAX_BLOCKS: usize = 16;
 pub const MAX_TASKS: usize = 8;
 pub const MAX_COMMANDS: usize = 512;
 pub const MAX_RELEASES: usize = 256;
-/// How many releases may wait for a task behind its unfinished job.
-pub const MAX_WAITING: usize = 4;
 pub const MAX_PAIRS: usize = 8;
 pub const MAX_TOUCHED: usize = 8;
 pub const MAX_PUT: usize = 4;

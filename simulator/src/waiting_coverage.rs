@@ -2,7 +2,8 @@
 
 use crate::machine::Machine;
 use crate::observer::{Event, Fate, Observer};
-use crate::sheet::{Sheet, MAX_TASKS, MAX_WAITING};
+use crate::releases::MAX_WAITING;
+use crate::sheet::{Sheet, MAX_TASKS};
 
 #[derive(Clone, Copy, Debug, PartialEq, Eq)]
 enum Wait {
