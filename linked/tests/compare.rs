@@ -2,7 +2,12 @@
 //!
 //! `COMPARE_SEED` and `COMPARE_CASES` run another or a larger corpus.
 
-use simulator::generator::{case, SEED};
+use simulator::builder::{end, load, pair, release, sheet, swap, task, word};
+use simulator::contention::Style;
+use simulator::generator::{case, valid_sheet, SEED};
+use simulator::observer::NoObserver;
+use simulator::random::Random;
+use simulator::{run_observed, TOP_LIMIT};
 
 const CASES: u64 = 24_000;
 
@@ -47,24 +52,56 @@ fn library_and_simulator_agree() {
     }
 }
 
-/// Every small limit of one contended sheet.
+/// Every small limit of one contended sheet, and of one with releases that wait and are dropped.
 #[test]
 fn every_limit_agrees() {
-    let sheet = (0..)
+    let contended = (0..)
         .map(|index| case(SEED, index).sheet)
         .find(|sheet| simulator::check(sheet).number == 0 && sheet.len() > 150)
         .expect("the corpus has valid sheets");
-    for limit in 0..600 {
+    let bursts = (0..)
+        .map(|index| valid_sheet(&mut Random::new(SEED, index), Style::Bursts))
+        .find(|sheet| drops_a_release(sheet))
+        .expect("the generator has sheets with drops");
+    for (sheet, limit) in
+        [contended, bursts].iter().flat_map(|sheet| (0..600).map(move |limit| (sheet, limit)))
+    {
         let mut expected = [0x2E; 4096];
         let mut found = [0x2E; 4096];
-        let answer = simulator::run(&sheet, limit, &mut expected);
-        let other = hizgrael::run(&sheet, limit, &mut found);
+        let answer = simulator::run(sheet, limit, &mut expected);
+        let other = hizgrael::run(sheet, limit, &mut found);
         assert_eq!(
             (other.number, other.place),
             (answer.number, answer.place as u64),
             "limit {limit}"
         );
         assert!(found == expected, "limit {limit}");
+    }
+}
+
+fn drops_a_release(sheet: &[u8]) -> bool {
+    let report = run_observed(sheet, TOP_LIMIT, &mut NoObserver).expect("a good sheet");
+    !report.ends_with(" 0\n")
+}
+
+/// Sheet A released at ticks 0 and 3, limits just before and after the waiting job's start, worked out by hand: the first job ends in
+/// tick 11, and the second does its first LOAD in tick 12.
+#[test]
+fn a_limit_around_the_start_of_a_waiting_job() {
+    let releases = sheet(&[release(0, 0), release(3, 0)]);
+    let body = sheet(&[task(), load(1, 12), load(2, 5), pair(0, 1, 2), swap(0)]);
+    let sheet = sheet(&[word(12), body, releases, end()]);
+    let reports = [
+        (12, "W 0 5\nT 0 1 0 0 12\nR 0 1 12 5 0 0 0 0 0\nE 12 0\n"),
+        (13, "W 0 5\nT 0 1 0 0 13\nR 0 0 12 0 0 0 0 0 0\nE 13 0\n"),
+        (22, "W 0 5\nT 0 1 0 0 22\nR 0 0 12 5 0 0 0 0 0\nE 22 0\n"),
+        (23, "W 0 5\nT 0 2 0 0 23\nR 0 0 12 5 0 0 0 0 0\nE 23 0\n"),
+    ];
+    for (limit, report) in reports {
+        let mut found = [0x2E; 128];
+        let length = hizgrael::run(&sheet, limit, &mut found).accepted().expect("a good sheet");
+        assert_eq!(String::from_utf8_lossy(&found[..length]), report, "limit {limit}");
+        assert!(found[length..].iter().all(|&byte| byte == 0x2E), "limit {limit}");
     }
 }
 

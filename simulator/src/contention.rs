@@ -1,6 +1,7 @@
 //! Valid sheets made by chance: few words and blocks, many tasks, releases inside operations.
 
 use crate::builder::*;
+use crate::bursts;
 use crate::history::History;
 use crate::random::Random;
 use crate::sheet::{MAX_COMMANDS, MAX_PAIRS, MAX_PUT, MAX_RELEASES, MAX_TASKS, TOP_VERSION};
@@ -16,6 +17,8 @@ pub enum Style {
     TopVersions,
     /// One to three words or blocks, and tasks released one inside the other: the narrowest races.
     Nested,
+    /// One to three tasks with short bodies, released again and again before their jobs have ended.
+    Bursts,
     /// Eight tasks and releases without a pause: tens of thousands of ticks.
     Long,
     /// A few dozen bytes.
@@ -43,6 +46,7 @@ pub fn commands(random: &mut Random, style: Style) -> Vec<Bytes> {
         Style::Blocks | Style::TopVersions => (0, random.pick(&[1, 1, 2, 2, 3, 5, 9, 16])),
         Style::Mixed => (random.within(1, 3), random.within(1, 3)),
         Style::Nested => random.pick(&[(1, 0), (2, 0), (3, 0), (0, 1), (0, 2), (0, 3)]),
+        Style::Bursts => random.pick(&[(1, 0), (2, 0), (0, 1), (0, 1), (0, 2), (1, 1)]),
         Style::Long => random.pick(&[(8, 0), (3, 0), (0, 2), (8, 8), (2, 3)]),
         Style::Tiny => random.pick(&[(1, 0), (2, 0), (0, 1)]),
     };
@@ -61,6 +65,7 @@ impl Author<'_> {
         }
         let tasks = match self.style {
             Style::Nested => self.random.within(3, 5),
+            Style::Bursts => self.random.within(1, 3),
             Style::Long => MAX_TASKS,
             Style::Tiny => self.random.within(1, 2),
             _ => self.random.within(2, MAX_TASKS),
@@ -69,6 +74,10 @@ impl Author<'_> {
         let bodies: Vec<Vec<Bytes>> = (0..tasks).map(|_| self.body(share)).collect();
         let releases = match self.style {
             Style::Nested => self.nested_releases(&sheet(&declared), &bodies),
+            Style::Bursts => {
+                let front = [sheet(&declared), sheet(&bodies.concat())].concat();
+                bursts::releases(self.random, &front, tasks)
+            }
             _ => self.releases(tasks),
         };
         [declared, bodies.concat(), releases, vec![end()]].concat()
@@ -77,6 +86,7 @@ impl Author<'_> {
     fn block(&mut self) -> Bytes {
         let version = match self.style {
             Style::TopVersions => TOP_VERSION - self.random.below(4) as u32,
+            Style::Bursts if self.random.percent(50) => TOP_VERSION - self.random.below(2) as u32,
             _ => self.random.below(1000) as u32,
         };
         let first = self.random.below(90) as u32;
@@ -94,6 +104,8 @@ impl Author<'_> {
         }
         let pieces = match self.style {
             Style::Nested | Style::Tiny => 1,
+            // None: the LOADs alone, a job of one or two ticks.
+            Style::Bursts => usize::from(self.random.percent(75)),
             Style::Long => 40,
             _ => self.random.within(1, 3),
         };

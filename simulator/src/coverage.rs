@@ -1,12 +1,13 @@
-//! What a corpus of cases covers: refusals, statements and outcomes, each counted.
+//! What a corpus of cases covers: refusals, statements, outcomes and waiting releases, each counted.
 
 use std::fmt;
 
 use crate::generator::Case;
 use crate::history::{History, Kind, Operation};
 use crate::machine::Machine;
-use crate::observer::{Event, Observer, Statement};
+use crate::observer::{Event, Fate, Observer, Statement};
 use crate::sheet::{self, MAX_TASKS};
+use crate::waiting_coverage::WaitingCoverage;
 use crate::{run, TOP_LIMIT};
 
 /// The statements of plain commands, READ and transactions outside their exchange.
@@ -95,6 +96,7 @@ pub struct Coverage {
     in_swaps: [u64; STATEMENTS],
     in_transactions: [u64; STATEMENTS],
     outcomes: [u64; OUTCOMES.len()],
+    waiting: WaitingCoverage,
 }
 
 impl Coverage {
@@ -106,6 +108,7 @@ impl Coverage {
             in_swaps: [0; STATEMENTS],
             in_transactions: [0; STATEMENTS],
             outcomes: [0; OUTCOMES.len()],
+            waiting: WaitingCoverage::default(),
         }
     }
 
@@ -114,10 +117,12 @@ impl Coverage {
         let answer = run(&case.sheet, case.limit, &mut case.buffer());
         self.refusals[usize::from(answer.number)] += 1;
         let Ok(sheet) = sheet::parse(&case.sheet) else { return };
+        let limit = case.limit.min(TOP_LIMIT) as u32;
+        self.waiting.take(&sheet, limit);
         let mut machine = Machine::new(&sheet);
         let mut observers =
             (Counter { coverage: self, in_transaction: [false; MAX_TASKS] }, History::new());
-        machine.run(case.limit.min(TOP_LIMIT) as u32, &mut observers);
+        machine.run(limit, &mut observers);
         let history = observers.1;
         self.ticks += u64::from(machine.tick);
         self.count(Outcome::RunCutShort, u64::from(machine.unfinished != 0));
@@ -177,6 +182,7 @@ impl Coverage {
         for outcome in OUTCOMES {
             rows.push((format!("outcome {outcome:?}"), self.outcomes[outcome as usize]));
         }
+        rows.extend(self.waiting.rows());
         rows
     }
 }
@@ -224,7 +230,7 @@ impl Observer for Counter<'_> {
         self.coverage.count(Outcome::IdleTick, 1);
     }
 
-    fn dropped(&mut self, _tick: u32, _task: usize) {
-        self.coverage.count(Outcome::DroppedRelease, 1);
+    fn release(&mut self, _tick: u32, _task: usize, fate: Fate) {
+        self.coverage.count(Outcome::DroppedRelease, u64::from(fate == Fate::Dropped));
     }
 }

@@ -3,7 +3,7 @@
 use crate::contention::{self, Style};
 use crate::damage;
 use crate::machine::Machine;
-use crate::observer::NoObserver;
+use crate::observer::{Fate, Observer};
 use crate::random::Random;
 use crate::{builder, report, sheet, TOP_LIMIT};
 
@@ -26,7 +26,7 @@ impl Case {
     }
 }
 
-/// Where the sheet of a case comes from. Every 24 cases hold each source at least once.
+/// Where the sheet of a case comes from. Every 28 cases hold each source at least once.
 #[derive(Clone, Copy)]
 enum Source {
     Valid(Style),
@@ -39,22 +39,25 @@ enum Source {
     TwoFaults,
 }
 
-const SOURCES: [Source; 24] = [
+const SOURCES: [Source; 28] = [
     Source::Valid(Style::Words),
     Source::Valid(Style::Nested),
     Source::Cut,
+    Source::Valid(Style::Bursts),
     Source::Valid(Style::Blocks),
     Source::AlteredBytes,
     Source::Valid(Style::Mixed),
     Source::Cut,
     Source::Valid(Style::Nested),
     Source::PastCeiling,
+    Source::Valid(Style::Bursts),
     Source::Valid(Style::TopVersions),
     Source::Noise,
     Source::Valid(Style::Tiny),
     Source::Cut,
     Source::Valid(Style::Words),
     Source::AlteredCommands,
+    Source::Valid(Style::Bursts),
     Source::Valid(Style::Blocks),
     Source::TwoFaults,
     Source::Valid(Style::Nested),
@@ -62,6 +65,7 @@ const SOURCES: [Source; 24] = [
     Source::Valid(Style::Mixed),
     Source::AtCeiling,
     Source::Valid(Style::Words),
+    Source::Valid(Style::Bursts),
     Source::AlteredBytes,
     Source::Valid(Style::Tiny),
 ];
@@ -74,7 +78,7 @@ pub fn case(seed: u64, index: u64) -> Case {
     let mut random = Random::new(seed, index);
     let sheet = sheet_of_case(&mut random, seed, index);
     let full_run = measure(&sheet, TOP_LIMIT as u32);
-    let limit = limit(&mut random, full_run.ticks);
+    let limit = limit(&mut random, &full_run);
     let needed = measure(&sheet, limit.min(TOP_LIMIT) as u32).report_length;
     let buffer_length = buffer_length(&mut random, needed);
     Case { sheet, limit, buffer_length, fill: random.pick(&[0x00, 0xAA, 0xFF, 0x0A]) }
@@ -111,27 +115,43 @@ pub fn valid_sheet(random: &mut Random, style: Style) -> Vec<u8> {
     builder::sheet(&contention::commands(random, style))
 }
 
+#[derive(Default)]
 struct Measure {
     ticks: u32,
     report_length: usize,
+    /// The ticks before which a release that waited starts.
+    starts: Vec<u32>,
+}
+
+impl Observer for Measure {
+    fn release(&mut self, tick: u32, _task: usize, fate: Fate) {
+        if fate == Fate::StartsAfterWaiting {
+            self.starts.push(tick);
+        }
+    }
 }
 
 fn measure(bytes: &[u8], limit: u32) -> Measure {
-    let Ok(sheet) = sheet::parse(bytes) else {
-        return Measure { ticks: 0, report_length: 0 };
-    };
-    let mut machine = Machine::new(&sheet);
-    machine.run(limit, &mut NoObserver);
-    Measure { ticks: machine.tick, report_length: report::render(&machine).len() }
+    let mut measure = Measure::default();
+    if let Ok(sheet) = sheet::parse(bytes) {
+        let mut machine = Machine::new(&sheet);
+        machine.run(limit, &mut measure);
+        measure.ticks = machine.tick;
+        measure.report_length = report::render(&machine).len();
+    }
+    measure
 }
 
-/// Mostly no bound, often one that cuts the run short, sometimes one that is turned down.
-fn limit(random: &mut Random, ticks: u32) -> u64 {
+/// Mostly no bound, often one that cuts the run short, also just before or after a release that
+/// waited starts, sometimes one that is turned down.
+fn limit(random: &mut Random, full_run: &Measure) -> u64 {
+    let starts = &full_run.starts;
     match random.below(20) {
         0 => random.pick(&[0, 0, 1, 2]),
         1 => random.pick(&[65_536, 65_537, 100_000, u64::from(u32::MAX)]),
         2 => TOP_LIMIT - 1,
-        3..=9 => random.below(ticks as usize + 1) as u64,
+        3..=9 => random.below(full_run.ticks as usize + 1) as u64,
+        10..=12 if !starts.is_empty() => (random.pick(starts) + random.below(2) as u32).into(),
         _ => TOP_LIMIT,
     }
 }

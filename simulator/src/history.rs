@@ -1,7 +1,7 @@
-//! The history of a run: its operations with their arguments, ticks and answers.
+//! The history of a run: its releases, and its operations with their arguments, ticks and answers.
 
 use crate::machine::Pair;
-use crate::observer::{Event, Observer, Statement};
+use crate::observer::{Event, Fate, Observer, Statement};
 use crate::sheet::{MAX_TASKS, REGISTERS};
 
 /// A READ, a SWAP or a transaction with its arguments as recorded.
@@ -82,9 +82,27 @@ pub struct Operation {
     pub exchanges: Vec<Exchange>,
 }
 
-/// Keeps every operation of a run, in the order in which they began.
+/// A release that has arrived. One that neither started nor was dropped waits.
+#[derive(Clone, Copy, Debug, PartialEq, Eq)]
+pub struct Arrived {
+    pub task: usize,
+    pub tick: u32,
+    /// The tick before which its job started.
+    pub started: Option<u32>,
+    pub dropped: bool,
+}
+
+impl Arrived {
+    pub fn waits(&self) -> bool {
+        self.started.is_none() && !self.dropped
+    }
+}
+
+/// Keeps every release of a run in the order of arrival, and every operation in the order in which
+/// they began: a waiting job has none until it starts.
 #[derive(Default)]
 pub struct History {
+    pub releases: Vec<Arrived>,
     pub operations: Vec<Operation>,
     /// For each task, its latest operation.
     latest: [Option<usize>; MAX_TASKS],
@@ -147,6 +165,20 @@ impl History {
 }
 
 impl Observer for History {
+    fn release(&mut self, tick: u32, task: usize, fate: Fate) {
+        let arrived = Arrived { task, tick, started: None, dropped: fate == Fate::Dropped };
+        match fate {
+            Fate::Starts => self.releases.push(Arrived { started: Some(tick), ..arrived }),
+            Fate::Waits | Fate::Dropped => self.releases.push(arrived),
+            Fate::StartsAfterWaiting => {
+                let waits = |release: &&mut Arrived| release.task == task && release.waits();
+                if let Some(oldest) = self.releases.iter_mut().find(waits) {
+                    oldest.started = Some(tick);
+                }
+            }
+        }
+    }
+
     fn statement(&mut self, _tick: u32, task: usize, _statement: Statement) {
         self.ticks[task] += 1;
     }

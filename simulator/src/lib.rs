@@ -1,10 +1,13 @@
-//! The second simulator of the exchange engine: document 01 in plain Rust, with no part shared.
+//! The second simulator of the exchange engine: document 01 and change 1 of document 02 in plain
+//! Rust, with no part shared.
 //!
-//! `sheet` reads a sheet, `machine` runs it with `reading`, `exchange` and `transaction`, `report`
-//! prints the end. `history` observes a run and `plain` checks it as whole operations. `generator`
-//! makes cases from `contention` (good sheets) and `damage` (bad ones); `coverage` counts them.
+//! `sheet` reads a sheet, `machine` runs it with `releases`, `reading`, `exchange` and
+//! `transaction`, `report` prints the end. `history` observes a run and `plain` checks it as whole
+//! operations. `generator` makes cases from `contention` (good sheets, with `bursts` of releases)
+//! and `damage` (bad ones); `coverage` and `waiting_coverage` count them.
 
 pub mod builder;
+pub mod bursts;
 pub mod contention;
 pub mod coverage;
 pub mod damage;
@@ -16,9 +19,11 @@ pub mod observer;
 pub mod plain;
 pub mod random;
 pub mod reading;
+pub mod releases;
 pub mod report;
 pub mod sheet;
 pub mod transaction;
+pub mod waiting_coverage;
 
 use machine::Machine;
 use observer::{NoObserver, Observer};

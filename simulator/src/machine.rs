@@ -3,15 +3,13 @@
 use crate::exchange::Exchange;
 use crate::observer::{Event, Observer, Statement};
 use crate::reading::Reading;
+use crate::releases::{ToCome, Waiting};
 use crate::sheet::{Command, Sheet, BLOCK_VALUES, MAX_BLOCKS, MAX_PAIRS, MAX_PUT, MAX_TASKS};
 use crate::sheet::{MAX_WORDS, REGISTERS};
 use crate::transaction::Transaction;
 
 /// Every block has a store, and every task has as many copies as a transaction may PUT.
 pub const STORES: usize = MAX_TASKS * MAX_PUT + MAX_BLOCKS;
-
-/// The tick of a release that does not come.
-const NEVER: u32 = u32::MAX;
 
 /// A task's status: its exchange is undecided, has failed or has committed.
 pub const UNDECIDED: u8 = 0;
@@ -112,9 +110,8 @@ pub struct Machine<'a> {
     pub counts: [Counts; MAX_TASKS],
     /// One bit for each task whose job is unfinished.
     pub unfinished: u8,
-    /// How many releases have come, and the tick of the next one.
-    arrived: usize,
-    next_release: u32,
+    pub to_come: ToCome<'a>,
+    pub waiting: Waiting,
     pub dropped: u32,
     pub tick: u32,
 }
@@ -131,8 +128,8 @@ impl<'a> Machine<'a> {
             jobs: std::array::from_fn(|_| Job::new()),
             counts: [Counts::default(); MAX_TASKS],
             unfinished: 0,
-            arrived: 0,
-            next_release: NEVER,
+            to_come: ToCome::new(&sheet.releases),
+            waiting: Waiting::default(),
             dropped: 0,
             tick: 0,
         };
@@ -140,47 +137,30 @@ impl<'a> Machine<'a> {
             *word = Word::fresh(value);
         }
         machine.place_blocks();
-        machine.next_release = machine.tick_of_next_release();
         machine
     }
 
-    /// Runs until no job is unfinished and no release is to come, or until the limit is done.
+    /// Runs until no job is unfinished, no release waits and none is to come, or until the limit
+    /// is done.
     pub fn run<O: Observer>(&mut self, limit: u32, observer: &mut O) {
         while self.tick < limit && self.work_left() {
-            // No tick is left out, so every release meets its own tick.
-            while self.next_release == self.tick {
-                self.take_release(observer);
-            }
+            self.before_statement(observer);
             if self.unfinished == 0 {
                 observer.idle(self.tick);
             } else {
                 let task = (u8::BITS - 1 - self.unfinished.leading_zeros()) as usize;
                 self.counts[task].ticks += 1;
                 self.statement(task, observer);
+                if self.unfinished & 1 << task == 0 {
+                    observer.job_ends(self.tick, task);
+                }
             }
             self.tick += 1;
         }
     }
 
     fn work_left(&self) -> bool {
-        self.unfinished != 0 || self.next_release != NEVER
-    }
-
-    fn tick_of_next_release(&self) -> u32 {
-        self.sheet.releases.get(self.arrived).map_or(NEVER, |release| release.tick.into())
-    }
-
-    fn take_release<O: Observer>(&mut self, observer: &mut O) {
-        let task = usize::from(self.sheet.releases[self.arrived].task);
-        self.arrived += 1;
-        self.next_release = self.tick_of_next_release();
-        if self.unfinished & 1 << task != 0 {
-            self.dropped += 1;
-            observer.dropped(self.tick, task);
-        } else {
-            self.unfinished |= 1 << task;
-            self.jobs[task].start(&self.sheet.bodies[task]);
-        }
+        self.unfinished != 0 || !self.waiting.is_empty() || !self.to_come.is_empty()
     }
 
     #[inline]
@@ -287,7 +267,7 @@ impl Job {
         }
     }
 
-    fn start(&mut self, body: &std::ops::Range<usize>) {
+    pub fn start(&mut self, body: &std::ops::Range<usize>) {
         self.registers = [0; REGISTERS];
         self.next = body.start;
         self.end = body.end;

@@ -81,16 +81,33 @@ pub enum Event<'a> {
     Spent,
 }
 
-/// In each tick the statement comes first, then the events that belong to it.
+/// What becomes of a release when it arrives, or later when its waiting is over.
+#[derive(Clone, Copy, Debug, PartialEq, Eq)]
+pub enum Fate {
+    /// It arrives and starts a job.
+    Starts,
+    /// It arrives and waits behind the task's unfinished job.
+    Waits,
+    /// It arrives and is dropped, since four wait already.
+    Dropped,
+    /// It waited, and now it starts a job: the oldest one of its task.
+    StartsAfterWaiting,
+}
+
+/// In each tick the releases come first, then the statement, then the events that belong to it, and
+/// last the end of the job.
 pub trait Observer {
+    #[inline(always)]
+    fn release(&mut self, _tick: u32, _task: usize, _fate: Fate) {}
     #[inline(always)]
     fn statement(&mut self, _tick: u32, _task: usize, _statement: Statement) {}
     #[inline(always)]
     fn event(&mut self, _tick: u32, _task: usize, _event: Event<'_>) {}
+    /// The job has finished or is spent.
+    #[inline(always)]
+    fn job_ends(&mut self, _tick: u32, _task: usize) {}
     #[inline(always)]
     fn idle(&mut self, _tick: u32) {}
-    #[inline(always)]
-    fn dropped(&mut self, _tick: u32, _task: usize) {}
 }
 
 /// History off.
@@ -100,6 +117,11 @@ impl Observer for NoObserver {}
 
 /// Two observers of one run.
 impl<A: Observer, B: Observer> Observer for (A, B) {
+    fn release(&mut self, tick: u32, task: usize, fate: Fate) {
+        self.0.release(tick, task, fate);
+        self.1.release(tick, task, fate);
+    }
+
     fn statement(&mut self, tick: u32, task: usize, statement: Statement) {
         self.0.statement(tick, task, statement);
         self.1.statement(tick, task, statement);
@@ -110,13 +132,13 @@ impl<A: Observer, B: Observer> Observer for (A, B) {
         self.1.event(tick, task, event);
     }
 
+    fn job_ends(&mut self, tick: u32, task: usize) {
+        self.0.job_ends(tick, task);
+        self.1.job_ends(tick, task);
+    }
+
     fn idle(&mut self, tick: u32) {
         self.0.idle(tick);
         self.1.idle(tick);
-    }
-
-    fn dropped(&mut self, tick: u32, task: usize) {
-        self.0.dropped(tick, task);
-        self.1.dropped(tick, task);
     }
 }

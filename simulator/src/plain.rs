@@ -72,6 +72,7 @@ pub fn whole_operations(sheet: &[u8], limit: u64) -> Result<(), String> {
         return Ok(());
     };
     check_rates(&history)?;
+    check_jobs(&history)?;
     let order = order(&history);
     check_places(&order)?;
     let mut plain =
@@ -164,6 +165,22 @@ fn has_free_no(swap: &Operation, history: &History) -> bool {
         .filter(|other| other.task > swap.task && matches!(other.kind, Kind::Swap { .. }))
         .flat_map(|other| &other.exchanges)
         .any(|exchange| exchange.pairs.iter().any(|pair| pair.changes() && named(pair.word)))
+}
+
+/// Every operation lies inside one job: its task has started one, and starts none before its end.
+fn check_jobs(history: &History) -> Result<(), String> {
+    for operation in &history.operations {
+        let (first, last) = (operation.span.first, operation.span.last.unwrap_or(u32::MAX));
+        let own = history.releases.iter().filter(|release| release.task == operation.task);
+        let starts: Vec<u32> = own.filter_map(|release| release.started).collect();
+        if !starts.iter().any(|&start| start <= first) {
+            return Err(format!("its job has not started: {operation:?}"));
+        }
+        if starts.iter().any(|&start| first < start && start <= last) {
+            return Err(format!("another job of its task starts inside: {operation:?}"));
+        }
+    }
+    Ok(())
 }
 
 /// A READ takes 2 or 3 ticks of its own, an exchange of k words at most 9k + 4.

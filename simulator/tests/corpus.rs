@@ -8,7 +8,7 @@ use simulator::random::Random;
 use simulator::{check, run, run_observed};
 
 #[test]
-fn every_refusal_statement_and_outcome_is_covered() {
+fn every_refusal_statement_outcome_and_wait_is_covered() {
     let mut coverage = Coverage::new();
     for index in 0..CASES {
         coverage.take(&case(SEED, index));
@@ -32,7 +32,14 @@ fn demand_3_and_the_rates_hold() {
 /// Small contended sheets, cut short after every tick.
 #[test]
 fn demand_3_holds_after_every_tick() {
-    let styles = [Style::Nested, Style::Words, Style::Blocks, Style::Mixed, Style::TopVersions];
+    let styles = [
+        Style::Nested,
+        Style::Words,
+        Style::Blocks,
+        Style::Mixed,
+        Style::TopVersions,
+        Style::Bursts,
+    ];
     for index in 0..60 {
         let mut random = Random::new(SEED, index);
         let sheet = valid_sheet(&mut random, styles[index as usize % styles.len()]);
@@ -53,10 +60,11 @@ fn valid_sheets_and_their_cuts() {
         Style::Mixed,
         Style::TopVersions,
         Style::Nested,
+        Style::Bursts,
         Style::Long,
         Style::Tiny,
     ];
-    for index in 0..140 {
+    for index in 0..160 {
         let style = styles[index as usize % styles.len()];
         let sheet = valid_sheet(&mut Random::new(SEED, index), style);
         assert_eq!(check(&sheet).number, 0, "{style:?} {index}");

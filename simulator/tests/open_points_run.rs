@@ -5,19 +5,9 @@ mod common;
 use common::*;
 use simulator::builder::*;
 
-/// Sheet A with these releases beside the one at tick 0.
-fn sheet_a_with(ticks: &[u16]) -> Bytes {
-    let more: Bytes = ticks.iter().flat_map(|&tick| release(tick, 0)).collect();
-    sheet(&[word(12), task_of_sheet_a(), release(0, 0), more, end()])
-}
-
-/// Before the last tick of a job a release is dropped; before the next tick it starts a job.
+/// The job of sheet A ends in tick 11: a release before the next tick starts a job at once.
 #[test]
 fn a_job_ends_in_its_last_tick() {
-    let dropped = report(&sheet_a_with(&[11]));
-    assert_eq!(ending(&dropped), [12, 1]);
-    assert_eq!(counts(&dropped, 0), [1, 0, 0, 12]);
-
     // The second job finds 5: Start, Test, Load, Look, Save, Fail, Test, Commit.
     let taken = report(&sheet_a_with(&[12]));
     assert_eq!(ending(&taken), [23, 0]);
@@ -35,8 +25,10 @@ fn the_limit_comes_before_the_releases() {
     let started = report_with_limit(&sheet_a_with(&[12]), 13);
     assert_eq!(registers(&started, 0), [0, 12, 0, 0, 0, 0, 0, 0]);
 
-    let not_dropped = report_with_limit(&sheet_a_with(&[5]), 5);
-    assert_eq!(ending(&not_dropped), [5, 0]);
+    // Four wait, so the release at tick 5 is dropped if it arrives.
+    let sheet = sheet_a_with(&[1, 2, 3, 4, 5]);
+    assert_eq!(ending(&report_with_limit(&sheet, 5)), [5, 0]);
+    assert_eq!(ending(&report_with_limit(&sheet, 6)), [6, 1]);
 }
 
 /// A release past the limit is still to come: the run idles up to the limit.

@@ -103,6 +103,8 @@ slips! {
         "self.status[task] = UNDECIDED;" => "";
     reading_ignores_the_status: "reading.rs",
         "word.valid || self.status[usize::from(word.task)] == COMMITTED" => "word.valid";
+    waiting_release_starts_over_the_unfinished_job: "releases.rs",
+        "let ready = self.tasks & !unfinished;" => "let ready = self.tasks; let _ = unfinished;";
     restart_keeps_the_registers_of_the_lost_pass: "transaction.rs",
         "job.registers = job.transaction.kept;" => "";
 }

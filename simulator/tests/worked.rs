@@ -1,4 +1,5 @@
-//! All worked figures of document 01: the refusal table, sheet A, P1 to P10 and two tasks U; most of them from examples/worked.
+//! All worked figures of document 01, most of them from examples/worked: the refusal table, sheet A, P1 to P10 and two tasks U; those
+//! of change 1 there too.
 
 mod common;
 
@@ -91,7 +92,7 @@ fn every_stored_report() {
             cases += 1;
         }
     }
-    assert_eq!(cases, 30);
+    assert_eq!(cases, 34);
 }
 
 #[test]

@@ -12,7 +12,7 @@ pub fn folder() -> PathBuf {
     Path::new(env!("CARGO_MANIFEST_DIR")).join("../examples")
 }
 
-/// The names of all examples; document 01's worked figures begin with `worked/`.
+/// The names of all examples; worked figures begin with `worked/`.
 pub fn names() -> io::Result<Vec<String>> {
     let mut names = Vec::new();
     for part in ["", "worked/"] {
@@ -45,6 +45,9 @@ pub fn made_files(name: &str) -> io::Result<Vec<(PathBuf, Vec<u8>)>> {
 fn chart_options(name: &str) -> Option<Options> {
     let (title, names): (&str, &[&str]) = match name {
         "worked/p5" => ("P5: t1 Marks t0 and then fails itself, so both answer no", &[]),
+        "worked/release-dropped" => {
+            ("Six releases of sheet A's task: four wait, the last is dropped", &[])
+        }
         "cold-room" => (
             "The cold room: five tasks, the guard above them",
             &[

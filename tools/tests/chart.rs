@@ -2,11 +2,11 @@
 
 use simulator::generator::{case, SEED};
 use simulator::machine::Machine;
-use simulator::observer::{NoObserver, Statement};
+use simulator::observer::{Fate, NoObserver, Statement};
 use simulator::report::render;
 use simulator::sheet::{parse, Sheet};
 use simulator::TOP_LIMIT;
-use tools::chart::record::{Done, Recording};
+use tools::chart::record::{Done, Recording, Tick};
 use tools::chart::series::all_series;
 use tools::chart::statement::Kind;
 use tools::chart::subject::Subject;
@@ -25,6 +25,10 @@ fn all_done(recording: &Recording) -> impl Iterator<Item = &Done> {
     recording.ticks.iter().filter_map(|tick| tick.done.as_ref())
 }
 
+fn with_fate(recording: &Recording, fate: Fate) -> usize {
+    recording.ticks.iter().map(|tick| tick.tasks_with(fate).count()).sum()
+}
+
 /// The good sheets of the corpus, but for the longest runs.
 fn good_sheets() -> impl Iterator<Item = Sheet> {
     (0..400)
@@ -34,7 +38,7 @@ fn good_sheets() -> impl Iterator<Item = Sheet> {
 
 #[test]
 fn a_recording_has_the_figures_of_the_report() {
-    let mut drops = 0;
+    let (mut drops, mut waits) = (0, 0);
     for sheet in good_sheets() {
         let mut machine = Machine::new(&sheet);
         machine.run(TOP_LIMIT as u32, &mut NoObserver);
@@ -58,9 +62,13 @@ fn a_recording_has_the_figures_of_the_report() {
             });
             assert_eq!(rejected.count(), counts.rejected as usize);
         }
-        let dropped: usize = recording.ticks.iter().map(|tick| tick.dropped.len()).sum();
+        let dropped = with_fate(&recording, Fate::Dropped);
         assert_eq!(dropped, machine.dropped as usize);
         drops += dropped;
+        // With the limit at 65,535 none of these runs ends while one waits.
+        let waited = with_fate(&recording, Fate::Waits);
+        assert_eq!(waited, with_fate(&recording, Fate::StartsAfterWaiting));
+        waits += waited;
         // The last value of each series is that of the report's W and B lines.
         let report = render(&machine);
         for series in all_series(&recording) {
@@ -75,17 +83,17 @@ fn a_recording_has_the_figures_of_the_report() {
             assert!(report.contains(&line), "{line} is not in\n{report}");
         }
     }
-    assert!(drops > 1000, "{drops} drops");
+    assert!(drops > 100 && waits > 1000, "{drops} drops, {waits} waits");
 }
 
 #[test]
-fn the_highest_task_with_a_job_runs_and_lower_ones_wait() {
+fn the_highest_task_with_a_job_runs_before_lower_ones() {
     for sheet in good_sheets() {
         let recording = Recording::new(&sheet, 0, TOP_LIMIT as u32 - 1);
         for tick in &recording.ticks {
             match &tick.done {
-                Some(done) => assert!(tick.waiting.iter().all(|task| *task < done.task)),
-                None => assert!(tick.waiting.is_empty() && tick.started.is_empty()),
+                Some(done) => assert!(tick.preempted.iter().all(|task| *task < done.task)),
+                None => assert!(tick.preempted.is_empty() && tick.releases.is_empty()),
             }
         }
     }
@@ -139,6 +147,68 @@ fn cells_drawn(picture: &str) -> usize {
     picture.matches("rotate(-90)").count()
 }
 
+/// What became of the releases, as tick, task and fate.
+fn fates(recording: &Recording) -> Vec<(usize, usize, Fate)> {
+    let ticks = recording.ticks.iter().enumerate();
+    let releases = |(tick, recorded): (usize, &Tick)| -> Vec<(usize, usize, Fate)> {
+        recorded.releases.iter().map(|&(task, fate)| (tick, task, fate)).collect()
+    };
+    ticks.flat_map(releases).collect()
+}
+
+#[test]
+fn releases_that_wait_and_start_tick_by_tick() {
+    use Fate::*;
+    let waits = recording(&example("worked/release-waits"));
+    assert_eq!(fates(&waits), [(0, 0, Starts), (3, 0, Waits), (12, 0, StartsAfterWaiting)]);
+    let ends = recording(&example("worked/release-as-a-job-ends"));
+    assert_eq!(
+        fates(&ends),
+        [
+            (0, 0, Starts),
+            (1, 0, Waits),
+            (2, 0, StartsAfterWaiting),
+            (2, 0, Waits),
+            (4, 0, StartsAfterWaiting),
+            (6, 0, Starts),
+        ]
+    );
+    let dropped = recording(&example("worked/release-dropped"));
+    assert_eq!(with_fate(&dropped, Waits), 4);
+    assert_eq!(fates(&dropped)[5], (5, 0, Dropped));
+    let starts = fates(&dropped)[6..].to_vec();
+    assert_eq!(starts, [12, 23, 34, 45].map(|tick| (tick, 0, StartsAfterWaiting)));
+}
+
+/// The middle and the height of each bar, and the legend's two left out.
+fn bars(picture: &str) -> Vec<(f32, f32)> {
+    let number = |line: &str, name: &str| -> f32 {
+        let start = line.split(&format!("{name}=\"")).nth(1).unwrap();
+        start.split('"').next().unwrap().parse().unwrap()
+    };
+    let lines = picture.lines().filter(|line| line.contains("class=\"bar\""));
+    let middle = |line| (number(line, "x1") + number(line, "x2")) / 2.0;
+    let mut bars: Vec<(f32, f32)> = lines.map(|line| (middle(line), number(line, "y1"))).collect();
+    bars.truncate(bars.len() - 2);
+    bars
+}
+
+/// Ticks are 14 wide from 128 on. A waiting release has its bar below, one that starts above.
+#[test]
+fn waiting_releases_are_drawn() {
+    let picture = |name: &str| draw(&example(name), &Options::default()).unwrap();
+    let waits = bars(&picture("worked/release-waits"));
+    let middles: Vec<f32> = waits.iter().map(|bar| bar.0).collect();
+    assert_eq!(middles, [128.0 + 3.0 * 14.0, 128.0 + 12.0 * 14.0]);
+    assert!(waits[0].1 > waits[1].1);
+    // Before tick 2 one starts and another waits, which stands 9 to its right.
+    let ends = bars(&picture("worked/release-as-a-job-ends"));
+    let middles: Vec<f32> = ends.iter().map(|bar| bar.0).collect();
+    assert_eq!(middles, [142.0, 156.0, 165.0, 184.0]);
+    assert!(ends[1].1 < ends[2].1);
+    assert_eq!(bars(&picture("worked/p5")), []);
+}
+
 #[test]
 fn first_and_last_tick_cut_the_picture() {
     let sheet = example("cold-room");
@@ -148,8 +218,8 @@ fn first_and_last_tick_cut_the_picture() {
     let part = draw(&sheet, &part).unwrap();
     assert!(part.contains("Ticks 50 to 79; the whole run has 279."));
     assert_eq!(cells_drawn(&part), 30);
-    // 44 ticks are idle.
-    assert_eq!(cells_drawn(&whole), 279 - 44);
+    // Ticks 237 to 239 are idle.
+    assert_eq!(cells_drawn(&whole), 279 - 3);
     let beyond = Options { first: 1000, last: 2000, ..Options::default() };
     assert!(draw(&sheet, &beyond).unwrap().contains("No ticks; the whole run has 279."));
     let far_beyond = Options { first: u32::MAX, last: u32::MAX, ..Options::default() };

@@ -25,7 +25,7 @@ fn printed(name: &str) -> String {
 #[test]
 fn every_stored_file_is_made_from_its_text() {
     let names = names().unwrap();
-    assert_eq!(names.len(), 32);
+    assert_eq!(names.len(), 36);
     for name in names {
         for (path, bytes) in made_files(&name).unwrap() {
             let stored = fs::read(&path).unwrap();
@@ -79,10 +79,13 @@ fn hexadecimal(bytes: &[u8]) -> String {
 /// A figure of a report: the start of its line, the place of the number after it, the number.
 type Figure = (&'static str, usize, u32);
 
-/// What the other examples are there to show. R lines begin with the answer; T lines: rejected 2; B lines: values from 1.
+/// What the other examples are there to show. R lines begin with the answer; T lines: jobs 0, rejected 2; B lines: values from 1.
 const OWN: [(&str, &[Figure]); 2] = [
-    // The defrost has begun and compressor 2 runs; the guard's picture is one; one drop.
-    ("cold-room", &[("W 1", 0, 2), ("W 2", 0, 1), ("W 3", 0, 0), ("R 4", 0, 1), ("E", 1, 1)]),
+    // The defrost has begun and compressor 2 runs; the guard's picture is one; all its four releases became jobs.
+    (
+        "cold-room",
+        &[("W 1", 0, 2), ("W 2", 0, 1), ("W 3", 0, 0), ("R 4", 0, 1), ("T 4", 0, 4), ("E", 1, 0)],
+    ),
     // Every update is there, and the move was rejected twice.
     ("contended-transaction", &[("B 0", 1, 464), ("B 1", 1, 1350), ("T 0", 2, 2)]),
 ];

@@ -62,3 +62,9 @@ pub fn task_u() -> Bytes {
     let body = [begin(), get(0, 0, 0), load(1, 1), add(0, 1), put(0, 0, 0), commit()];
     sheet(&[task(), sheet(&body)])
 }
+
+/// Sheet A with these releases beside the one at tick 0.
+pub fn sheet_a_with(ticks: &[u16]) -> Bytes {
+    let more: Bytes = ticks.iter().flat_map(|&tick| release(tick, 0)).collect();
+    sheet(&[word(12), task_of_sheet_a(), release(0, 0), more, end()])
+}

@@ -18,6 +18,8 @@ const CELL_HEIGHT: f32 = 48.0;
 const SCALE_HEIGHT: f32 = 16.0;
 /// The height of a row's middle where its task does not run in the band.
 const EMPTY_HEIGHT: f32 = 8.0;
+/// How far a release stands beside one that waited and starts in the same tick.
+const BESIDE: f32 = 9.0;
 /// The room above the cells for releases and commits, and below them for restarts.
 const ABOVE: f32 = 15.0;
 const BELOW: f32 = 8.0;
@@ -129,19 +131,19 @@ impl Band<'_> {
         // The name is in bold, so it takes more room than its width says.
         let name = shortened(&self.names.of(Subject::Task(task)), LEFT - 24.0);
         svg.text("task", 4.0, middle + 3.0, &name);
-        let waits = |tick: usize| self.recording.ticks[tick].waiting.contains(&task);
-        for run in runs(self.ticks.clone(), waits) {
-            marks::waiting(svg, self.x(run.start), self.x(run.end), middle);
+        let preempted = |tick: usize| self.recording.ticks[tick].preempted.contains(&task);
+        for run in runs(self.ticks.clone(), preempted) {
+            marks::preempted(svg, self.x(run.start), self.x(run.end), middle);
         }
         for (tick, recorded) in self.recorded() {
             if let Some(done) = recorded.done.as_ref().filter(|done| done.task == task) {
                 self.draw_cell(svg, tick, done);
             }
-            if recorded.started.contains(&task) {
-                marks::release(svg, self.x(tick), top - 1.0);
-            }
-            if recorded.dropped.contains(&task) {
-                marks::drop(svg, self.x(tick), top - 1.0);
+            let releases = recorded.releases.iter().filter(|release| release.0 == task);
+            // One may arrive where one that waited starts: then they stand side by side.
+            for (number, (_, fate)) in releases.enumerate() {
+                let x = self.x(tick) + BESIDE * number as f32;
+                marks::release(svg, *fate, x, top - 1.0);
             }
         }
     }

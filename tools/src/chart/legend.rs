@@ -1,5 +1,7 @@
 //! The legend: the kinds of statements with their colours, and the signs.
 
+use simulator::observer::Fate;
+
 use super::marks;
 use super::statement::Kind;
 use super::svg::Svg;
@@ -13,16 +15,28 @@ const INDENT: f32 = 34.0;
 type Sign = fn(&mut Svg, f32, f32);
 
 /// Each sign is drawn around a point; the explanations are document 01's words where it has them.
-const SIGNS: [(Sign, &str); 8] = [
-    (|svg, x, y| marks::release(svg, x, y + 6.0), "a release starts a job before the tick"),
-    (|svg, x, y| marks::drop(svg, x, y + 6.0), "a release is dropped: the job is unfinished"),
-    (|svg, x, y| marks::waiting(svg, x - 12.0, x + 12.0, y), "a job waits for a higher task"),
+const SIGNS: [(Sign, &str); 10] = [
+    (|svg, x, y| release(svg, Fate::Starts, x, y), "a release starts a job before the tick"),
+    (|svg, x, y| release(svg, Fate::Waits, x, y), "a release waits: the job is unfinished"),
+    (
+        |svg, x, y| release(svg, Fate::StartsAfterWaiting, x, y),
+        "a release that waited starts its job",
+    ),
+    (|svg, x, y| release(svg, Fate::Dropped, x, y), "a release is dropped: four wait already"),
+    (
+        |svg, x, y| marks::preempted(svg, x - 12.0, x + 12.0, y),
+        "the job is unfinished, a higher task runs",
+    ),
     (|svg, x, y| marks::commit(svg, x, y + 6.0, true), "Commit turns status 0 into 2: yes"),
     (|svg, x, y| marks::commit(svg, x, y + 6.0, false), "Commit finds status 1: no"),
     (|svg, x, y| marks::restart(svg, x + 6.0, y - 4.0), "the transaction restarts"),
     (|svg, x, y| marks::job_end(svg, x + 1.3, y - 4.0, 8.0), "the job ends"),
     (marks::change, "a current value changes"),
 ];
+
+fn release(svg: &mut Svg, fate: Fate, x: f32, y: f32) {
+    marks::release(svg, fate, x, y + 6.0);
+}
 
 /// Draws the legend from `top` on in as many columns as fit, and returns its lower edge.
 pub fn draw(svg: &mut Svg, top: f32, width: f32) -> f32 {

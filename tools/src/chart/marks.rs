@@ -1,19 +1,31 @@
 //! The small signs of the chart, each drawn once for the rows and for the legend.
 
+use simulator::observer::Fate;
+
 use super::svg::Svg;
 
+/// A release at (x, y): an arrow where it starts a job, crossed out where it is dropped. One that
+/// waits stops at a bar, and its arrow comes from a bar where it starts at last.
+pub fn release(svg: &mut Svg, fate: Fate, x: f32, y: f32) {
+    match fate {
+        Fate::Starts => arrow(svg, "arrow", x, y),
+        Fate::Waits => {
+            svg.line("arrow", (x, y - 12.0), (x, y - 4.0));
+            svg.line("bar", (x - 3.5, y - 3.5), (x + 3.5, y - 3.5));
+        }
+        Fate::StartsAfterWaiting => {
+            svg.line("bar", (x - 3.5, y - 12.0), (x + 3.5, y - 12.0));
+            arrow(svg, "arrow", x, y);
+        }
+        Fate::Dropped => {
+            arrow(svg, "dropped", x, y);
+            svg.line("cross", (x - 3.5, y - 12.0), (x + 3.5, y - 3.0));
+            svg.line("cross", (x - 3.5, y - 3.0), (x + 3.5, y - 12.0));
+        }
+    }
+}
+
 /// An arrow that points down at (x, y).
-pub fn release(svg: &mut Svg, x: f32, y: f32) {
-    arrow(svg, "arrow", x, y);
-}
-
-/// The same arrow, crossed out.
-pub fn drop(svg: &mut Svg, x: f32, y: f32) {
-    arrow(svg, "dropped", x, y);
-    svg.line("cross", (x - 3.5, y - 12.0), (x + 3.5, y - 3.0));
-    svg.line("cross", (x - 3.5, y - 3.0), (x + 3.5, y - 12.0));
-}
-
 fn arrow(svg: &mut Svg, class: &str, x: f32, y: f32) {
     svg.line(class, (x, y - 12.0), (x, y - 4.0));
     svg.polygon(class, &[(x - 3.0, y - 5.0), (x + 3.0, y - 5.0), (x, y)]);
@@ -37,8 +49,8 @@ pub fn job_end(svg: &mut Svg, x: f32, y: f32, height: f32) {
 }
 
 /// A job that is unfinished and does not run.
-pub fn waiting(svg: &mut Svg, from: f32, to: f32, y: f32) {
-    svg.line("waiting", (from, y), (to, y));
+pub fn preempted(svg: &mut Svg, from: f32, to: f32, y: f32) {
+    svg.line("preempted", (from, y), (to, y));
 }
 
 /// The current value changes.

@@ -1,7 +1,7 @@
 //! What happened in each tick of a run, recorded for the chart.
 
 use simulator::machine::Machine;
-use simulator::observer::{Event, NoObserver, Observer, Statement};
+use simulator::observer::{Event, Fate, NoObserver, Observer, Statement};
 use simulator::sheet::{Block, Sheet};
 use simulator::transaction::{bank_word, store_of, version_of};
 use simulator::TOP_LIMIT;
@@ -32,13 +32,20 @@ pub struct Done {
 pub struct Tick {
     /// Nothing in an idle tick.
     pub done: Option<Done>,
-    /// The tasks whose release started a job, and those whose release was dropped.
-    pub started: Vec<usize>,
-    pub dropped: Vec<usize>,
-    /// The tasks with an unfinished job that had to wait.
-    pub waiting: Vec<usize>,
+    /// What became of the releases before the statement, each with its task.
+    pub releases: Vec<(usize, Fate)>,
+    /// The tasks with an unfinished job below the one that ran.
+    pub preempted: Vec<usize>,
     /// The contents after the tick.
     pub after: Contents,
+}
+
+impl Tick {
+    /// Those of its tasks whose release had this fate.
+    pub fn tasks_with(&self, fate: Fate) -> impl Iterator<Item = usize> + '_ {
+        let found = self.releases.iter().filter(move |release| release.1 == fate);
+        found.map(|release| release.0)
+    }
 }
 
 /// A part of a run.
@@ -76,16 +83,11 @@ impl Recording {
 fn record_tick(machine: &mut Machine, tick: u32) -> Option<Tick> {
     let tasks = machine.sheet.bodies.len();
     let standings: Vec<Standing> = (0..tasks).map(|task| Standing::of(machine, task)).collect();
-    let unfinished_before = machine.unfinished;
     let mut observed = Observed::default();
     machine.run(tick + 1, &mut observed);
     if machine.tick == tick {
         return None;
     }
-    let releases = machine.sheet.releases.iter().filter(|release| u32::from(release.tick) == tick);
-    let released: Vec<usize> = releases.map(|release| release.task.into()).collect();
-    let dropped = observed.dropped;
-    let started: Vec<usize> = released.into_iter().filter(|task| !dropped.contains(task)).collect();
     let done = observed.statement.map(|(task, statement)| Done {
         task,
         statement,
@@ -95,9 +97,10 @@ fn record_tick(machine: &mut Machine, tick: u32) -> Option<Tick> {
         ends_job: machine.unfinished & 1 << task == 0,
     });
     let ran = |task: usize| done.as_ref().is_some_and(|done| done.task == task);
-    let has_job = |task: &usize| unfinished_before & 1 << task != 0 || started.contains(task);
-    let waiting = (0..tasks).filter(|task| has_job(task) && !ran(*task)).collect();
-    Some(Tick { done, started, dropped, waiting, after: contents(machine) })
+    // Only the task that ran can have lost its job in this tick.
+    let has_job = |task: &usize| machine.unfinished & 1 << task != 0;
+    let preempted = (0..tasks).filter(|task| has_job(task) && !ran(*task)).collect();
+    Some(Tick { done, releases: observed.releases, preempted, after: contents(machine) })
 }
 
 fn contents(machine: &Machine) -> Contents {
@@ -118,7 +121,7 @@ struct Observed {
     statement: Option<(usize, Statement)>,
     commit: Option<bool>,
     restarts: bool,
-    dropped: Vec<usize>,
+    releases: Vec<(usize, Fate)>,
 }
 
 impl Observer for Observed {
@@ -135,7 +138,7 @@ impl Observer for Observed {
         }
     }
 
-    fn dropped(&mut self, _tick: u32, task: usize) {
-        self.dropped.push(task);
+    fn release(&mut self, _tick: u32, task: usize, fate: Fate) {
+        self.releases.push((task, fate));
     }
 }

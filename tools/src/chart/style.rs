@@ -22,11 +22,12 @@ text { font-family: Helvetica, Arial, 'Liberation Sans', 'DejaVu Sans', sans-ser
 .arrow { stroke: #000; stroke-width: 1; fill: #000; }
 .dropped { stroke: #888; fill: #888; }
 .cross { stroke: #000; stroke-width: 1.6; }
+.bar { stroke: #000; stroke-width: 2; }
 .change, .yes { fill: #000; }
 .no { fill: #fff; stroke: #000; stroke-width: 1.4; }
 .back { stroke: #000; stroke-width: 1.2; }
 .back-head, .job-end { fill: #000; }
-.waiting { stroke: #555; stroke-width: 1.4; stroke-dasharray: 2 3; }
+.preempted { stroke: #555; stroke-width: 1.4; stroke-dasharray: 2 3; }
 .level { stroke: #999; stroke-width: 0.8; }
 ";
 
