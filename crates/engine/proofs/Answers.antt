@@ -12,6 +12,7 @@ use Rattle.model.specs.Answer as M
 use Rattle.model.specs.Answer.{Checked, checkAnswer, runAnswer, answeredBy, limitedBy, written, refuse, reportOf}
 use Rattle.model.proofs.Demand3.Theorem.{demand-3}
 use Rattle.model.proofs.Rates.Theorem.{rates}
+use Rattle.model.proofs.Waiting.{waits}
 use Rattle.commands.specs.View.{viewRefusal}
 use Rattle.sheet.specs.View.{viewVerdict, checkedOf}
 use Rattle.commands.specs.declared.Fault.{Fault}
@@ -60,6 +61,7 @@ module _ (s : List ℕ) (limit : ℕ) (b : List ℕ) where
         buffer = sym (ap (λ (a : M.Answer). a .buffer) e);
         whole = demand-3 s limit;
         rates = rates s limit;
+        waits = waits s limit;
       }
 
   pub run-refused : (f : Fault) → viewVerdict (TurnedDown f) ≡ verdict s → RunsFor s limit b b (answerOf f .number) (answerOf f .place)

@@ -1,12 +1,12 @@
 -- What the parts of the run's loops ensure makes a release or a tick of the flat machine, and the loop's rest the run's.
-use Prim.Native.Nat.{ℕ, suc, _+_, _%_, _<_, _≤_}
+use Prim.Native.Nat.{ℕ, _+_, _%_, _<_, _≤_}
 use mathlib.Core.Path.{_≡_, refl, sym, ap, _∙_, subst}
 use mathlib.Core.Bool.{Bool, true, false, false≢true, _&&_, _||_}
 use mathlib.Core.Logic.{_⊎_, inl, inr}
 use mathlib.Core.List.{List, [], map}
 use native.Mathlib.Omega.{arith}
-use borrow.Author.Tests.{eq-eqb, ne-eqb, ltb-true, ltb-false}
-use lib.Dec.{eqb, ltb}
+use borrow.Author.Tests.{ne-eqb, ltb-true, ltb-false}
+use lib.Dec.{ltb}
 use lib.ListN.{length, getD, set}
 use lib.Seq.{set-getD, set-set, getD-set-same}
 use Rattle.model.specs.Lists.{at, replace}
@@ -24,17 +24,33 @@ use Rattle.machine.specs.Flat.{
   stopsBy,
   topOf,
   droppedBy,
+  waitingBy,
   begunBy,
   zeroedBy,
   startedBy,
   finished,
   tickOf,
   leftBy,
+  readyBy,
   FlatMachine,
   flat,
   noJob,
 }
-use Rattle.machine.specs.Flat.{pendingAt, comingFor, comingBy, untilBy, untilOf, released, ticked, comingIn, Ends, stopped, arrives, moves}
+use Rattle.machine.specs.Flat.{
+  pendingAt,
+  nobody,
+  comingFor,
+  comingBy,
+  untilBy,
+  untilOf,
+  released,
+  ticked,
+  comingIn,
+  Ends,
+  stopped,
+  arrives,
+  moves,
+}
 use Rattle.machine.specs.declared.releases.Pending.{Pending}
 use Rattle.machine.specs.declared.releases.Coming.{Coming}
 use Rattle.machine.specs.declared.releases.Coming.the-variants.{Nothing, Later, Due}
@@ -62,30 +78,31 @@ module _ (sheet : List ℕ) (program : List BodyCommand) (bounds : List ℕ) (li
   pub same-machine : v ≡ w → (u : FlatMachine) → Ends sheet program bounds limit v u → Ends sheet program bounds limit w u
   same-machine e u r = subst (λ (x : FlatMachine). Ends sheet program bounds limit x u) e r
 
-module _ (m : Shared) (ts : List Own) (jobs : List Job) (k : Job) (n r t d p q : ℕ) where
-  pub switched : flat m ts (set (set jobs p k) q (getD (set jobs p k) q noJob)) n r t d ≡ flat m ts (set jobs p k) n r t d
+module _ (m : Shared) (ts : List Own) (jobs : List Job) (k : Job) (n : ℕ) (ws : List ℕ) (y r t d p q : ℕ) where
+  pub switched : flat m ts (set (set jobs p k) q (getD (set jobs p k) q noJob)) n ws y r t d ≡ flat m ts (set jobs p k) n ws y r t d
   switched = rw (set-getD (set jobs p k) q noJob)
 
 -- the job of task 0 taken out of the jobs and held apart is still the same machine
 pub resumed : (sheet : List ℕ) (program : List BodyCommand) (bounds : List ℕ) (limit : ℕ) (m : Shared) (ts : List Own) (js : List Job)
-    (n r t d : ℕ) (u : FlatMachine) → Ends sheet program bounds limit (flat m ts (set js 0 (getD js 0 noJob)) n r t d) u
-    → Ends sheet program bounds limit (flat m ts js n r t d) u
-resumed sheet program bounds limit m ts js n r t d u e = rw (set-getD js 0 noJob) at e
+    (n : ℕ) (ws : List ℕ) (y r t d : ℕ) (u : FlatMachine) → Ends sheet program bounds limit (flat m ts (set js 0 (getD js 0 noJob)) n ws y r t d) u
+    → Ends sheet program bounds limit (flat m ts js n ws y r t d) u
+resumed sheet program bounds limit m ts js n ws y r t d u e = rw (set-getD js 0 noJob) at e
 
 -- A RELEASE
-module _ (bounds : List ℕ) (m : Shared) (ts : List (List ℕ)) (jobs : List Job) (k : Job) (n r t d task next : ℕ) where
-  pub release-turn : (q p : ℕ) (z : List ℕ) {n' d' line : ℕ} {j : Job}
+module _ (bounds : List ℕ) (m : Shared) (ts : List (List ℕ)) (jobs : List Job) (k : Job) (n : ℕ) (ws : List ℕ) (y r t d task next : ℕ) where
+  pub release-turn : (q p : ℕ) (z : List ℕ) {n' b d' line : ℕ} {j : Job}
       → p ≡ task % 8
-      → d' ≡ droppedBy (unfinished? (getD (set jobs q k) p noJob .phase)) d
+      → d' ≡ droppedBy (unfinished? (getD (set jobs q k) p noJob .phase)) (getD ws p 0) d
+      → b ≡ waitingBy (unfinished? (getD (set jobs q k) p noJob .phase)) (getD ws p 0)
       → n' ≡ begunBy (unfinished? (getD (set jobs q k) p noJob .phase)) n p
       → own z ≡ zeroedBy (unfinished? (getD (set jobs q k) p noJob .phase)) (own (getD ts p []))
       → line ≡ at 0 bounds p
       → j ≡ startedBy (unfinished? (getD (set jobs q k) p noJob .phase)) (getD (set jobs q k) p noJob) line
-      → flat m (map own (set ts p z)) (set (set jobs q k) p j) n' next t d'
-      ≡ released bounds (flat m (map own ts) (set jobs q k) n r t d) task next
+      → flat m (map own (set ts p z)) (set (set jobs q k) p j) n' (set ws p b) nobody next t d'
+      ≡ released bounds (flat m (map own ts) (set jobs q k) n ws y r t d) task next
   unfolding released
-  release-turn q p z e1 e2 e3 e4 e5 e6 =
-      rw (e2, e3, e6, e5, record-set ts p z _ e4, ← record-at ts p, e1)
+  release-turn q p z e1 e2 e3 e4 e5 e6 e7 =
+      rw (e2, e3, e4, e7, e6, record-set ts p z _ e5, ← record-at ts p, e1)
 
 -- A TICK
 -- a statement, closed and counted
@@ -113,42 +130,51 @@ module _ (program : List BodyCommand) (m : Shared) (t : Own) (p : ℕ) (k : Job)
   unfolding statement
   step-statement e = rw e
 
-module _ (program : List BodyCommand) (bounds : List ℕ) (m : Shared) (ts : List (List ℕ)) (jobs : List Job) (k : Job) (n r t d p : ℕ) where
+module _ (program : List BodyCommand) (bounds : List ℕ) (m : Shared) (ts : List (List ℕ)) (jobs : List Job) (k : Job) (n : ℕ) (ws : List ℕ)
+    (y r t d p : ℕ) where
   abbrev after : Left Job → FlatMachine
   after l =
-      flat (l .memory) (set (map own ts) p (l .task)) (set (set jobs p k) p (l .next)) (leftBy (unfinished? (l .next .phase)) n p) r (t + 1) d
+      flat (l .memory) (set (map own ts) p (l .task)) (set (set jobs p k) p (l .next)) (leftBy (unfinished? (l .next .phase)) n p) ws
+      (readyBy (unfinished? (l .next .phase)) (getD ws p 0) p y) r (t + 1) d
 
   tick-turn : (x : List ℕ) {end : ℕ} {m' : Shared} {j : Job}
       → (n ≡ 0 → ⊥) → p ≡ topOf 8 n → p < length jobs → end ≡ at 0 bounds (p + 1)
       → left j m' (own x) ≡ tickOf end (statement program m (own (getD ts p [])) p k)
-      → flat m' (map own (set ts p x)) (set jobs p j) (leftBy (unfinished? (j .phase)) n p) r (t + 1) d
-      ≡ ticked program bounds (flat m (map own ts) (set jobs p k) n r t d)
+      → flat m' (map own (set ts p x)) (set jobs p j) (leftBy (unfinished? (j .phase)) n p) ws
+      (readyBy (unfinished? (j .phase)) (getD ws p 0) p y) r (t + 1) d
+      ≡ ticked program bounds (flat m (map own ts) (set jobs p k) n ws y r t d)
   unfolding ticked
   tick-turn x {end = end} {m' = m'} {j = j} work top lt e1 e2 =
       rw (record-set ts p x (own x) refl, ← set-set jobs p k j) (ap after e2 ∙ is-ticked)
     where
       is-ticked : after (tickOf end (statement program m (own (getD ts p [])) p k)) ≡ ticked program bounds
-          (flat m (map own ts) (set jobs p k) n r t d)
+          (flat m (map own ts) (set jobs p k) n ws y r t d)
       is-ticked = rw (ne-eqb n 0 work, ← top, getD-set-same jobs p k noJob lt, record-at ts p, ← e1)
 
-pub pass-turn : (program : List BodyCommand) (bounds : List ℕ) (m : Shared) (ts : List Own) (jobs : List Job) (n r t d : ℕ) → n ≡ 0
-    → flat m ts jobs n r (t + 1) d ≡ ticked program bounds (flat m ts jobs n r t d)
-unfolding ticked
-pass-turn program bounds m ts jobs n r t d e = rw (eq-eqb n 0 e)
+-- THE RUN'S STEPS, by the next release, decoded once
+module _ (sheet : List ℕ) (program : List BodyCommand) (bounds : List ℕ) (limit : ℕ) (w : FlatMachine) (q : Pending)
+    (here : q ≡ pendingAt (commandAt sheet (w .place))) where
+  abbrev coming : Coming
+  coming = comingBy (w .ready) (w .place) q (w .ticks)
 
--- THE RUN'S STEPS
-module _ (sheet : List ℕ) (program : List BodyCommand) (bounds : List ℕ) (limit : ℕ) (w v : FlatMachine) {c : Coming} where
-  pub after-release : (task next : ℕ) → w .ticks < limit → c ≡ comingIn sheet w → c ≡ Due task next → v ≡ released bounds w task next
+  comes : coming ≡ comingIn sheet w
+  comes = ap (λ (z : Pending). comingBy (w .ready) (w .place) z (w .ticks)) here
+
+  pub after-release : (v : FlatMachine) {c : Coming} (task next : ℕ) → w .ticks < limit → c ≡ coming → c ≡ Due task next
+      → v ≡ released bounds w task next
       → (u : FlatMachine) → Ends sheet program bounds limit v u → Ends sheet program bounds limit w u
-  after-release task next lt e1 e2 e3 u r =
-      arrives task next lt (sym e1 ∙ e2) (subst (λ (x : FlatMachine). Ends sheet program bounds limit x u) e3 r)
+  after-release v task next lt e1 e2 e3 u r =
+      arrives task next lt (sym comes ∙ sym e1 ∙ e2) (subst (λ (x : FlatMachine). Ends sheet program bounds limit x u) e3 r)
 
-  pub after-tick : w .ticks < limit → c ≡ comingIn sheet w → ((task next : ℕ) → c ≡ Due task next → ⊥) → stopsBy c (w .mask) ≡ false
+  pub after-tick : (v : FlatMachine) → w .ticks < limit → ((task next : ℕ) → coming ≡ Due task next → ⊥) → stopsBy coming (w .mask) ≡ false
       → v ≡ ticked program bounds w
       → (u : FlatMachine) → Ends sheet program bounds limit v u → Ends sheet program bounds limit w u
-  after-tick lt e1 other e2 e3 u r =
-      moves lt (λ task next q. other task next (e1 ∙ q)) (sym (ap (λ (x : Coming). stopsBy x (w .mask)) e1) ∙ e2)
-      (subst (λ (x : FlatMachine). Ends sheet program bounds limit x u) e3 r)
+  after-tick v lt other e1 e2 u r =
+      moves lt (λ task next e. other task next (comes ∙ e)) (sym (ap (λ (x : Coming). stopsBy x (w .mask)) comes) ∙ e1)
+      (subst (λ (x : FlatMachine). Ends sheet program bounds limit x u) e2 r)
+
+  pub after-stop : {c : Coming} → c ≡ coming → stopsBy c (w .mask) ≡ true → Ends sheet program bounds limit w w
+  after-stop e1 e2 = stopped (sym (ap (λ (x : Coming). stopsBy x (w .mask)) (e1 ∙ comes)) ∙ e2)
 
 -- WHILE ONE TASK RUNS
 -- somebody has work
@@ -184,8 +210,16 @@ module _ (q : Pending) (limit t : ℕ) where
       later e = let z : _≡_ {A = ℕ} 0 1 = cc in omega arith
   nothing-due false h task next e = let z : _≡_ {A = ℕ} 0 1 = cc in omega arith
 
-  pub until-due : t < untilOf q limit → (task next : ℕ) → comingBy q t ≡ Due task next → ⊥
-  until-due h task next e = nothing-due (q .some) h task next e
+  pub until-due : (y r : ℕ) → ltb y nobody ≡ false → t < untilOf q limit → (task next : ℕ) → comingBy y r q t ≡ Due task next → ⊥
+  until-due y r none h task next e = nothing-due (q .some) h task next (rw none at e)
+
+-- where nothing is due, nobody's job has ended with a release waiting
+pub none-ready : (y r : ℕ) (q : Pending) (t : ℕ) → ((task next : ℕ) → comingBy y r q t ≡ Due task next → ⊥) → ltb y nobody ≡ false
+none-ready y r q t h = by (ltb y nobody) refl
+  where
+    by : (b : Bool) → ltb y nobody ≡ b → ltb y nobody ≡ false
+    by true e = absurd (h y r (rw e))
+    by false e = e
 
 both : (a b : Bool) → a && b ≡ true → b ≡ true
 both true b e = e
@@ -197,21 +231,18 @@ goes-before f t until e h = ltb-true t until (both (unfinished? f) (ltb t until)
 
 -- one statement more
 module _ (sheet : List ℕ) (program : List BodyCommand) (bounds : List ℕ) (limit : ℕ) (m : Shared) (ts : List (List ℕ)) (jobs : List Job) (k : Job)
-    (n r t d p : ℕ) (q : Pending) where
+    (n : ℕ) (ws : List ℕ) (y r t d p : ℕ) (q : Pending) where
   pub stretch : (x : List ℕ) (until : ℕ) {ts' : List (List ℕ)} {end : ℕ} {m' : Shared} {j : Job} {b : Bool}
       → (n ≡ 0 → ⊥) → p ≡ topOf 8 n → p < length jobs → end ≡ at 0 bounds (p + 1)
-      → t < limit → q ≡ pendingAt (commandAt sheet r) → ((task next : ℕ) → comingBy q t ≡ Due task next → ⊥)
+      → t < limit → q ≡ pendingAt (commandAt sheet r) → ((task next : ℕ) → comingBy y r q t ≡ Due task next → ⊥)
       → ts' ≡ set ts p x → left j m' (own x) ≡ tickOf end (statement program m (own (getD ts p [])) p k)
       → b ≡ (unfinished? (j .phase) && ltb (t + 1) until)
       → (u : FlatMachine)
-      → Ends sheet program bounds limit (flat m' (map own ts') (set jobs p j) (leftBy (b || unfinished? (j .phase)) n p) r (t + 1) d) u
-      → Ends sheet program bounds limit (flat m (map own ts) (set jobs p k) n r t d) u
+      → Ends sheet program bounds limit
+      (flat m' (map own ts') (set jobs p j) (leftBy (b || unfinished? (j .phase)) n p) ws
+      (readyBy (b || unfinished? (j .phase)) (getD ws p 0) p y) r (t + 1) d) u
+      → Ends sheet program bounds limit (flat m (map own ts) (set jobs p k) n ws y r t d) u
   stretch x until {j = j} work top lt e1 more e2 due e3 e4 e5 u e =
-      after-tick sheet program bounds limit _ _ more (ap (λ (z : Pending). comingBy z t) e2) due (on-work (comingBy q t) n work)
-      (tick-turn program bounds m ts jobs k n r t d p x work top lt e1 e4) u
+      after-tick sheet program bounds limit _ q e2 _ more due (on-work (comingBy y r q t) n work)
+      (tick-turn program bounds m ts jobs k n ws y r t d p x work top lt e1 e4) u
       (rw (e3, e5, going (unfinished? (j .phase)) (ltb (t + 1) until)) at e)
-
-pub after-stop : (sheet : List ℕ) (program : List BodyCommand) (bounds : List ℕ) (limit : ℕ) (w : FlatMachine) {c : Coming}
-    → c ≡ comingIn sheet w → stopsBy c (w .mask) ≡ true
-    → Ends sheet program bounds limit w w
-after-stop sheet program bounds limit w e1 e2 = stopped (sym (ap (λ (x : Coming). stopsBy x (w .mask)) e1) ∙ e2)

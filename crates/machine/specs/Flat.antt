@@ -1,11 +1,13 @@
--- THE FLAT MACHINE, the code's: what all tasks share, each task's own record and job, the mask of unfinished jobs, the place of the next
--- release in the sheet, the ticks done and the releases dropped.
+-- THE FLAT MACHINE, the code's: what all tasks share, each task's own record and job, the mask of unfinished jobs, how many releases wait
+-- behind each job, the task whose job has ended with one waiting, the place of the next release in the sheet, the ticks done and the
+-- releases dropped.
 use Prim.Native.Nat.{ℕ, zero, suc, _+_, _-_, _/_, _%_, _^_, _<_, _≤_}
 use mathlib.Core.Path.{_≡_}
 use mathlib.Core.Bool.{Bool, true, false, _&&_}
 use mathlib.Core.List.{List, []}
 use lib.Dec.{eqb, ltb}
 use lib.ListN.{getD, set, replicate}
+use Rattle.model.specs.Ceilings.{maxTasks, maxWaiting}
 use Rattle.model.specs.Lists.{at}
 use Rattle.model.specs.Command as M
 use Rattle.commands.specs.declared.Command.{Command}
@@ -65,8 +67,16 @@ abbrev pub comingFor : Bool → Pending → ℕ → Coming
 comingFor true q tick = dueBy (eqb (q .tick) tick) (q .task) (q .after)
 comingFor false q tick = Nothing
 
-abbrev pub comingBy : Pending → ℕ → Coming
-comingBy q tick = comingFor (q .some) q tick
+abbrev pub comingOf : Pending → ℕ → Coming
+comingOf q tick = comingFor (q .some) q tick
+
+-- no task: no number of one
+abbrev pub nobody : ℕ
+nobody = maxTasks
+
+-- WHAT COMES NEXT: ahead of a tick's releases, one that waits behind a job that has ended
+abbrev pub comingBy : ℕ → ℕ → Pending → ℕ → Coming
+comingBy ready place q tick = if (ltb ready nobody) (Due ready place) (comingOf q tick)
 
 abbrev pub stopsBy : Coming → ℕ → Bool
 stopsBy Nothing mask = eqb mask 0
@@ -81,6 +91,10 @@ untilBy false q limit = limit
 abbrev pub untilOf : Pending → ℕ → ℕ
 untilOf q limit = untilBy (q .some) q limit
 
+-- the tick after an idle one: all before a release's are idle
+abbrev pub idledBy : Pending → ℕ → ℕ → ℕ
+idledBy q tick limit = if (ltb tick (untilOf q limit)) (untilOf q limit) (tick + 1)
+
 -- the highest of the tasks below k that a mask has, 0 for none
 unfoldable pub topOf : ℕ → ℕ → ℕ
 topOf zero m = 0
@@ -92,12 +106,15 @@ pub record FlatMachine : Type 0 where
   pub tasks : List Own
   pub jobs : List Job
   pub mask : ℕ
+  pub waiting : List ℕ
+  pub ready : ℕ
   pub place : ℕ
   pub ticks : ℕ
   pub dropped : ℕ
 
-abbrev pub flat : Shared → List Own → List Job → ℕ → ℕ → ℕ → ℕ → FlatMachine
-flat m ts js k r n d = record { memory = m; tasks = ts; jobs = js; mask = k; place = r; ticks = n; dropped = d }
+abbrev pub flat : Shared → List Own → List Job → ℕ → List ℕ → ℕ → ℕ → ℕ → ℕ → FlatMachine
+flat m ts js k ws y r n d =
+    record { memory = m; tasks = ts; jobs = js; mask = k; waiting = ws; ready = y; place = r; ticks = n; dropped = d }
 
 abbrev pub noJob : Job
 noJob = job P.Idle 0 0 0 0 0
@@ -108,10 +125,19 @@ jobOf w p = getD (w .jobs) p noJob
 abbrev pub ownOf : FlatMachine → ℕ → Own
 ownOf w p = getD (w .tasks) p (own [])
 
--- A RELEASE to task p arrives. By: the task's job is unfinished. Then it is dropped and counted, else a job starts with all registers 0.
-abbrev pub droppedBy : Bool → ℕ → ℕ
-droppedBy true n = (n + 1) % 4294967296
-droppedBy false n = n
+-- how many releases wait behind the job of task p
+abbrev pub waitingCount : FlatMachine → ℕ → ℕ
+waitingCount w p = getD (w .waiting) p 0
+
+-- A RELEASE to task p arrives. By: the task's job is unfinished. Then it waits, or is dropped and counted where as many wait as may;
+-- else a job starts with all registers 0, and one fewer waits if any did.
+abbrev pub droppedBy : Bool → ℕ → ℕ → ℕ
+droppedBy true waiting n = if (ltb waiting maxWaiting) n ((n + 1) % 4294967296)
+droppedBy false waiting n = n
+
+abbrev pub waitingBy : Bool → ℕ → ℕ
+waitingBy true waiting = if (ltb waiting maxWaiting) (waiting + 1) waiting
+waitingBy false waiting = waiting - 1
 
 abbrev pub begunBy : Bool → ℕ → ℕ → ℕ
 begunBy true mask i = mask
@@ -134,9 +160,11 @@ releasedBy bounds w p next j =
     (set (w .tasks) p (zeroedBy (unfinished? (j .phase)) (ownOf w p)))
     (set (w .jobs) p (startedBy (unfinished? (j .phase)) j (at 0 bounds p)))
     (begunBy (unfinished? (j .phase)) (w .mask) p)
+    (set (w .waiting) p (waitingBy (unfinished? (j .phase)) (waitingCount w p)))
+    nobody
     next
     (w .ticks)
-    (droppedBy (unfinished? (j .phase)) (w .dropped))
+    (droppedBy (unfinished? (j .phase)) (waitingCount w p) (w .dropped))
 
 unfoldable pub released : List ℕ → FlatMachine → ℕ → ℕ → FlatMachine
 released bounds w task next = releasedBy bounds w (task % 8) next (jobOf w (task % 8))
@@ -162,6 +190,11 @@ abbrev pub leftBy : Bool → ℕ → ℕ → ℕ
 leftBy true mask i = mask
 leftBy false mask i = mask - 2 ^ i
 
+-- the task that ran, if its job has ended and a release waits behind it
+abbrev pub readyBy : Bool → ℕ → ℕ → ℕ → ℕ
+readyBy true waiting p ready = ready
+readyBy false waiting p ready = if (eqb waiting 0) ready p
+
 -- task p has done a statement that left the shared memory so, its own record and its job
 abbrev pub tickedWith : FlatMachine → ℕ → Shared → Noted Job → FlatMachine
 tickedWith w p m c =
@@ -169,6 +202,8 @@ tickedWith w p m c =
     (set (w .tasks) p (counted (c .task) ticks))
     (set (w .jobs) p (c .next))
     (leftBy (unfinished? (c .next .phase)) (w .mask) p)
+    (w .waiting)
+    (readyBy (unfinished? (c .next .phase)) (waitingCount w p) p (w .ready))
     (w .place)
     (w .ticks + 1)
     (w .dropped)
@@ -182,7 +217,7 @@ tickedFor program bounds w p = tickedBy (at 0 bounds (p + 1)) w p (statement pro
 
 -- a tick in which nobody has work
 abbrev pub passed : FlatMachine → FlatMachine
-passed w = flat (w .memory) (w .tasks) (w .jobs) (w .mask) (w .place) (w .ticks + 1) (w .dropped)
+passed w = flat (w .memory) (w .tasks) (w .jobs) (w .mask) (w .waiting) (w .ready) (w .place) (w .ticks + 1) (w .dropped)
 
 -- the highest task with an unfinished job does one statement; with none the tick passes
 unfoldable pub ticked : List BodyCommand → List ℕ → FlatMachine → FlatMachine
@@ -190,7 +225,7 @@ ticked program bounds w = if (eqb (w .mask) 0) (passed w) (tickedFor program bou
 
 -- THE RUN
 abbrev pub comingIn : List ℕ → FlatMachine → Coming
-comingIn sheet w = comingBy (pendingAt (M.commandAt sheet (w .place))) (w .ticks)
+comingIn sheet w = comingBy (w .ready) (w .place) (pendingAt (M.commandAt sheet (w .place))) (w .ticks)
 
 -- the run of a program, whose bodies lie within those bounds, from one machine ends in another
 pub data Ends (sheet : List ℕ) (program : List BodyCommand) (bounds : List ℕ) (limit : ℕ)
@@ -206,8 +241,9 @@ pub data Ends (sheet : List ℕ) (program : List BodyCommand) (bounds : List ℕ
 
 -- a run between two ticks, with its records
 abbrev pub flatIn : Shared → List Own → Paused → FlatMachine
-flatIn m ts q = flat m ts (q .jobs) (q .mask) (q .place) (q .ticks) (q .dropped)
+flatIn m ts q = flat m ts (q .jobs) (q .mask) (q .waiting) (q .ready) (q .place) (q .ticks) (q .dropped)
 
 -- no job has run
 abbrev pub pausedAt : ℕ → Paused
-pausedAt place = record { jobs = replicate 8 noJob; mask = 0; place = place; ticks = 0; dropped = 0 }
+pausedAt place =
+    record { jobs = replicate 8 noJob; mask = 0; waiting = replicate 8 0; ready = nobody; place = place; ticks = 0; dropped = 0 }

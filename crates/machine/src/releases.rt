@@ -1,9 +1,11 @@
 // The releases: the next one decoded once, whether it is due at a tick, and whether the run stops.
 ghost use mathlib.Core.Path.{_≡_};
 ghost use Rattle.model.specs.Command.{commandAt};
-ghost use Rattle.machine.specs.Flat.{noRelease, pendingBy, pendingAt, comingBy, stopsBy, untilOf};
+ghost use Prim.Native.Nat.{_<_};
+ghost use Rattle.machine.specs.Flat.{noRelease, pendingBy, pendingAt, comingBy, stopsBy, untilOf, idledBy};
 use commands::Command;
 use commands::Decoded;
+use commands::ceilings::SheetCeilings;
 
 // The next release, decoded once: whether there is one, its tick and task, and the place after it.
 pub struct Pending {
@@ -13,7 +15,10 @@ pub struct Pending {
     pub after: usize,
 }
 
-// The next release at a tick: none, one of a later tick, or one due now, with its task and the place after it.
+// No task: no number of one.
+pub const NOBODY: u8 = SheetCeilings::TASKS;
+
+// The next release at a tick: none, one of a later tick, or one due now, with its task and the place where the next one stands.
 pub enum Coming {
     Nothing,
     Later,
@@ -55,9 +60,13 @@ pub fn pending_at(sheet: &[u8], place: usize) -> Pending
     }
 }
 
-pub fn coming_at(next: Pending, tick: u32) -> Coming
-    ensures { λ r. ⌜ r ≡ comingBy next tick ⌝ }
+// Ahead of a tick's releases, one that waits behind a job that has ended.
+pub fn coming_at(next: Pending, tick: u32, ready: u8, place: usize) -> Coming
+    ensures { λ r. ⌜ r ≡ comingBy ready place next tick ⌝ }
 {
+    if ready < NOBODY {
+        return Coming::Due(ready, place);
+    }
     if next.some {
         if next.tick == tick {
             return Coming::Due(next.task, next.after);
@@ -85,6 +94,23 @@ pub fn until(next: Pending, limit: u32) -> u32
     if next.some {
         if next.tick < limit {
             return next.tick;
+        }
+        return limit;
+    }
+    limit
+}
+
+// After an idle tick: the tick up to which no release comes, for all before it are idle.
+pub fn idled(next: Pending, tick: u32, limit: u32) -> u32
+    requires { ⌜ tick < limit ⌝ }
+    ensures { λ r. ⌜ r ≡ idledBy next tick limit ⌝ }
+{
+    if next.some {
+        if next.tick < limit {
+            if tick < next.tick {
+                return next.tick;
+            }
+            return tick + 1;
         }
         return limit;
     }

@@ -9,7 +9,7 @@ ghost use Rattle.model.specs.Lists.{at};
 ghost use Rattle.state.specs.State.{shared, own};
 ghost use Rattle.exchanges.specs.Places.{noted, left};
 ghost use Rattle.statements.specs.Statements.{beginTick, stepTick, starting?, lineOf};
-ghost use Rattle.machine.specs.Flat.{unfinished?, topOf, droppedBy, begunBy, zeroing, zeroedBy, startedBy, closed, finished, tickOf, leftBy, Ends, flatIn, pausedAt};
+ghost use Rattle.machine.specs.Flat.{unfinished?, topOf, droppedBy, waitingBy, begunBy, zeroing, zeroedBy, startedBy, closed, finished, tickOf, leftBy, readyBy, Ends, flatIn, pausedAt};
 use crate::releases;
 use crate::releases::Coming;
 use commands::BodyCommand;
@@ -28,10 +28,13 @@ const TASKS: usize = SheetCeilings::TASKS as usize;
 
 const COMMANDS: usize = SheetCeilings::COMMANDS as usize;
 
-// A run between two ticks: the jobs, the mask of unfinished ones, the place of the next release, the ticks done and the releases dropped.
+// A run between two ticks: the jobs, the mask of unfinished ones, how many releases wait behind each, the task whose job has ended with one
+// waiting, or NOBODY, the place of the next release, the ticks done and the releases dropped.
 pub struct Paused {
     pub jobs: [Job; TASKS],
     pub mask: u32,
+    pub waiting: [u8; TASKS],
+    pub ready: u8,
     pub place: usize,
     pub ticks: u32,
     pub dropped: u32,
@@ -52,6 +55,8 @@ impl Paused {
                 used: 0,
             }; TASKS],
             mask: 0,
+            waiting: [0; TASKS],
+            ready: releases::NOBODY,
             place: place,
             ticks: 0,
             dropped: 0,
@@ -120,14 +125,33 @@ fn task_number(n: u8) -> u8
     n % SheetCeilings::TASKS
 }
 
-// A release to a task whose job is unfinished is dropped and counted.
-fn drop_by(dropped: u32, phase: Phase) -> u32
-    ensures { λ r. ⌜ r ≡ droppedBy (unfinished? phase) dropped ⌝ }
+// A release to a task whose job is unfinished waits behind it, and is dropped and counted where as many wait as may.
+fn drop_by(dropped: u32, waiting: u8, phase: Phase) -> u32
+    ensures { λ r. ⌜ r ≡ droppedBy (unfinished? phase) waiting dropped ⌝ }
 {
     if unfinished(phase) {
-        return std::num::wrapping_add_u32(dropped, 1);
+        if TaskCeilings::WAITING <= waiting {
+            return std::num::wrapping_add_u32(dropped, 1);
+        }
+        return dropped;
     }
     dropped
+}
+
+// How many wait then: one more, or one fewer where the release starts a job, for only one that waited comes to a task behind which any wait.
+fn wait_by(waiting: u8, phase: Phase) -> u8
+    ensures { λ r. ⌜ r ≡ waitingBy (unfinished? phase) waiting ⌝ }
+{
+    if unfinished(phase) {
+        if waiting < TaskCeilings::WAITING {
+            return waiting + 1;
+        }
+        return waiting;
+    }
+    if waiting == 0 {
+        return 0;
+    }
+    waiting - 1
 }
 
 // Else a job starts, with all registers 0.
@@ -263,6 +287,19 @@ fn leaving(mask: u32, i: usize, phase: Phase) -> u32
     lowered(mask, bit(i))
 }
 
+// The task that runs, if its job has ended and a release waits behind it.
+fn ready_by(ready: u8, p: u8, waiting: u8, phase: Phase) -> u8
+    ensures { λ r. ⌜ r ≡ readyBy (unfinished? phase) waiting p ready ⌝ }
+{
+    if unfinished(phase) {
+        return ready;
+    }
+    if waiting == 0 {
+        return ready;
+    }
+    p
+}
+
 fn lowered(mask: u32, bit: u32) -> u32
     ensures { λ r. ⌜ r ≡ mask - bit ⌝ }
 {
@@ -282,30 +319,35 @@ pub fn run(
     from: Paused,
     limit: u32,
 ) -> Paused
-    requires { ⌜ (length (from .jobs) ≡ 8) × (length program ≡ 512) ⌝ }
-    ensures { λ r. ⌜ Ends (now (sheet .entry)) program (now (bounds .entry)) limit (flatIn (shared (now (memory .entry))) (map own (now (tasks .entry))) from) (flatIn (shared (now (memory .exit))) (map own (now (tasks .exit))) r) × (length (r .jobs) ≡ 8) ⌝ }
+    requires { ⌜ (length (from .jobs) ≡ 8) × (length (from .waiting) ≡ 8) × (length program ≡ 512) ⌝ }
+    ensures { λ r. ⌜ Ends (now (sheet .entry)) program (now (bounds .entry)) limit (flatIn (shared (now (memory .entry))) (map own (now (tasks .entry))) from) (flatIn (shared (now (memory .exit))) (map own (now (tasks .exit))) r) × (length (r .jobs) ≡ 8) × (length (r .waiting) ≡ 8) ⌝ }
 {
     let mut jobs = from.jobs;
     // The job of task p, which ran last, is held apart, and goes back when another task runs.
     let mut p: u8 = 0;
     let mut job = jobs[0];
     let mut mask = from.mask;
+    let mut waiting = from.waiting;
+    let mut ready = from.ready;
     let mut place = from.place;
     let mut next = releases::pending_at(sheet, place);
     let mut tick = from.ticks;
     let mut dropped = from.dropped;
     while tick < limit {
-        let release = releases::coming_at(next, tick);
+        let release = releases::coming_at(next, tick, ready, place);
         if let Coming::Due(task, after) = release {
             jobs[p as usize] = job;
             p = task_number(task);
             let i = p as usize;
             let found = jobs[i];
             let phase = found.phase;
-            dropped = drop_by(dropped, phase);
+            let behind = waiting[i];
+            dropped = drop_by(dropped, behind, phase);
+            waiting[i] = wait_by(behind, phase);
             mask = begun(mask, i, phase);
             zero_by(&mut tasks[i], phase);
             job = started(found, bound(bounds, i));
+            ready = releases::NOBODY;
             place = after;
             next = releases::pending_at(sheet, place);
             continue;
@@ -315,14 +357,16 @@ pub fn run(
             return Paused {
                 jobs,
                 mask,
+                waiting,
+                ready,
                 place,
                 ticks: tick,
                 dropped,
             };
         }
-        // Nobody has work.
+        // Nobody has work: the ticks before the next release are idle.
         if mask == 0 {
-            tick += 1;
+            tick = releases::idled(next, tick, limit);
             continue;
         }
         let highest = top(mask);
@@ -352,11 +396,15 @@ pub fn run(
         }
         let last = job.phase;
         mask = leaving(mask, i, last);
+        let behind = waiting[i];
+        ready = ready_by(ready, p, behind, last);
     }
     jobs[p as usize] = job;
     Paused {
         jobs,
         mask,
+        waiting,
+        ready,
         place,
         ticks: tick,
         dropped,

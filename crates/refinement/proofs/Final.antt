@@ -23,7 +23,7 @@ use Rattle.refinement.proofs.Releases.{releasesFrom}
 use Rattle.refinement.proofs.Machine.{machineOf, task-at}
 use Rattle.refinement.proofs.Run.{run-fits}
 use Rattle.start.specs.Start.{SharedStarts, TasksStart}
-use Rattle.refinement.proofs.Start.{start-same, start-sound}
+use Rattle.refinement.proofs.Start.{noQueues, start-same, start-sound}
 
 -- the records hold that machine of a sheet: its memory, and of each task that the sheet declares the registers and counts
 pub record Holds (s : Sheet) (f : Machine) (m : Shared) (ts : List Own) (q : Paused) : Type 0 where
@@ -54,11 +54,11 @@ module _ (sheet : List ℕ) (small : (i : ℕ) → getD sheet i 0 < 256) (good :
       let w = flatIn m ts (pausedAt place) in
       let u = flatIn m′ ts′ q in
       let begin = start-same sheet program bounds held c place releases m shared ts tasks in
-      let r = run-fits sheet program bounds held c limit (omega arith) w u e
+      let r = run-fits sheet program bounds held c limit (omega arith) noQueues w u e
       (start-sound sheet program bounds held c place releases m shared ts tasks) (subst (Fit s) (sym begin) (start-fit c))
       (subst Ranges (sym begin) (start-range c (sheet-range sheet small good))) in
       let z : limit - 0 ≡ limit = omega arith in
-      let last : run limit (startMachine s) ≡ machineOf sheet program bounds u = sym (r .same ∙ rw z (ap (run limit) begin)) in
+      let last : run limit (startMachine s) ≡ machineOf sheet program bounds (r .queues) u = sym (r .same ∙ rw z (ap (run limit) begin)) in
       record {
         memory = ap (λ (f : Machine). f .memory) last;
         registers = λ p h.

@@ -3,24 +3,27 @@ use Prim.Native.Nat.{ℕ, suc, _<_, _≤_}
 use mathlib.Core.Path.{_≡_, refl, sym, ap, _∙_}
 use mathlib.Core.Logic.{_≢_}
 use mathlib.Core.Bool.{Bool, true, false, true≢false}
-use mathlib.Core.List.{List, []}
+use mathlib.Core.List.{List, [], _∷_, map}
 use native.Mathlib.Omega.{arith}
 use lib.Dec.{ltb}
 use lib.ListN.{length, getD, set, length-set}
 use lib.Seq.{getD-set-same, getD-set-other}
 use borrow.Author.Tests.{lt-ltb, le-ltb}
 use Rattle.model.specs.Lists.{at, replace}
+use Rattle.model.specs.Ceilings.{maxTasks}
+use Rattle.model.specs.Command.{Release}
 use Rattle.model.specs.Job as J
 use Rattle.model.specs.Machine as M
 use Rattle.model.specs.Sheet.{sheetOf}
-use Rattle.model.proofs.Lists.{at-past, same?}
+use Rattle.model.proofs.Lists.{at-past, at-map, same?}
 use Rattle.model.proofs.Fit.Elements.{below?}
+use Rattle.model.proofs.Fit.Waiting.{SettledAt, Settled}
 use Rattle.model.proofs.Fit.Running.{foremost-running, none-nobody}
 use Rattle.model.proofs.Fit.Running.{busy as working}
 use Rattle.commands.specs.declared.BodyCommand.{BodyCommand}
 use Rattle.state.specs.State.{Own, own}
 use Rattle.state.specs.Held.{memoryOf}
-use Rattle.machine.specs.Flat.{unfinished?, FlatMachine, noJob}
+use Rattle.machine.specs.Flat.{unfinished?, FlatMachine, noJob, waitingCount}
 use Rattle.jobs.specs.declared.Phase.{Phase}
 use Rattle.jobs.specs.declared.Phase.the-variants as Phase
 use Rattle.jobs.specs.declared.Job.{Job}
@@ -52,8 +55,10 @@ module _ (sheet : List ℕ) (program : List BodyCommand) (bounds : List ℕ) whe
   unfoldable pub tasksOf : List Own → List Job → List J.Task
   tasksOf ts js = tabulate 8 (λ p. declaredBy (ltb p n) (taskIn ts js p))
 
-  abbrev pub machineOf : FlatMachine → M.Machine
-  machineOf w = M.machine (memoryOf (w .memory)) (tasksOf (w .tasks) (w .jobs)) (releasesFrom sheet (w .place)) (w .ticks) (w .dropped)
+  -- the code keeps how many wait, the model the releases ws themselves
+  abbrev pub machineOf : List (List Release) → FlatMachine → M.Machine
+  machineOf ws w =
+      M.machine (memoryOf (w .memory)) (tasksOf (w .tasks) (w .jobs)) ws (releasesFrom sheet (w .place)) (w .ticks) (w .dropped)
 
   -- the records and jobs of eight tasks
   pub record TasksSound (ts : List Own) (js : List Job) : Type 0 where
@@ -63,10 +68,23 @@ module _ (sheet : List ℕ) (program : List BodyCommand) (bounds : List ℕ) whe
     pub shape : (p : ℕ) → p < n → JobShape (at 0 bounds (suc p)) (getD js p noJob) (getD ts p (own [])) (getD js p noJob .phase)
     pub idle : (p : ℕ) → n ≤ p → busy js p ≡ false
 
-  pub record Sound (w : FlatMachine) : Type 0 where
+  -- no job has ended with a release waiting, or that of one task has
+  pub data ReadySound (ws : List (List Release)) (w : FlatMachine) : Type 0 where
+    noneReady : maxTasks ≤ w .ready → Settled (machineOf ws w) → ReadySound ws w
+    oneReady : (r : Release) (l : List Release) → w .ready < n → busy (w .jobs) (w .ready) ≡ false → M.waitingAt ws (w .ready) ≡ r ∷ l
+        → ((q : ℕ) → q ≢ w .ready → SettledAt (machineOf ws w) q) → ReadySound ws w
+
+  pub record Sound (ws : List (List Release)) (w : FlatMachine) : Type 0 where
     pub memory : SharedSized (w .memory)
     pub each : TasksSound (w .tasks) (w .jobs)
     pub mask : w .mask ≡ maskOf 8 (w .jobs)
+    pub waiting : w .waiting ≡ map length ws
+    pub ready : ReadySound ws w
+
+  -- how many wait
+  pub waiting-count : (ws : List (List Release)) (w : FlatMachine) → Sound ws w → (p : ℕ) → waitingCount w p ≡ length (M.waitingAt ws p)
+  unfolding at
+  waiting-count ws w f p = ap (λ (l : List ℕ). getD l p 0) (f .waiting) ∙ at-map length [] ws p
 
   module _ (most : n ≤ 8) where
     pub tasks-size : (ts : List Own) (js : List Job) → length (tasksOf ts js) ≡ 8

@@ -11,7 +11,7 @@ use Rattle.model.specs.Refusal.{Refusal}
 use Rattle.model.specs.Command.{Release, Command, WORD, BLOCK, TASK, RELEASE, END, body, Found, found, refused, foundByte, commandAt}
 use Rattle.model.specs.Sheet.{listed, commandsFrom}
 use Rattle.model.proofs.Fit.Reading.{found-at}
-use Rattle.machine.specs.Flat.{pendingAt, dueBy, comingBy}
+use Rattle.machine.specs.Flat.{pendingAt, dueBy, comingOf}
 use Rattle.machine.specs.declared.releases.Coming.{Coming}
 use Rattle.machine.specs.declared.releases.Coming.the-variants.{Nothing, Later, Due}
 
@@ -62,7 +62,7 @@ module _ (sheet : List ℕ) (place : ℕ) where
   unfolding releasesFrom listed
   release-found r next e = releases-at ∙ ap (λ (f : Found). leading (listed (commandsFrom (length sheet) sheet) f)) e
 
-  -- a release due at that tick
+  -- a release of the sheet due at that tick
   pub record DueAt (tick task next : ℕ) : Type 0 where
     pub release : Release
     pub releases : releasesFrom sheet place ≡ release ∷ releasesFrom sheet next
@@ -90,7 +90,7 @@ module _ (sheet : List ℕ) (place : ℕ) where
   unfolding listed
   none-refused f n e = releases-at ∙ ap (λ (f : Found). leading (listed (commandsFrom (length sheet) sheet) f)) e
 
-  pub coming-at : (tick : ℕ) → ComingAt tick (comingBy (pendingAt (commandAt sheet place)) tick)
+  pub coming-at : (tick : ℕ) → ComingAt tick (comingOf (pendingAt (commandAt sheet place)) tick)
   coming-at tick = go (commandAt sheet place) refl
     where
       due : (r : Release) (next : ℕ) → commandAt sheet place ≡ found (RELEASE r) next → (b : Bool) → eqb (r .tick) tick ≡ b
@@ -98,7 +98,7 @@ module _ (sheet : List ℕ) (place : ℕ) where
       due r next e true q = record { release = r; releases = release-found r next e; now = eqb-true _ _ q; to = refl }
       due r next e false q = record { release = r; others = releasesFrom sheet next; releases = release-found r next e; later = q }
 
-      go : (f : Found) → commandAt sheet place ≡ f → ComingAt tick (comingBy (pendingAt f) tick)
+      go : (f : Found) → commandAt sheet place ≡ f → ComingAt tick (comingOf (pendingAt f) tick)
       go (refused f n) e = none-refused f n e
       go (found (RELEASE r) n) e = due r n e (eqb (r .tick) tick) refl
       go (found (WORD v) n) e = none-found _ n e refl

@@ -8,6 +8,7 @@ use lib.ListN.{length, getD, replicate}
 use lib.Seq.{ext-getD}
 use borrow.Author.Tests.{le-ltb}
 use Rattle.model.specs.Lists.{at}
+use Rattle.model.specs.Command.{Release}
 use Rattle.model.specs.Sheet.{Sheet, sheetOf}
 use Rattle.model.specs.Machine as M
 use Rattle.model.proofs.Lists.{at-replicate, at-past}
@@ -24,11 +25,18 @@ use Rattle.start.specs.Start.{SharedStarts, OwnStarts, TasksStart}
 use Rattle.refinement.proofs.Entered.{no-pairs}
 use Rattle.refinement.proofs.Releases.{releasesFrom}
 use Rattle.refinement.proofs.Unfinished.{maskOf}
-use Rattle.refinement.proofs.Machine.{declaredBy, taskWith, taskIn, tasksOf, machineOf, Sound, tasks-size, any-task, task-at}
+use Rattle.refinement.proofs.Machine.{noneReady, declaredBy, taskWith, taskIn, tasksOf, machineOf, Sound, tasks-size, any-task, task-at}
 
 no-job : (p : ℕ) → getD (replicate 8 noJob) p noJob ≡ noJob
 unfolding at
 no-job p = below? p 8 (λ l. at-replicate noJob noJob 8 p l) (λ l. at-past noJob (replicate 8 noJob) p l)
+
+-- none waits
+abbrev pub noQueues : List (List Release)
+noQueues = replicate 8 []
+
+no-queue : (p : ℕ) → M.waitingAt noQueues p ≡ []
+no-queue p = below? p 8 (λ l. at-replicate [] [] 8 p l) (λ l. at-past [] noQueues p l)
 
 module _ (sheet : List ℕ) (program : List BodyCommand) (bounds : List ℕ) (held : Programmed sheet program bounds) (c : SheetFit (sheetOf sheet))
     (place : ℕ) (releases : releasesFrom sheet place ≡ sheetOf sheet .releases) (m : Shared) (shared : SharedStarts (sheetOf sheet) m)
@@ -66,11 +74,11 @@ module _ (sheet : List ℕ) (program : List BodyCommand) (bounds : List ℕ) (he
       ext-getD M.noTask (tasksOf sheet program bounds ts js) (M.startMachine s .tasks) (size ∙ sym (start-fit c .tasks))
       (λ p h. below? p n (λ l. declared-start p l) (λ l. undeclared-start p (omega arith) l))
 
-  pub start-same : machineOf sheet program bounds (flatIn m ts (pausedAt place)) ≡ M.startMachine (sheetOf sheet)
+  pub start-same : machineOf sheet program bounds noQueues (flatIn m ts (pausedAt place)) ≡ M.startMachine (sheetOf sheet)
   unfolding M.startMachine
   start-same = rw (shared .memory, start-tasks, releases)
 
-  pub start-sound : Sound sheet program bounds (flatIn m ts (pausedAt place))
+  pub start-sound : Sound sheet program bounds noQueues (flatIn m ts (pausedAt place))
   unfolding maskOf
   start-sound =
       record {
@@ -83,4 +91,6 @@ module _ (sheet : List ℕ) (program : List BodyCommand) (bounds : List ℕ) (he
           idle = λ p h. rw (no-job p);
         };
         mask = refl;
+        waiting = refl;
+        ready = noneReady (omega arith) (λ p i. no-queue p);
       }

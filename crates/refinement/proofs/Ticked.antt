@@ -1,17 +1,21 @@
 -- A tick in which no release is due: the highest task with an unfinished job does one statement, or nobody does.
-use Prim.Native.Nat.{ℕ, zero, suc, _+_, _^_, _<_}
+use Prim.Native.Nat.{ℕ, zero, suc, _+_, _^_, _<_, _≤_}
 use mathlib.Core.Path.{_≡_, refl, sym, ap, _∙_, subst}
 use mathlib.Core.Bool.{Bool, true, false, true≢false}
-use mathlib.Core.List.{List}
+use mathlib.Core.Logic.{_≢_}
+use mathlib.Core.List.{List, [], _∷_}
 use native.Mathlib.Omega.{arith}
 use borrow.Author.Tests.{eq-eqb, ne-eqb}
 use lib.ListN.{length, set}
 use Rattle.model.specs.Lists.{at, replace}
+use Rattle.model.specs.Ceilings.{maxTasks}
 use Rattle.model.specs.Command as C
 use Rattle.model.specs.Sheet.{Sheet, sheetOf}
 use Rattle.model.specs.Job as J
 use Rattle.model.specs.Machine as M
+use Rattle.model.proofs.Lists.{same?, replace-other}
 use Rattle.model.proofs.Fit.Elements.{below?}
+use Rattle.model.proofs.Fit.Waiting.{SettledAt, Settled}
 use Rattle.model.proofs.Fit.Sheet.{SheetFit}
 use Rattle.model.proofs.Fit.Machine.{DeclaredFit, Fit}
 use Rattle.model.proofs.Fit.Statement.{statement-fit}
@@ -22,7 +26,7 @@ use Rattle.state.specs.Held.{memoryOf}
 use Rattle.exchanges.specs.Places.{Noted, Left}
 use Rattle.jobs.specs.Jobs.{counted}
 use Rattle.statements.specs.Statements.{statement}
-use Rattle.machine.specs.Flat.{unfinished?, topOf, leftBy, FlatMachine, jobOf, ownOf, closed, tickedWith, tickedFor, passed, ticked}
+use Rattle.machine.specs.Flat.{unfinished?, topOf, leftBy, readyBy, FlatMachine, jobOf, ownOf, closed, tickedWith, tickedFor, passed, ticked}
 use Rattle.jobs.specs.declared.Phase.{Phase}
 use Rattle.jobs.specs.declared.Phase.the-variants as Phase
 use Rattle.jobs.specs.declared.Inner.{Inner}
@@ -37,7 +41,8 @@ use Rattle.refinement.proofs.Counted.{counted-same, counted-other}
 use Rattle.refinement.proofs.Statements.{statement-tick}
 use Rattle.refinement.proofs.Releases.{releasesFrom}
 use Rattle.refinement.proofs.Unfinished.{busy, bitOf, mask-set, TopTask, Top, none, some, top}
-use Rattle.refinement.proofs.Machine.{taskIn, tasksOf, machineOf, Sound, task-at, tasks-changed, sound-changed, nobody-runs, top-runs}
+use Rattle.refinement.proofs.Machine.{taskIn, tasksOf, machineOf, ReadySound, noneReady, oneReady, Sound, waiting-count, task-at, task-busy, job-set}
+use Rattle.refinement.proofs.Machine.{tasks-changed, sound-changed, nobody-runs, top-runs}
 
 -- A COUNT does not show in a job's shape
 module _ (t : Own) (i : ℕ) where
@@ -93,7 +98,8 @@ left-mask true m k p h = omega arith
 left-mask false m k p h = omega arith
 
 module _ (sheet : List ℕ) (program : List BodyCommand) (bounds : List ℕ) (held : Programmed sheet program bounds)
-    (c : SheetFit (sheetOf sheet)) (w : FlatMachine) (g : Sound sheet program bounds w) where
+    (c : SheetFit (sheetOf sheet)) (ws : List (List C.Release)) (w : FlatMachine) (g : Sound sheet program bounds ws w)
+    (none-ready : maxTasks ≤ w .ready) (settled : Settled (machineOf sheet program bounds ws w)) where
   abbrev s : Sheet
   s = sheetOf sheet
 
@@ -101,11 +107,11 @@ module _ (sheet : List ℕ) (program : List BodyCommand) (bounds : List ℕ) (he
   n = length (s .bodies)
 
   abbrev m : M.Machine
-  m = machineOf sheet program bounds w
+  m = machineOf sheet program bounds ws w
 
   pub record TickedFits (v : FlatMachine) : Type 0 where
-    pub same : machineOf sheet program bounds v ≡ M.moveAny (machineOf sheet program bounds w)
-    pub sound : Sound sheet program bounds v
+    pub same : machineOf sheet program bounds ws v ≡ M.moveAny (machineOf sheet program bounds ws w)
+    pub sound : Sound sheet program bounds ws v
 
   -- A TICK THAT PASSES
   nobody-ticks : ((q : ℕ) → q < 8 → busy (w .jobs) q ≡ false) → TickedFits (passed w)
@@ -113,7 +119,10 @@ module _ (sheet : List ℕ) (program : List BodyCommand) (bounds : List ℕ) (he
   nobody-ticks f =
       let more : w .ticks + 1 ≡ suc (w .ticks) = omega arith in
       let running : M.runningOf m ≡ M.nobody = nobody-runs sheet program bounds (c .bodies) m (w .tasks) (w .jobs) refl (g .each .idle) f in
-      record { same = rw (running, more); sound = record { memory = g .memory; each = g .each; mask = g .mask } }
+      record {
+        same = rw (running, more);
+        sound = record { memory = g .memory; each = g .each; mask = g .mask; waiting = g .waiting; ready = noneReady none-ready settled };
+      }
 
   -- A STATEMENT, of the highest task with an unfinished job
   module _ (fit : Fit s m) (range : Ranges m) (few : w .ticks < 4294967295) (p : ℕ) (h : TopTask 8 (w .jobs) p) where
@@ -180,20 +189,56 @@ module _ (sheet : List ℕ) (program : List BodyCommand) (bounds : List ℕ) (he
         ap (M.move m) running ∙ ap (λ (z : J.Task). M.afterTurn m p (M.statement p (m .memory) z (z .job .phase))) t-at
         ∙ ap afterLeaves (refined .same)
 
-    statement-fits : TickedFits (tickedWith w p (u .memory) o)
+    -- THE TASK THAT RAN may have one to start, nobody else
+    abbrev v : FlatMachine
+    v = tickedWith w p (u .memory) o
+
+    tasks-are : tasksOf sheet program bounds (v .tasks) (v .jobs) ≡ replace (m .tasks) p (J.counting J.ticks (taskOf program end body (o .next) (o .task)))
+    tasks-are =
+        tasks-changed sheet program bounds (c .bodies) (w .tasks) (w .jobs) (g .each) p (counted (o .task) 3) (o .next) declared
+        ∙ ap (replace (m .tasks) p) counted-ticks
+
+    others-settled : (q : ℕ) → q ≢ p → SettledAt (machineOf sheet program bounds ws v) q
+    others-settled q d i =
+        settled q (sym (ap (λ (z : J.Task). M.unfinished (z .job .phase)) (replace-other M.noTask (m .tasks) p q _ d))
+        ∙ ap (λ (ts : List J.Task). M.unfinished (M.taskAt ts q .job .phase)) (sym tasks-are) ∙ i)
+
+    busy-here : busy (v .jobs) p ≡ unfinished? (o .next .phase)
+    busy-here =
+        ap (λ (z : Job). unfinished? (z .phase))
+        (job-set sheet program bounds (c .bodies) (w .tasks) (w .jobs) (g .each) p (counted (o .task) 3) (o .next) declared)
+
+    all-settled : SettledAt (machineOf sheet program bounds ws v) p → Settled (machineOf sheet program bounds ws v)
+    all-settled f q = same? q p (λ e. rw e f) (λ d. others-settled q d)
+
+    ready-after : ReadySound sheet program bounds ws v
+    ready-after = go (unfinished? (o .next .phase)) refl (M.waitingAt ws p) refl
+      where
+        ready-is : (b : Bool) (l : List C.Release) → unfinished? (o .next .phase) ≡ b → M.waitingAt ws p ≡ l
+            → v .ready ≡ readyBy b (length l) p (w .ready)
+        ready-is b l e k = rw (e, waiting-count sheet program bounds ws w g p, k)
+
+        here : M.unfinishedAt (machineOf sheet program bounds ws v) p ≡ unfinished? (o .next .phase)
+        here = task-busy sheet program bounds (c .bodies) (v .tasks) (v .jobs) p declared ∙ busy-here
+
+        go : (b : Bool) → unfinished? (o .next .phase) ≡ b → (l : List C.Release) → M.waitingAt ws p ≡ l → ReadySound sheet program bounds ws v
+        go true e l k = noneReady (omega (arith, none-ready, ready-is true l e k)) (all-settled (λ i. absurd (true≢false (sym e ∙ sym here ∙ i))))
+        go false e [] k = noneReady (omega (arith, none-ready, ready-is false [] e k)) (all-settled (λ i. k))
+        go false e (r ∷ l) k =
+            let z : v .ready ≡ p = ready-is false (r ∷ l) e k ∙ rw (ne-eqb (suc (length l)) 0 (λ e. omega arith)) in
+            oneReady r l (rw z declared) (rw z (busy-here ∙ e)) (rw z k) (λ q d. others-settled q (rw z at d))
+
+    statement-fits : TickedFits v
     statement-fits =
         let more : w .ticks + 1 ≡ suc (w .ticks) = omega arith in
         let mask = mask-set (w .jobs) p (o .next) (omega (arith, g .each .jobs, h .below)) 8 (h .below) in
         record {
           same =
               ap
-              (λ (k : ℕ). M.machine (memoryOf (u .memory))
-              (tasksOf sheet program bounds (set (w .tasks) p (counted (o .task) 3)) (set (w .jobs) p (o .next)))
-              (releasesFrom sheet (w .place)) k (w .dropped))
+              (λ (k : ℕ). M.machine (memoryOf (u .memory)) (tasksOf sheet program bounds (v .tasks) (v .jobs)) ws (releasesFrom sheet (w .place)) k
+              (w .dropped))
               more
-              ∙ ap (λ (ts : List J.Task). M.machine (memoryOf (u .memory)) ts (releasesFrom sheet (w .place)) (suc (w .ticks)) (w .dropped))
-              (tasks-changed sheet program bounds (c .bodies) (w .tasks) (w .jobs) (g .each) p (counted (o .task) 3) (o .next) declared
-              ∙ ap (replace (m .tasks) p) counted-ticks)
+              ∙ ap (λ (ts : List J.Task). M.machine (memoryOf (u .memory)) ts ws (releasesFrom sheet (w .place)) (suc (w .ticks)) (w .dropped)) tasks-are
               ∙ sym moved;
           sound = record {
             memory = refined .sharedSized;
@@ -201,6 +246,8 @@ module _ (sheet : List ℕ) (program : List BodyCommand) (bounds : List ℕ) (he
                 sound-changed sheet program bounds (c .bodies) (w .tasks) (w .jobs) (g .each) p (counted (o .task) 3) (o .next) declared
                 (counted-sized (refined .ownSized) 3) (shape-counted (o .task) 3 end (o .next) (o .next .phase) (refined .shape));
             mask = rw (g .mask) (left-mask (unfinished? (o .next .phase)) _ _ p (rw (h .unfinished) at mask));
+            waiting = g .waiting;
+            ready = ready-after;
           };
         }
 

@@ -31,7 +31,7 @@ start-requires : tie.Need-start-requires
 start-requires c κs = search needs
 
 run-requires : tie.Need-run-requires
-run-requires c κs = (rw (c .before .before .before .start .ensures) refl, c .before .before .before .before .program .ensures .size)
+run-requires c κs = (rw (c .before .before .before .start .ensures) refl, rw (c .before .before .before .start .ensures) refl, c .before .before .before .before .program .ensures .size)
 
 report-requires : tie.Need-report-requires
 report-requires c κs = search needs

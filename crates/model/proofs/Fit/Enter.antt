@@ -113,15 +113,19 @@ unfolding startWaiting
 start-all zero m h = nothing
 start-all (suc p) m h = entered-then (oldest-enters p m h) (start-all p (startOldest p m) (omega arith))
 
-pub start-releases : (n : ℕ) (m : Machine) → startWaiting n m .releases ≡ m .releases
-unfolding startWaiting startBy
-start-releases zero m = refl
-start-releases (suc p) m = start-releases p (startOldest p m) ∙ go (unfinishedAt m p) (waitingAt (m .waiting) p)
+pub oldest-releases : (p : ℕ) (m : Machine) → startOldest p m .releases ≡ m .releases
+unfolding startBy
+oldest-releases p m = go (unfinishedAt m p) (waitingAt (m .waiting) p)
   where
     go : (b : Bool) (l : List Release) → startBy b l p m .releases ≡ m .releases
     go true l = refl
     go false [] = refl
     go false (r ∷ l) = refl
+
+pub start-releases : (n : ℕ) (m : Machine) → startWaiting n m .releases ≡ m .releases
+unfolding startWaiting
+start-releases zero m = refl
+start-releases (suc p) m = start-releases p (startOldest p m) ∙ oldest-releases p m
 
 -- ALL THAT COMES BEFORE A TICK'S STATEMENT
 pub entered : (m : Machine) → Entered m (enter m)

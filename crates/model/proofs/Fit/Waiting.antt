@@ -1,18 +1,20 @@
 -- Where a job has ended, none waits once those that wait have started, and no arrival changes that.
 use Prim.Native.Nat.{ℕ, zero, suc, _<_, _≤_}
 use mathlib.Core.Path.{_≡_, refl, sym, _∙_, ap}
-use mathlib.Core.Bool.{Bool, true, false, true≢false}
+use mathlib.Core.Bool.{Bool, true, false, true≢false, _&&_}
 use mathlib.Core.Logic.{_≢_}
 use mathlib.Core.List.{List, [], _∷_}
 use native.Mathlib.Omega.{arith}
 use lib.ListN.{length}
 use Rattle.model.specs.Ceilings.{maxTasks}
+use Rattle.model.specs.Lists.{at}
 use Rattle.model.specs.Command.{Release}
 use Rattle.model.specs.Job.{Task}
-use Rattle.model.specs.Machine.{Machine, noTask, waitingAt, unfinished, unfinishedAt, starting, behind}
-use Rattle.model.specs.Machine.{startBy, startOldest, startWaiting, arrive}
+use Rattle.model.specs.Machine.{Machine, noTask, waitingAt, unfinished, unfinishedAt, starting, behind, released, toCome}
+use Rattle.model.specs.Machine.{startBy, startOldest, startWaiting, arrive, enter, none?, noneWaits}
 use Rattle.model.proofs.Lists.{same?, replace-same, replace-other, length-replace, at-past}
-use Rattle.model.proofs.Fit.Enter.{Entering, oldest, starts, waits, drops, along, arrive-enters}
+use Rattle.model.proofs.Fit.Enter.{Entering, oldest, starts, waits, drops, along, arrive-enters, NoneDue, none-arrives, due-arrives}
+use Rattle.model.proofs.Fit.Enter.{oldest-releases}
 
 -- the task's job is unfinished, or none waits behind it
 abbrev pub SettledAt : Machine → ℕ → Type 0
@@ -37,7 +39,7 @@ pub record SettledFit (m : Machine) : Type 0 where
   pub size : length (m .tasks) ≡ maxTasks
   pub settled : Settled m
 
-entering-settled : {m n : Machine} → Entering m n → SettledFit m → SettledFit n
+pub entering-settled : {m n : Machine} → Entering m n → SettledFit m → SettledFit n
 entering-settled {m} (oldest p r l h u w) f = record {
   size = length-replace (m .tasks) p _ ∙ f .size;
   settled = λ q. same? q p
@@ -129,3 +131,40 @@ module _ (m : Machine) (p : ℕ) (z : length (m .tasks) ≡ maxTasks) (others : 
   one-starts (suc k) h l = same? k p
       (λ e. rw e (none-starts p (one-settled (omega arith))))
       (λ d. ap (startWaiting k) (oldest-none k d) ∙ one-starts k (omega arith) (omega arith))
+
+-- WHAT IS STILL TO COME BEFORE THE STATEMENT is the same once one thing has come
+settled-enters : (m : Machine) → Settled m → enter m ≡ arrive (m .releases) m
+unfolding enter
+settled-enters m f = ap (arrive (m .releases)) (none-starts maxTasks f)
+
+pub release-entered : (m : Machine) → Settled m → (r : Release) (l : List Release) → m .releases ≡ r ∷ l → r .tick ≡ m .now
+    → Settled (toCome (released r m) l) → enter (toCome (released r m) l) ≡ enter m
+release-entered m f r l e now g =
+    settled-enters (toCome (released r m) l) g ∙ sym (settled-enters m f ∙ ap (λ (k : List Release). arrive k m) e ∙ due-arrives r l m now)
+
+pub none-entered : (m : Machine) → Settled m → NoneDue m (m .releases) → enter m ≡ m
+none-entered m f d = settled-enters m f ∙ none-arrives m d
+
+pub oldest-entered : (m : Machine) (p : ℕ) → p < maxTasks → length (m .tasks) ≡ maxTasks → ((q : ℕ) → q ≢ p → SettledAt m q)
+    → enter (startOldest p m) ≡ enter m
+unfolding enter
+oldest-entered m p h z others =
+    settled-enters (startOldest p m) (one-settled m p z others h)
+    ∙ ap (λ (k : List Release). arrive k (startOldest p m)) (oldest-releases p m)
+    ∙ ap (arrive (m .releases)) (sym (one-starts m p z others maxTasks h (omega arith)))
+
+-- NONE WAITS
+pub none-waits : (ws : List (List Release)) → ((p : ℕ) → waitingAt ws p ≡ []) → noneWaits ws ≡ true
+unfolding at
+none-waits [] f = refl
+none-waits (l ∷ ws) f = rw (f 0, none-waits ws (λ p. f (suc p)))
+
+pub some-waits : (ws : List (List Release)) {r : Release} {l : List Release} (p : ℕ) → waitingAt ws p ≡ r ∷ l → noneWaits ws ≡ false
+unfolding at
+some-waits [] p e = let z = ap length e in absurd (omega arith)
+some-waits (l ∷ ws) zero e = rw e refl
+some-waits (l ∷ ws) (suc p) e = rw (some-waits ws p e) (and-false (none? l))
+  where
+    and-false : (b : Bool) → b && false ≡ false
+    and-false true = refl
+    and-false false = refl

@@ -1,6 +1,7 @@
 -- `drop_by` meets its contract.
 use mathlib.Core.Path.{sym, _∙_}
 use borrow.Author.Needs.{needs}
+use Rattle.machine.proofs.Waiting.{room-drops, full-drops}
 use Rattle.machine.proofs.run.drop_by.Statement.{statement}
 use Rattle.machine.proofs.run.drop_by.Tie as tie
 
@@ -11,10 +12,15 @@ wrapping-add-u32-requires : tie.Need-wrapping-add-u32-requires
 wrapping-add-u32-requires c κs = search needs
 
 returns : tie.Need-returns
-returns c = rw (sym (c .before .before .unfinished .ensures) ∙ c .before .if1 .taken, c .wrapping-add-u32 .ensures)
+returns c =
+    full-drops _ _ (sym (c .before .before .before .unfinished .ensures) ∙ c .before .before .if1 .taken) (c .before .if2 .taken)
+    (c .wrapping-add-u32 .ensures)
 
 returns-2 : tie.Need-returns-2
-returns-2 c = search needs
+returns-2 c = room-drops _ _ (sym (c .before .before .unfinished .ensures) ∙ c .before .if1 .taken) (c .if2 .left)
+
+returns-3 : tie.Need-returns-3
+returns-3 c = search needs
 
 pub drop-by-spec : {M : Type 1} → statement M
-drop-by-spec = tie.close (tie.spec unfinished-requires wrapping-add-u32-requires returns returns-2)
+drop-by-spec = tie.close (tie.spec unfinished-requires wrapping-add-u32-requires returns returns-2 returns-3)

@@ -4,30 +4,20 @@ use mathlib.Core.Bool.{true, false, true≢false, _||_}
 use mathlib.Core.List.{[], _∷_, map}
 use denote.Enum.Declared.{tagOf}
 use types.Run.{OneOf, miss}
-use lib.Dec.{eqb}
-use lib.ListN.{length, set, length-set}
+use lib.Dec.{eqb, ltb}
+use lib.ListN.{length, getD, set, length-set}
 use Rattle.model.specs.Command.{commandAt}
 use Rattle.state.specs.State.{shared, own}
-use Rattle.machine.specs.Flat.{unfinished?, topOf, pendingAt, comingBy, leftBy, FlatMachine, flat, Ends, limited}
+use Rattle.machine.specs.Flat.{unfinished?, topOf, pendingAt, nobody, comingBy, leftBy, readyBy, FlatMachine, flat, Ends, limited}
 use Rattle.machine.specs.declared.releases.Coming.{Coming}
 use Rattle.machine.specs.declared.releases.Coming.the-variants.{Nothing, Later, Due}
 use Rattle.machine.proofs.releases.Coming.{the-type}
-use Rattle.machine.proofs.Pending.{due-within}
-use Rattle.machine.proofs.Runs.{
-  apart,
-  apart-most,
-  same-machine,
-  switched,
-  resumed,
-  release-turn,
-  pass-turn,
-  after-release,
-  after-tick,
-  after-stop,
-}
-use Rattle.machine.proofs.Runs.{either, came, begin-statement, step-statement, until-limit, until-due, goes-before, stretch}
+use Rattle.machine.proofs.Pending.{waits-most, toCome, due-less}
+use Rattle.machine.proofs.Idle.{idled-later, idled-ticks}
+use Rattle.machine.proofs.Runs.{apart, apart-most, same-machine, switched, resumed, release-turn, after-release, after-stop}
+use Rattle.machine.proofs.Runs.{either, came, begin-statement, step-statement, until-limit, until-due, none-ready, goes-before, stretch}
 use borrow.Author.Tests.{eq-eqb, ne-eqb}
-use mathlib.Core.Path.{_≡_, refl, sym, ap, _∙_}
+use mathlib.Core.Path.{_≡_, refl, sym, _∙_}
 use native.Mathlib.Omega.{arith}
 use borrow.Author.Needs.{needs}
 use Rattle.machine.proofs.run.run.Statement.{statement}
@@ -39,31 +29,36 @@ not-due Nothing k task next e = let z : _≡_ {A = ℕ} 0 1 = cc in omega arith
 not-due Later k task next e = let z : _≡_ {A = ℕ} 0 1 = cc in omega arith
 not-due (Due t n) k task next e = miss (0 ∷ 1 ∷ []) 2 tt k
 
--- while one task runs: with busy, what the next statement needs; the mask still has the task
+-- while one task runs: with busy, what the next statement needs; the mask still has the task, and no release behind its job is ready
 abbrev Inv-loop2 : tie.InvT-loop2
-Inv-loop2 sheet bounds memory₀ tasks₀ limit program jobs p job₀ mask place next tick₀ dropped highest i until end busy₀ memory tasks job tick busy =
-    (busy ≡ true → tick < limit) × (busy ≡ true → (task after : ℕ) → comingBy next tick ≡ Due task after → ⊥) × (tick₀ ≤ tick)
+Inv-loop2 sheet bounds memory₀ tasks₀ limit program jobs p job₀ mask waiting ready place next tick₀ dropped highest i until end busy₀ memory tasks job
+    tick busy =
+    (busy ≡ true → tick < limit) × (busy ≡ true → (task after : ℕ) → comingBy ready place next tick ≡ Due task after → ⊥) × (tick₀ ≤ tick)
     × (busy ≡ false → tick₀ < tick)
     × ((u : FlatMachine)
     → Ends sheet program bounds limit
-    (flat (shared memory) (map own tasks) (set jobs p job) (leftBy (busy || unfinished? (job .phase)) mask p) place tick dropped) u
-    → Ends sheet program bounds limit (flat (shared memory₀) (map own tasks₀) (set jobs p job₀) mask place tick₀ dropped) u)
+    (flat (shared memory) (map own tasks) (set jobs p job) (leftBy (busy || unfinished? (job .phase)) mask p) waiting
+    (readyBy (busy || unfinished? (job .phase)) (getD waiting p 0) p ready) place tick dropped) u
+    → Ends sheet program bounds limit (flat (shared memory₀) (map own tasks₀) (set jobs p job₀) mask waiting ready place tick₀ dropped) u)
 
 abbrev μ-loop2 : tie.MeasureT-loop2
-μ-loop2 sheet bounds memory₀ tasks₀ limit program jobs p job₀ mask place next tick₀ dropped highest i until end busy₀ memory tasks job tick busy =
+μ-loop2 sheet bounds memory₀ tasks₀ limit program jobs p job₀ mask waiting ready place next tick₀ dropped highest i until end busy₀ memory tasks job
+    tick busy =
     limit - tick
 
 abbrev Inv-loop : tie.InvT-loop
-Inv-loop sheet bounds memory₀ tasks₀ limit program jobs₀ p₀ job₀ mask₀ place₀ next₀ tick₀ dropped₀ memory tasks jobs p job mask place next tick
-    dropped =
-    (p < 8) × (length jobs ≡ 8) × (next ≡ pendingAt (commandAt sheet place))
+Inv-loop sheet bounds memory₀ tasks₀ limit program jobs₀ p₀ job₀ mask₀ waiting₀ ready₀ place₀ next₀ tick₀ dropped₀ memory tasks jobs p job mask
+    waiting ready place next tick dropped =
+    (p < 8) × (length jobs ≡ 8) × (length waiting ≡ 8) × (next ≡ pendingAt (commandAt sheet place))
     × ((u : FlatMachine)
-    → Ends sheet program bounds limit (flat (shared memory) (map own tasks) (set jobs p job) mask place tick dropped) u
-    → Ends sheet program bounds limit (flat (shared memory₀) (map own tasks₀) (set jobs₀ p₀ job₀) mask₀ place₀ tick₀ dropped₀) u)
+    → Ends sheet program bounds limit (flat (shared memory) (map own tasks) (set jobs p job) mask waiting ready place tick dropped) u
+    → Ends sheet program bounds limit
+    (flat (shared memory₀) (map own tasks₀) (set jobs₀ p₀ job₀) mask₀ waiting₀ ready₀ place₀ tick₀ dropped₀) u)
 
 abbrev μ-loop : tie.MeasureT-loop
-μ-loop sheet bounds memory₀ tasks₀ limit program jobs₀ p₀ job₀ mask₀ place₀ next₀ tick₀ dropped₀ memory tasks jobs p job mask place next tick
-    dropped = 2 * ((limit - tick) + (length sheet - place)) + apart (eqb (topOf 8 mask) p)
+μ-loop sheet bounds memory₀ tasks₀ limit program jobs₀ p₀ job₀ mask₀ waiting₀ ready₀ place₀ next₀ tick₀ dropped₀ memory tasks jobs p job mask
+    waiting ready place next tick dropped =
+    4 * (limit - tick) + 2 * toCome sheet place ready + apart (eqb (topOf 8 mask) p)
 
 array-copy-out-job : tie.Need-array-copy-out-job Inv-loop2 μ-loop2 Inv-loop μ-loop
 array-copy-out-job c = search needs
@@ -72,7 +67,13 @@ pending-at-requires : tie.Need-pending-at-requires Inv-loop2 μ-loop2 Inv-loop �
 pending-at-requires c κs = search needs
 
 loop-holds : tie.Need-loop-holds Inv-loop2 μ-loop2 Inv-loop μ-loop
-loop-holds c = (omega arith, c .before .before .before .before .pre .0, c .pending-at .ensures, λ u e. e)
+loop-holds c = (
+  omega arith,
+  c .before .before .before .before .before .pre .0,
+  c .before .before .before .before .before .pre .1,
+  c .pending-at .ensures,
+  λ u e. e,
+)
 
 coming-at-requires : tie.Need-coming-at-requires Inv-loop2 μ-loop2 Inv-loop μ-loop
 coming-at-requires c κs = search needs
@@ -102,17 +103,30 @@ mul-found c = omega (arith, c .task-number .ensures .1)
 array-copy-out-found : tie.Need-array-copy-out-found Inv-loop2 μ-loop2 Inv-loop μ-loop
 array-copy-out-found c = omega (arith, c .task-number .ensures .1)
 
+array-read-behind : tie.Need-array-read-behind Inv-loop2 μ-loop2 Inv-loop μ-loop
+array-read-behind c = omega (arith, c .before .task-number .ensures .1, c .before .before .before .before .before .before .before .loop .inv .2)
+
 drop-by-requires : tie.Need-drop-by-requires Inv-loop2 μ-loop2 Inv-loop μ-loop
 drop-by-requires c κs = search needs
+
+wait-by-requires : tie.Need-wait-by-requires Inv-loop2 μ-loop2 Inv-loop μ-loop
+wait-by-requires c κs = search needs
+
+array-write-waiting : tie.Need-array-write-waiting Inv-loop2 μ-loop2 Inv-loop μ-loop
+array-write-waiting c = omega (
+  arith,
+  c .before .before .before .task-number .ensures .1,
+  c .before .before .before .before .before .before .before .before .before .loop .inv .2,
+)
 
 begun-requires : tie.Need-begun-requires Inv-loop2 μ-loop2 Inv-loop μ-loop
 begun-requires c κs = search needs
 
 mul-zero-by : tie.Need-mul-zero-by Inv-loop2 μ-loop2 Inv-loop μ-loop
-mul-zero-by c = omega (arith, c .before .before .before .task-number .ensures .1)
+mul-zero-by c = omega (arith, c .before .before .before .before .task-number .ensures .1)
 
 index-1-zero-by : tie.Need-index-1-zero-by Inv-loop2 μ-loop2 Inv-loop μ-loop
-index-1-zero-by c = omega (arith, c .before .before .before .task-number .ensures .1)
+index-1-zero-by c = omega (arith, c .before .before .before .before .task-number .ensures .1)
 
 zero-by-requires : tie.Need-zero-by-requires Inv-loop2 μ-loop2 Inv-loop μ-loop
 zero-by-requires c κs = search needs
@@ -127,38 +141,38 @@ pending-at-requires-2 : tie.Need-pending-at-requires-2 Inv-loop2 μ-loop2 Inv-lo
 pending-at-requires-2 c κs = search needs
 
 loop-less : tie.Need-loop-less Inv-loop2 μ-loop2 Inv-loop μ-loop
-loop-less c = let l = c .before .before .before .before .before .before .before .before .before .before .before .before .before .before
-    .loop in let d = due-within _ _ _ _ _
-    (ap (λ q. comingBy q (l .tick)) (sym (l .inv .2)) ∙ sym
-    (c .before .before .before .before .before .before .before .before .before .before .before .before .coming-at .ensures)
-    ∙ c .before .before .before .before .before .before .before .before .before .before .release .given .1) in omega (
+loop-less c =
+    let l = c .before .before .before .before .before .before .before .before .before .before .before .before .before .before .before .loop in
+    let d = due-less _ (l .ready) (l .place) (l .tick) _ _ (l .next) (l .inv .3)
+    (c .before .before .before .before .before .before .before .before .before .before .before .before .before .coming-at .ensures)
+    (c .before .before .before .before .before .before .before .before .before .before .before .release .given .1) in
+    omega (
       arith,
-      d .0,
-      d .1,
-      c .before .before .before .before .before .before .before .before .before .before .before .before .before
-          .loop-test,
-      apart-most
-          (eqb (topOf 8 (c .before .before .before .before .before .begun .result))
-          (c .before .before .before .before .before .before .before .before .task-number .result)),
+      d,
+      c .before .before .before .before .before .before .before .before .before .before .before .before .before .before .loop-test,
+      apart-most (eqb (topOf 8 (c .before .before .before .before .before .begun .result))
+          (c .before .before .before .before .before .before .before .before .before .task-number .result)),
     )
 
 loop-again : tie.Need-loop-again Inv-loop2 μ-loop2 Inv-loop μ-loop
 loop-again c = let l =
-    c .before .before .before .before .before .before .before .before .before .before .before .before .before .before .loop in (
-      c .before .before .before .before .before .before .before .before .task-number .ensures .1,
-      length-set (l .jobs) (l .p) (l .job)
-          ∙ l .inv .1,
+    c .before .before .before .before .before .before .before .before .before .before .before .before .before .before .before .loop in (
+      c .before .before .before .before .before .before .before .before .before .task-number .ensures .1,
+      length-set (l .jobs) (l .p) (l .job) ∙ l .inv .1,
+      length-set (l .waiting) (c .before .before .before .before .before .before .before .before .before .task-number .result)
+          (c .before .before .before .before .before .before .wait-by .result) ∙ l .inv .2,
       c .pending-at2 .ensures,
-      λ u e. l .inv .3 u
-          (after-release _ _ _ _ _ _ _ _
-          (c .before .before .before .before .before .before .before .before .before .before .before .before .before .loop-test .taken)
-          (c .before .before .before .before .before .before .before .before .before .before .before .before .coming-at .ensures ∙ ap
-          (λ q. comingBy q (l .tick)) (l .inv .2))
-          (c .before .before .before .before .before .before .before .before .before .before .release .given .1)
-          (release-turn _ _ (l .tasks) (l .jobs) (l .job) _ _ _ _ _ _ (l .p)
-          (c .before .before .before .before .before .before .before .before .task-number .result) (c .before .before .before .zero-by .last .0)
-          (c .before .before .before .before .before .before .before .before .task-number .ensures .0)
-          (c .before .before .before .before .before .before .drop-by .ensures) (c .before .before .before .before .before .begun .ensures)
+      λ u e. l .inv .4 u
+          (after-release _ _ _ _ _ (l .next) (l .inv .3) _ _ _
+          (c .before .before .before .before .before .before .before .before .before .before .before .before .before .before .loop-test .taken)
+          (c .before .before .before .before .before .before .before .before .before .before .before .before .before .coming-at .ensures)
+          (c .before .before .before .before .before .before .before .before .before .before .before .release .given .1)
+          (release-turn _ _ (l .tasks) (l .jobs) (l .job) _ (l .waiting) _ _ _ _ _ _ (l .p)
+          (c .before .before .before .before .before .before .before .before .before .task-number .result)
+          (c .before .before .before .zero-by .last .0)
+          (c .before .before .before .before .before .before .before .before .before .task-number .ensures .0)
+          (c .before .before .before .before .before .before .before .drop-by .ensures)
+          (c .before .before .before .before .before .before .wait-by .ensures) (c .before .before .before .before .before .begun .ensures)
           (c .before .before .before .zero-by .ensures) (c .before .before .bound .ensures) (c .before .started .ensures)) u e),
     )
 
@@ -177,28 +191,31 @@ array-set-from-jobs-2 c = omega
 
 returns : tie.Need-returns Inv-loop2 μ-loop2 Inv-loop μ-loop
 returns c = let l = c .before .before .before .before .before .loop in (
-  resumed _ _ _ _ _ _ _ _ _ _ _ _
-      (l .inv .3 _ (after-stop _ _ _ _ _ (c .before .before .before .coming-at .ensures ∙ ap (λ q. comingBy q (l .tick)) (l .inv .2))
+  resumed _ _ _ _ _ _ _ _ _ _ _ _ _ _
+      (l .inv .4 _ (after-stop _ _ _ _ _ (l .next) (l .inv .3) (c .before .before .before .coming-at .ensures)
       (sym (c .before .stops .ensures) ∙ c .if1 .taken))),
   length-set (l .jobs) (l .p) (l .job) ∙ l .inv .1,
+  l .inv .2,
 )
 
-add-tick : tie.Need-add-tick Inv-loop2 μ-loop2 Inv-loop μ-loop
-add-tick c = search needs
+idled-requires : tie.Need-idled-requires Inv-loop2 μ-loop2 Inv-loop μ-loop
+idled-requires c κs = search needs
 
 loop-less-2 : tie.Need-loop-less-2 Inv-loop2 μ-loop2 Inv-loop μ-loop
-loop-less-2 c = omega (arith, c .before .before .before .before .before .loop-test)
+loop-less-2 c = let l = c .before .before .before .before .before .before .before .loop in omega
+    (arith, idled-later (l .next) (l .tick) _ (c .idled .ensures), c .before .before .before .before .before .before .loop-test)
 
 loop-again-2 : tie.Need-loop-again-2 Inv-loop2 μ-loop2 Inv-loop μ-loop
-loop-again-2 c = let l = c .before .before .before .before .before .before .loop in (
+loop-again-2 c = let l = c .before .before .before .before .before .before .before .loop in (
   l .inv .0,
   l .inv .1,
   l .inv .2,
-  λ u e. l .inv .3 u
-      (after-tick _ _ _ _ _ _ (c .before .before .before .before .before .loop-test .taken)
-      (c .before .before .before .before .coming-at .ensures ∙ ap (λ q. comingBy q (l .tick)) (l .inv .2))
-      (not-due _ (c .before .before .before .match .keys2)) (sym (c .before .before .stops .ensures) ∙ c .before .if1 .left)
-      (pass-turn _ _ _ _ (set (l .jobs) (l .p) (l .job)) _ _ _ _ (c .if2 .taken)) u e),
+  l .inv .3,
+  λ u e. l .inv .4 u
+      (idled-ticks _ _ _ _ _ _ (set (l .jobs) (l .p) (l .job)) _ _ (l .ready) (l .place) _ (l .next) (l .inv .3) (c .before .if2 .taken) u (l .tick)
+      (c .before .before .before .before .before .before .loop-test .taken) (c .before .before .before .before .before .coming-at .ensures)
+      (not-due _ (c .before .before .before .before .match .keys2)) (sym (c .before .before .before .stops .ensures) ∙ c .before .before .if1 .left)
+      (c .idled .ensures) e),
 )
 
 top-requires : tie.Need-top-requires Inv-loop2 μ-loop2 Inv-loop μ-loop
@@ -232,11 +249,11 @@ loop-less-3 c = let away = ne-eqb _ _ (λ q. c .before .if3 .taken (c .before .b
 
 loop-again-3 : tie.Need-loop-again-3 Inv-loop2 μ-loop2 Inv-loop μ-loop
 loop-again-3 c = let l = c .before .before .before .before .before .before .before .before .before .loop in (
-  (c .before .before .top .ensures .1),
+  c .before .before .top .ensures .1,
   length-set (l .jobs) (l .p) (l .job) ∙ l .inv .1,
   l .inv .2,
-  λ u e. l .inv .3 u
-      (same-machine _ _ _ _ _ _ (switched _ _ (l .jobs) (l .job) _ _ _ _ _ _) u e),
+  l .inv .3,
+  λ u e. l .inv .4 u (same-machine _ _ _ _ _ _ (switched _ _ (l .jobs) (l .job) _ _ _ _ _ _ _ _) u e),
 )
 
 cast-i-2 : tie.Need-cast-i-2 Inv-loop2 μ-loop2 Inv-loop μ-loop
@@ -275,45 +292,37 @@ array-copy-out-command : tie.Need-array-copy-out-command Inv-loop2 μ-loop2 Inv-
 array-copy-out-command c = omega (arith, c .line .ensures .1)
 
 mul-begin-tick : tie.Need-mul-begin-tick Inv-loop2 μ-loop2 Inv-loop μ-loop
-mul-begin-tick c = omega (
-  arith,
-  c .before .before .before .before .before .before .before .before .before .before .before .before .before .before .before
-      .before .before .loop .inv .0,
-)
+mul-begin-tick c = let l =
+    c .before .before .before .before .before .before .before .before .before .before .before .before .before .before .before .before .before .loop in
+    omega (arith, l .inv .0)
 
 index-1-begin-tick : tie.Need-index-1-begin-tick Inv-loop2 μ-loop2 Inv-loop μ-loop
-index-1-begin-tick c = omega (
-  arith,
-  c .before .before .before .before .before .before .before .before .before .before .before .before .before .before .before
-      .before .before .loop .inv .0,
-)
+index-1-begin-tick c = let l =
+    c .before .before .before .before .before .before .before .before .before .before .before .before .before .before .before .before .before .loop in
+    omega (arith, l .inv .0)
 
 begin-tick-requires : tie.Need-begin-tick-requires Inv-loop2 μ-loop2 Inv-loop μ-loop
 begin-tick-requires c κs = search needs
 
 mul-step-tick : tie.Need-mul-step-tick Inv-loop2 μ-loop2 Inv-loop μ-loop
-mul-step-tick c = omega (
-  arith,
-  c .before .before .before .before .before .before .before .before .before .before .before .before .before .before .before .loop
-      .inv .0,
-)
+mul-step-tick c = let l =
+    c .before .before .before .before .before .before .before .before .before .before .before .before .before .before .before .loop in
+    omega (arith, l .inv .0)
 
 index-1-step-tick : tie.Need-index-1-step-tick Inv-loop2 μ-loop2 Inv-loop μ-loop
-index-1-step-tick c = omega (
-  arith,
-  c .before .before .before .before .before .before .before .before .before .before .before .before .before .before .before .loop
-      .inv .0,
-)
+index-1-step-tick c = let l =
+    c .before .before .before .before .before .before .before .before .before .before .before .before .before .before .before .loop in
+    omega (arith, l .inv .0)
 
 step-tick-requires : tie.Need-step-tick-requires Inv-loop2 μ-loop2 Inv-loop μ-loop
 step-tick-requires c κs = search needs
 
-add-tick-2 : tie.Need-add-tick-2 Inv-loop2 μ-loop2 Inv-loop μ-loop
-add-tick-2 c = omega (
+add-tick : tie.Need-add-tick Inv-loop2 μ-loop2 Inv-loop μ-loop
+add-tick c = omega (
   arith,
   c .before .before .before .loop2 .inv .0 (c .before .before .loop2-test .taken),
   c .before .before .before .before .before .before .before .before .before .before .before .before .before .before .before .before
-      .before .before .before .fits,
+      .before .before .before .before .fits,
 )
 
 goes-on-requires : tie.Need-goes-on-requires Inv-loop2 μ-loop2 Inv-loop μ-loop
@@ -327,30 +336,30 @@ loop2-again c = let l =
     c .before .before .before .before .before .before .before .before .before .before .before .before .before .before .before .loop in
     let g = c .before .before .before .before .loop2 in let v = c .before .if4 in let on = rw
     (c .before .before .before .loop2-test .taken) at (g .inv .4) in
+    let none = none-ready (l .ready) (l .place) (l .next) (g .tick) (g .inv .1 (c .before .before .before .loop2-test .taken)) in
     let before : c .goes-on .result ≡ true → g .tick + 1 < c .before .before .before .before .before .before .until .result = λ h.
     goes-before (v .job .phase) _ _ (c .goes-on .ensures) h in (
       λ h. until-limit (l .next) _ _ (rw (c .before .before .before .before .before .before .until .ensures) at (before h)),
-      λ h. until-due
-          (l .next) _ _ (rw (c .before .before .before .before .before .before .until .ensures) at (before h)),
+      λ h. until-due (l .next) _ _ (l .ready) (l .place) none (rw (c .before .before .before .before .before .before .until .ensures) at (before h)),
       omega (arith, g .inv .2),
       λ h. omega (arith, g .inv .2),
       λ u e. either
-          (λ x. on u (stretch _ _ _ _ _ (g .tasks) (l .jobs) (g .job) _ _ _ _ (l .p) (l .next) (x .5 .last .1 .0)
+          (λ x. on u (stretch _ _ _ _ _ (g .tasks) (l .jobs) (g .job) _ (l .waiting) (l .ready) _ _ _ (l .p) (l .next) (x .5 .last .1 .0)
           (c .before .before .before .before .before .before .until .result)
           (c .before .before .before .before .before .before .before .before .before .if2 .left)
           (sym (c .before .before .before .before .before .before .before .if3 .left)
           ∙ c .before .before .before .before .before .before .before .before .top .ensures .0) (omega (arith, l .inv .0, l .inv .1))
-          (c .before .before .before .before .before .bound2 .ensures) (g .inv .0 (c .before .before .before .loop2-test .taken)) (l .inv .2)
+          (c .before .before .before .before .before .bound2 .ensures) (g .inv .0 (c .before .before .before .loop2-test .taken)) (l .inv .3)
           (g .inv .1 (c .before .before .before .loop2-test .taken)) (x .7)
           (came _ (x .5 .last .1 .0) (x .8) (x .6) (x .5 .ensures)
           (begin-statement _ _ _ _ (g .job) (sym (c .before .before .starting .ensures) ∙ x .0 .taken) (x .1 .ensures .0) refl))
           (c .goes-on .ensures) u e))
-          (λ y. on u (stretch _ _ _ _ _ (g .tasks) (l .jobs) (g .job) _ _ _ _ (l .p) (l .next) (y .3 .last .1 .0)
+          (λ y. on u (stretch _ _ _ _ _ (g .tasks) (l .jobs) (g .job) _ (l .waiting) (l .ready) _ _ _ (l .p) (l .next) (y .3 .last .1 .0)
           (c .before .before .before .before .before .before .until .result)
           (c .before .before .before .before .before .before .before .before .before .if2 .left)
           (sym (c .before .before .before .before .before .before .before .if3 .left)
           ∙ c .before .before .before .before .before .before .before .before .top .ensures .0) (omega (arith, l .inv .0, l .inv .1))
-          (c .before .before .before .before .before .bound2 .ensures) (g .inv .0 (c .before .before .before .loop2-test .taken)) (l .inv .2)
+          (c .before .before .before .before .before .bound2 .ensures) (g .inv .0 (c .before .before .before .loop2-test .taken)) (l .inv .3)
           (g .inv .1 (c .before .before .before .loop2-test .taken)) (y .5)
           (came _ (y .3 .last .1 .0) (y .6) (y .4) (y .3 .ensures)
           (step-statement _ _ _ _ (g .job) (sym (c .before .before .starting .ensures) ∙ y .0 .left))) (c .goes-on .ensures) u e)) (v .came),
@@ -359,20 +368,30 @@ loop2-again c = let l =
 leaving-requires : tie.Need-leaving-requires Inv-loop2 μ-loop2 Inv-loop μ-loop
 leaving-requires c κs = search needs
 
+array-read-behind-2 : tie.Need-array-read-behind-2 Inv-loop2 μ-loop2 Inv-loop μ-loop
+array-read-behind-2 c = omega (
+  arith,
+  c .before .before .before .before .before .before .before .before .before .before .before .before .before .loop .inv .0,
+  c .before .before .before .before .before .before .before .before .before .before .before .before .before .loop .inv .2,
+)
+
+ready-by-requires : tie.Need-ready-by-requires Inv-loop2 μ-loop2 Inv-loop μ-loop
+ready-by-requires c κs = search needs
+
 loop-less-4 : tie.Need-loop-less-4 Inv-loop2 μ-loop2 Inv-loop μ-loop
 loop-less-4 c = omega (
   arith,
-  c .before .before .loop2 .inv .3 (c .before .loop2-test .left),
-  c .before .before .before .before .before .before .before .before .before .before .before .before .loop-test,
-  apart-most
-      (eqb (topOf 8 (c .leaving .result))
-      (c .before .before .before .before .before .before .before .before .before .before .before .before .before .loop .p)),
+  c .before .before .before .loop2 .inv .3 (c .before .before .loop2-test .left),
+  c .before .before .before .before .before .before .before .before .before .before .before .before .before .loop-test,
+  waits-most (ltb (c .ready-by .result) nobody),
+  apart-most (eqb (topOf 8 (c .before .leaving .result))
+      (c .before .before .before .before .before .before .before .before .before .before .before .before .before .before .loop .p)),
 )
 
 loop-again-4 : tie.Need-loop-again-4 Inv-loop2 μ-loop2 Inv-loop μ-loop
-loop-again-4 c = let l = c .before .before .before .before .before .before .before .before .before .before .before .before .before .loop in
-    let g = c .before .before .loop2 in let off = rw (c .before .loop2-test .left) at (g .inv .4) in
-    (l .inv .0, l .inv .1, l .inv .2, λ u e. l .inv .3 u (off u (rw (c .leaving .ensures) at e)))
+loop-again-4 c = let l = c .before .before .before .before .before .before .before .before .before .before .before .before .before .before .loop in
+    let g = c .before .before .before .loop2 in let off = rw (c .before .before .loop2-test .left) at (g .inv .4) in
+    (l .inv .0, l .inv .1, l .inv .2, l .inv .3, λ u e. l .inv .4 u (off u (rw (c .before .leaving .ensures, c .ready-by .ensures) at e)))
 
 cast-jobs-4 : tie.Need-cast-jobs-4 Inv-loop2 μ-loop2 Inv-loop μ-loop
 cast-jobs-4 c = search needs
@@ -384,15 +403,19 @@ array-set-from-jobs-4 : tie.Need-array-set-from-jobs-4 Inv-loop2 μ-loop2 Inv-lo
 array-set-from-jobs-4 c = omega (arith, c .before .loop .inv .0, c .before .loop .inv .1)
 
 returns-2 : tie.Need-returns-2 Inv-loop2 μ-loop2 Inv-loop μ-loop
-returns-2 c = let l = c .before .loop in
-    (resumed _ _ _ _ _ _ _ _ _ _ _ _ (l .inv .3 _ (limited (c .loop-test .left))), length-set (l .jobs) (l .p) (l .job) ∙ l .inv .1)
+returns-2 c = let l = c .before .loop in (
+  resumed _ _ _ _ _ _ _ _ _ _ _ _ _ _ (l .inv .4 _ (limited (c .loop-test .left))),
+  length-set (l .jobs) (l .p) (l .job) ∙ l .inv .1,
+  l .inv .2,
+)
 
 pub run-spec : {M : Type 1} → statement M
 run-spec = tie.close (tie.spec Inv-loop2 μ-loop2 Inv-loop μ-loop array-copy-out-job pending-at-requires loop-holds coming-at-requires
-    enum-known-release cast-jobs mul-jobs array-set-from-jobs task-number-requires cast-i mul-found array-copy-out-found drop-by-requires
-    begun-requires mul-zero-by index-1-zero-by zero-by-requires bound-requires started-requires pending-at-requires-2 loop-less loop-again
-    stops-requires cast-jobs-2 mul-jobs-2 array-set-from-jobs-2 returns add-tick loop-less-2 loop-again-2 top-requires cast-jobs-3
-    mul-jobs-3 array-set-from-jobs-3 cast-job mul-job array-copy-out-job-2 loop-less-3 loop-again-3 cast-i-2 until-requires add-bound
-    bound-requires-2 loop2-holds starting-requires line-requires mul-command array-copy-out-command mul-begin-tick index-1-begin-tick
-    begin-tick-requires mul-step-tick index-1-step-tick step-tick-requires add-tick-2 goes-on-requires loop2-less loop2-again
-    leaving-requires loop-less-4 loop-again-4 cast-jobs-4 mul-jobs-4 array-set-from-jobs-4 returns-2)
+    enum-known-release cast-jobs mul-jobs array-set-from-jobs task-number-requires cast-i mul-found array-copy-out-found array-read-behind
+    drop-by-requires wait-by-requires array-write-waiting begun-requires mul-zero-by index-1-zero-by zero-by-requires bound-requires
+    started-requires pending-at-requires-2 loop-less loop-again stops-requires cast-jobs-2 mul-jobs-2 array-set-from-jobs-2 returns
+    idled-requires loop-less-2 loop-again-2 top-requires cast-jobs-3 mul-jobs-3 array-set-from-jobs-3 cast-job mul-job
+    array-copy-out-job-2 loop-less-3 loop-again-3 cast-i-2 until-requires add-bound bound-requires-2 loop2-holds starting-requires
+    line-requires mul-command array-copy-out-command mul-begin-tick index-1-begin-tick begin-tick-requires mul-step-tick index-1-step-tick
+    step-tick-requires add-tick goes-on-requires loop2-less loop2-again leaving-requires array-read-behind-2 ready-by-requires loop-less-4
+    loop-again-4 cast-jobs-4 mul-jobs-4 array-set-from-jobs-4 returns-2)

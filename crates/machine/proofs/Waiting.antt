@@ -1,0 +1,33 @@
+-- A release to a task whose job is unfinished waits while there is room and is dropped where there is none; a job's end makes one that waits ready.
+use Prim.Native.Nat.{ℕ, _+_, _-_, _%_, _<_, _≤_}
+use mathlib.Core.Path.{_≡_}
+use mathlib.Core.Bool.{Bool, true, false}
+use borrow.Author.Tests.{lt-ltb, le-ltb, eq-eqb, ne-eqb}
+use Rattle.model.specs.Ceilings.{maxWaiting}
+use Rattle.machine.specs.Flat.{droppedBy, waitingBy, readyBy}
+
+-- w releases wait behind the job, and the answer is whether that is unfinished
+module _ (w : ℕ) {b : Bool} where
+  pub room-waits : b ≡ true → w < maxWaiting → w + 1 ≡ waitingBy b w
+  room-waits e h = rw (e, lt-ltb w maxWaiting h)
+
+  pub full-waits : b ≡ true → maxWaiting ≤ w → w ≡ waitingBy b w
+  full-waits e h = rw (e, le-ltb w maxWaiting h)
+
+  pub none-starts : b ≡ false → w ≡ 0 → 0 ≡ waitingBy b w
+  none-starts e h = rw (e, h)
+
+  pub one-starts : b ≡ false → w - 1 ≡ waitingBy b w
+  one-starts e = rw e
+
+  pub room-drops : (d : ℕ) → b ≡ true → w < maxWaiting → d ≡ droppedBy b w d
+  room-drops d e h = rw (e, lt-ltb w maxWaiting h)
+
+  pub full-drops : (d : ℕ) {r : ℕ} → b ≡ true → maxWaiting ≤ w → r ≡ (d + 1) % 4294967296 → r ≡ droppedBy b w d
+  full-drops d e h f = rw (e, le-ltb w maxWaiting h) f
+
+  pub ends-none : (p y : ℕ) → b ≡ false → w ≡ 0 → y ≡ readyBy b w p y
+  ends-none p y e h = rw (e, eq-eqb w 0 h)
+
+  pub ends-one : (p y : ℕ) → b ≡ false → (w ≡ 0 → ⊥) → p ≡ readyBy b w p y
+  ends-one p y e h = rw (e, ne-eqb w 0 h)
