@@ -1,19 +1,18 @@
 -- Small states worked out by hand: what one statement of an exchange or of READ leaves of them. Each line is computed.
 use Prim.Native.Nat.{ℕ}
 use mathlib.Core.Path.{_≡_, refl}
-use mathlib.Core.Bool.{Bool, true, false}
+use mathlib.Core.Bool.{true, false}
 use mathlib.Core.List.{List, [], _∷_}
 use Rattle.model.specs.Lists.{at, replace}
 use Rattle.state.specs.Packed.{packed}
-use Rattle.state.specs.State.{Shared, Entries, Own, setCell, setStatus, setSave}
-use Rattle.exchanges.specs.Places.{went, Left, left}
+use Rattle.state.specs.State.{Shared, Own}
+use Rattle.exchanges.specs.Places.{went, left}
 use Rattle.exchanges.specs.Reading.{owned, afterLook, afterReading}
-use Rattle.exchanges.specs.Exchange.{afterStart, afterTest, afterLoad, afterLook as afterLooking, afterFetch, found}
-use Rattle.exchanges.specs.Exchange.{afterSave, afterFail, afterMark, afterInstall, afterCommit, afterClean, afterCleanMark, afterExchange}
+use Rattle.exchanges.specs.Exchange.{afterStart}
+use Rattle.exchanges.specs.Exchange.{afterSave, afterInstall, afterCommit, afterClean, afterExchange}
 use Rattle.exchanges.specs.declared.read.Reading.the-variants as reading
 use Rattle.exchanges.specs.declared.read.Read.the-variants.{Reads, Gives}
-use Rattle.exchanges.specs.declared.exchange.Step.the-variants.{Test, Fetch, Save, Fail, Mark, Install, Clean, CleanMark, Start}
-use Rattle.exchanges.specs.declared.exchange.Exchanged.{Exchanged}
+use Rattle.exchanges.specs.declared.exchange.Step.the-variants.{Test, Fetch, Fail, Mark, Install, Clean, CleanMark, Start}
 use Rattle.exchanges.specs.declared.exchange.Exchanged.the-variants.{Goes, Ends}
 
 -- two cells; tasks 0 and 1; task 0 has saved 5 for its first pair

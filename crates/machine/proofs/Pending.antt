@@ -12,7 +12,7 @@ use Rattle.model.specs.Command as M
 use Rattle.commands.specs.View.{viewCommand}
 use Rattle.commands.specs.declared.Command.{Command}
 use Rattle.commands.specs.declared.Command.the-variants as C
-use Rattle.machine.specs.Flat.{pendingBy, pendingAt, dueBy, comingFor, nobody, comingBy}
+use Rattle.machine.specs.Flat.{pendingBy, pendingAt, dueBy, comingOf, nobody, comingBy}
 use Rattle.machine.specs.declared.releases.Pending.{Pending}
 use Rattle.machine.specs.declared.releases.Coming.{Coming}
 use Rattle.machine.specs.declared.releases.Coming.the-variants.{Nothing, Due}
@@ -61,7 +61,7 @@ waits-most false = omega arith
 
 -- each release that comes leaves less of it: one of the sheet is a command found there, and one that waited does not come again
 module _ (sheet : List ℕ) (ready place tick task next : ℕ) where
-  in-sheet : comingFor (pendingAt (M.commandAt sheet place) .some) (pendingAt (M.commandAt sheet place)) tick ≡ Due task next
+  in-sheet : comingOf (pendingAt (M.commandAt sheet place)) tick ≡ Due task next
       → (place < next) × (next ≤ length sheet)
   in-sheet e = go (M.commandAt sheet place) refl e
     where
@@ -72,7 +72,7 @@ module _ (sheet : List ℕ) (ready place tick task next : ℕ) where
       same true n q e = cc
       same false n q e = let z : _≡_ {A = ℕ} 0 1 = cc in absurd (omega arith)
 
-      go : (f : M.Found) → M.commandAt sheet place ≡ f → comingFor (pendingAt f .some) (pendingAt f) tick ≡ Due task next
+      go : (f : M.Found) → M.commandAt sheet place ≡ f → comingOf (pendingAt f) tick ≡ Due task next
           → (place < next) × (next ≤ length sheet)
       go (M.refused f p) q e = no e
       go (M.found (M.RELEASE r) n) q e =

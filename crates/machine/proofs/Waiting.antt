@@ -14,11 +14,11 @@ module _ (w : ℕ) {b : Bool} where
   pub full-waits : b ≡ true → maxWaiting ≤ w → w ≡ waitingBy b w
   full-waits e h = rw (e, le-ltb w maxWaiting h)
 
-  pub none-starts : b ≡ false → w ≡ 0 → 0 ≡ waitingBy b w
-  none-starts e h = rw (e, h)
+  pub starts-none : b ≡ false → w ≡ 0 → 0 ≡ waitingBy b w
+  starts-none e h = rw (e, h)
 
-  pub one-starts : b ≡ false → w - 1 ≡ waitingBy b w
-  one-starts e = rw e
+  pub starts-one : b ≡ false → w - 1 ≡ waitingBy b w
+  starts-one e = rw e
 
   pub room-drops : (d : ℕ) → b ≡ true → w < maxWaiting → d ≡ droppedBy b w d
   room-drops d e h = rw (e, lt-ltb w maxWaiting h)

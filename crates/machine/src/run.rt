@@ -138,7 +138,7 @@ fn drop_by(dropped: u32, waiting: u8, phase: Phase) -> u32
     dropped
 }
 
-// How many wait then: one more, or one fewer where the release starts a job, for only one that waited comes to a task behind which any wait.
+// How many wait then: one more, or one fewer where a job starts. Only one that waited finds any behind a job that has ended.
 fn wait_by(waiting: u8, phase: Phase) -> u8
     ensures { λ r. ⌜ r ≡ waitingBy (unfinished? phase) waiting ⌝ }
 {

@@ -43,6 +43,13 @@ module _ {A : Type 0} where
   unfolding at
   at-replicate d a n i h = getD-replicate n i a d h
 
+  -- a list of defaults has the default everywhere
+  pub at-default : (d : A) (n i : ℕ) → at d (replicate n d) i ≡ d
+  unfolding at
+  at-default d zero i = refl
+  at-default d (suc n) zero = refl
+  at-default d (suc n) (suc i) = at-default d n i
+
   -- an element other than the default stands below the length
   pub at-below : (d : A) (l : List A) (i : ℕ) → (at d l i ≡ d → ⊥) → i < length l
   at-below d l i n = go (decLt i (length l))

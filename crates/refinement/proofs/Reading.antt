@@ -1,17 +1,15 @@
 -- READ's ticks over packed words are the model's.
-use Prim.Native.Nat.{ℕ, _%_, _<_}
+use Prim.Native.Nat.{ℕ, _<_}
 use mathlib.Core.Path.{_≡_, refl, ap, _∙_}
 use mathlib.Core.Bool.{Bool, true, false}
-use native.Mathlib.Omega.{arith}
 use lib.ListN.{length}
 use Rattle.model.specs.Word as W
-use Rattle.state.specs.Packed.{unpack, valueOf, countOf, taskOf}
+use Rattle.state.specs.Packed.{unpack, valueOf}
 use Rattle.exchanges.specs.Places.{if}
-use Rattle.exchanges.specs.Reading.{owned, savedFor, afterLook, afterReading}
+use Rattle.exchanges.specs.Reading.{owned, afterLook, afterReading}
 use Rattle.exchanges.specs.declared.read.Reading.{Reading}
 use Rattle.exchanges.specs.declared.read.Reading.the-variants.{Load, Look, Fetch}
 use Rattle.exchanges.specs.declared.read.Read.the-variants.{Reads, Gives}
-use Rattle.state.specs.Rows.{rows}
 use Rattle.state.specs.State.{Shared}
 use Rattle.state.specs.Held.{memoryOf}
 use Rattle.refinement.proofs.View.{readingOf, readOf}

@@ -11,17 +11,16 @@ use Rattle.model.specs.Lists.{at}
 use Rattle.model.specs.Command.{Release}
 use Rattle.model.specs.Sheet.{Sheet, sheetOf}
 use Rattle.model.specs.Machine as M
-use Rattle.model.proofs.Lists.{at-replicate, at-past}
+use Rattle.model.proofs.Lists.{at-default}
 use Rattle.model.proofs.Fit.Elements.{below?}
 use Rattle.model.proofs.Fit.Sheet.{SheetFit}
 use Rattle.model.proofs.Fit.Start.{startTask, start-task, start-fit}
 use Rattle.commands.specs.declared.BodyCommand.{BodyCommand}
 use Rattle.state.specs.State.{Shared, Own, own}
-use Rattle.state.specs.Held.{memoryOf}
 use Rattle.machine.specs.Flat.{noJob, flatIn, pausedAt}
 use Rattle.jobs.specs.declared.Job.{Job}
 use Rattle.program.specs.Program.{Programmed}
-use Rattle.start.specs.Start.{SharedStarts, OwnStarts, TasksStart}
+use Rattle.start.specs.Start.{SharedStarts, TasksStart}
 use Rattle.refinement.proofs.Entered.{no-pairs}
 use Rattle.refinement.proofs.Releases.{releasesFrom}
 use Rattle.refinement.proofs.Unfinished.{maskOf}
@@ -29,14 +28,14 @@ use Rattle.refinement.proofs.Machine.{noneReady, declaredBy, taskWith, 
 
 no-job : (p : ℕ) → getD (replicate 8 noJob) p noJob ≡ noJob
 unfolding at
-no-job p = below? p 8 (λ l. at-replicate noJob noJob 8 p l) (λ l. at-past noJob (replicate 8 noJob) p l)
+no-job p = at-default noJob 8 p
 
 -- none waits
 abbrev pub noQueues : List (List Release)
 noQueues = replicate 8 []
 
 no-queue : (p : ℕ) → M.waitingAt noQueues p ≡ []
-no-queue p = below? p 8 (λ l. at-replicate [] [] 8 p l) (λ l. at-past [] noQueues p l)
+no-queue p = at-default {A = List Release} [] 8 p
 
 module _ (sheet : List ℕ) (program : List BodyCommand) (bounds : List ℕ) (held : Programmed sheet program bounds) (c : SheetFit (sheetOf sheet))
     (place : ℕ) (releases : releasesFrom sheet place ≡ sheetOf sheet .releases) (m : Shared) (shared : SharedStarts (sheetOf sheet) m)

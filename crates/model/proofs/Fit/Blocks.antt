@@ -5,7 +5,6 @@ use mathlib.Core.Logic.{_≢_}
 use mathlib.Core.Bool.{Bool, true, false, _||_, true≢false, false≢true}
 use mathlib.Core.List.{List, [], _∷_}
 use native.Mathlib.Omega.{arith}
-use native.Mathlib.Decide.{decLt}
 use lib.Dec.{eqb}
 use lib.ListN.{length, replicate}
 use borrow.Author.Tests.{eqb-true}
@@ -14,7 +13,7 @@ use Rattle.model.specs.Fault.{among, Body}
 use Rattle.model.specs.Job.{Touched, untouched, remembered, copied}
 use Rattle.model.specs.Exchange.{Entry, entry}
 use Rattle.model.specs.Transaction.{bank, bankValue, versionOf, nothing?, gather}
-use Rattle.model.proofs.Lists.{same?, replace-same, replace-other, length-replace, at-past, at-replicate, impossible}
+use Rattle.model.proofs.Lists.{same?, replace-same, replace-other, length-replace, at-default, impossible}
 use Rattle.model.proofs.Fit.Elements.{or-cases, or-left, or-right}
 use Rattle.model.proofs.Fit.Transaction.{countBy, count, touched?, copied?, BlocksFit}
 use Rattle.model.proofs.Fit.Exchange.{entryOf, EntriesFit}
@@ -109,14 +108,6 @@ module _ (test : Touched → Bool) where
       omega (arith, count-by (test s) (count test ts), count-by (test s) (count test (replace ts n t)))
 
 -- THE BLOCKS AGAINST THE TEXT
--- nothing touched
-pub at-none : (n : ℕ) → at untouched (replicate 16 untouched) n ≡ untouched
-at-none n = go (decLt n 16)
-  where
-    go : Dec (n < 16) → at untouched (replicate 16 untouched) n ≡ untouched
-    go (yes h) = at-replicate untouched untouched 16 n h
-    go (no h) = at-past untouched (replicate 16 untouched) n (omega arith)
-
 not-touched : {P : Type 0} {t : Touched} → t ≡ untouched → touched? t ≡ true → P
 not-touched e h = absurd (false≢true (rw e at h))
 
@@ -133,12 +124,12 @@ unfolding count
 blocks-none blocks b =
     record {
       size = refl;
-      below = λ n h. not-touched (at-none n) h;
-      touched = λ n h. not-touched (at-none n) h;
-      put = λ n h. not-touched (at-none n) (copied-touched (at untouched (replicate 16 untouched) n) h);
+      below = λ n h. not-touched (at-default untouched 16 n) h;
+      touched = λ n h. not-touched (at-default untouched 16 n) h;
+      put = λ n h. not-touched (at-default untouched 16 n) (copied-touched (at untouched (replicate 16 untouched) n) h);
       slots = refl;
-      slot = λ n v k h. not-copied (at-none n) h;
-      different = λ n q v w k h g. not-copied (at-none n) h;
+      slot = λ n v k h. not-copied (at-default untouched 16 n) h;
+      different = λ n q v w k h g. not-copied (at-default untouched 16 n) h;
     }
 
 -- more blocks named in the text

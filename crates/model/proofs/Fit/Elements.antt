@@ -10,7 +10,7 @@ use lib.ListN.{length, length-append, replicate, length-replicate}
 use borrow.Author.Tests.{eq-eqb, ltb-true}
 use Rattle.model.specs.Fault.{among, includeBy, include, room}
 use Rattle.model.specs.Lists.{at, replace}
-use Rattle.model.proofs.Lists.{same?, replace-same, replace-other, replace-past, at-replicate, at-past}
+use Rattle.model.proofs.Lists.{same?, replace-same, replace-other, replace-past, at-replicate, at-default}
 
 pub and-left : (a b : Bool) → (a && b) ≡ true → a ≡ true
 and-left true b e = refl
@@ -157,6 +157,6 @@ module _ {A : Type 0} (d : A) where
   -- past a list that is filled up with the default
   pub at-filled : (l : List A) (n i : ℕ) → length l ≤ i → at d (l ++ replicate n d) i ≡ d
   unfolding at
-  at-filled [] n i h = below? i n (λ k. at-replicate d d n i k) (λ k. at-past d (replicate n d) i (rw (length-replicate n d) k))
+  at-filled [] n i h = at-default d n i
   at-filled (x ∷ l) n zero h = absurd (omega arith)
   at-filled (x ∷ l) n (suc i) h = at-filled l n i (omega arith)

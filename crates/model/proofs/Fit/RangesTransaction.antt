@@ -17,10 +17,10 @@ use Rattle.model.specs.Transaction.{bank, bankValue, versionOf, storeOf,
 use Rattle.model.specs.Transaction.{within, stays, goesOn, restarted, loaded, added, firstRead, copyBy, copyTick}
 use Rattle.model.specs.Transaction.{accessTick, checkBy, againRead, nothing?, spent?, gather, takenBack, commandTick}
 use Rattle.model.specs.Transaction.{transactionTick, freshTransaction, commitCommandBy, committingBy, insideTick}
+use Rattle.model.proofs.Lists.{at-default}
 use Rattle.model.proofs.Fit.Elements.{or-none, or-none-right, replace-all, first-every}
 use Rattle.model.proofs.Fit.Exchange.{entryOf}
 use Rattle.model.proofs.Fit.Transaction.{TransactionFit}
-use Rattle.model.proofs.Fit.Blocks.{at-none}
 use Rattle.model.proofs.Fit.Ranges.{Value, MemoryRange, ReadRange, EntryRange, TouchedRange}
 use Rattle.model.proofs.Fit.Ranges.{CommandsRange, InnerRange, TransactionRange, PhaseRange, TaskRange}
 use Rattle.model.proofs.Fit.RangesExchange.{stored-range, read-range, ExchangedRange, exchange-range}
@@ -105,7 +105,7 @@ module _ {t : Task} (f : TaskRange t) where
 -- nothing touched
 pub fresh-range : (kept : List ℕ) (l : List BodyCommand) → ((r : ℕ) → Value (at 0 kept r)) → CommandsRange l
     → TransactionRange (freshTransaction kept l) between
-fresh-range kept l k h = record { kept = k; commands = h; block = λ b. subst TouchedRange (sym (at-none b)) tt; inner = tt }
+fresh-range kept l k h = record { kept = k; commands = h; block = λ b. subst TouchedRange (sym (at-default untouched 16 b)) tt; inner = tt }
 
 module _ {m : Memory} (g : MemoryRange m) {t : Task} (f : TaskRange t) {x : Transaction} {s : Inner} (h : TransactionRange x s) where
   -- with another inner step, and with a block touched

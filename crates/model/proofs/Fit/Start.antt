@@ -6,12 +6,12 @@ use native.Mathlib.Omega.{arith}
 use lib.ListN.{length, replicate, length-append, length-replicate, length-map}
 use Rattle.model.specs.Ceilings.{registers}
 use Rattle.model.specs.Lists.{at}
-use Rattle.model.specs.Command.{Block, BodyCommand, noBlock}
+use Rattle.model.specs.Command.{Block, BodyCommand, Release, noBlock}
 use Rattle.model.specs.Sheet.{Sheet}
 use Rattle.model.specs.Word.{Word, freshWord}
 use Rattle.model.specs.Job.{Task, task, noCounts, noJob}
-use Rattle.model.specs.Machine.{noTask, taskAt, waitingAt, filled, zeros, copiesOf, banksFrom, tasksFrom, startMemory, startMachine, startValues}
-use Rattle.model.proofs.Lists.{at-append, at-map, at-replicate}
+use Rattle.model.specs.Machine.{noTask, taskAt, filled, zeros, copiesOf, banksFrom, tasksFrom, startMemory, startMachine, startValues}
+use Rattle.model.proofs.Lists.{at-append, at-map, at-replicate, at-default}
 use Rattle.model.proofs.Fit.Elements.{append-each, replicate-each, at-filled}
 use Rattle.model.proofs.Fit.Sheet.{SheetFit}
 use Rattle.model.proofs.Fit.Memory.{MemoryFit}
@@ -108,13 +108,6 @@ start-task-fit words blocks body p =
     record { body = refl; registers = refl; copies = refl; counts = omega arith; ticks = omega arith; phase = record { commands = refl; noPairs = refl } }
 
 -- THE MACHINE
--- none waits
-at-empty : (n p : ℕ) → waitingAt (replicate n []) p ≡ []
-unfolding at
-at-empty zero p = refl
-at-empty (suc n) zero = refl
-at-empty (suc n) (suc p) = at-empty n p
-
 pub start-fit : {s : Sheet} → SheetFit s → Fit s (startMachine s)
 unfolding startMachine
 start-fit {s} c =
@@ -127,8 +120,8 @@ start-fit {s} c =
       undeclared = start-undeclared s;
       waiting = record {
         size = refl;
-        most = λ p. rw (at-empty 8 p) (omega arith);
-        undeclared = λ p h. at-empty 8 p;
+        most = λ p. rw (at-default {A = List Release} [] 8 p) (omega arith);
+        undeclared = λ p h. at-default {A = List Release} [] 8 p;
       };
       releases = c .releases;
       dropped = omega (arith, c .mostReleases);

@@ -1,4 +1,4 @@
--- Where a job has ended, none waits once those that wait have started, and no arrival changes that.
+-- Where a job has ended, none waits once those that wait have started, and no arrival changes that. What has come is not to come again.
 use Prim.Native.Nat.{ℕ, zero, suc, _<_, _≤_}
 use mathlib.Core.Path.{_≡_, refl, sym, _∙_, ap}
 use mathlib.Core.Bool.{Bool, true, false, true≢false, _&&_}

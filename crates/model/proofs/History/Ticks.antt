@@ -7,14 +7,14 @@ use mathlib.Core.List.{List}
 use mathlib.Core.Option.{Option, none, some}
 use native.Mathlib.Decide.{decLt}
 use native.Mathlib.Omega.{arith}
-use lib.ListN.{length, replicate}
+use lib.ListN.{length}
 use borrow.Author.Tests.{lt-ltb}
 use Rattle.model.specs.Lists.{at, replace}
 use Rattle.model.specs.Job.{idle, Task, counting, ticks}
 use Rattle.model.specs.Machine.{Machine, noTask, taskAt, runsBefore, Running, nobody, running, runningOf, move, statement}
 use Rattle.model.specs.History.{History, operationAt, nothing, observed}
 use Rattle.model.specs.Arguments.{Arguments}
-use Rattle.model.proofs.Lists.{same?, replace-same, replace-other, length-replace}
+use Rattle.model.proofs.Lists.{same?, replace-same, replace-other, length-replace, at-default}
 use Rattle.model.proofs.Fit.Tick.{move-now}
 use Rattle.model.proofs.History.Steps.{stateAfter, arrivedAt, historyAfter, state-next, history-next}
 use Rattle.model.proofs.Fit.Running.{Foremost, running-foremost}
@@ -204,13 +204,6 @@ pub arrived-at : (m : Machine) (t : ℕ) → Arrived (stateAfter m t) (arrivedAt
 unfolding arrivedAt
 arrived-at m t = arrived (stateAfter m t)
 
--- no operation has begun
-no-latest : (n p : ℕ) → _≡_ {A = ℕ} (at 0 (replicate n 0) p) 0
-unfolding at
-no-latest zero p = refl
-no-latest (suc n) zero = refl
-no-latest (suc n) (suc p) = no-latest n p
-
 module _ {m : Machine} (s : Started m) where
   pub now-is : (t : ℕ) → stateAfter m t .now ≡ t
   unfolding stateAfter
@@ -228,7 +221,7 @@ module _ {m : Machine} (s : Started m) where
     linked = record {
       size = sym (s .now);
       latest = refl;
-      past = λ p. let z = no-latest 8 p in omega arith;
+      past = λ p. let z = at-default {A = ℕ} 0 8 p in omega arith;
       opened = λ p. rw (s .idle p) tt;
       apart = λ p q d i j. absurd (rw (s .idle p) at i);
       rising = λ p q i j lt. absurd (rw (s .idle p) at i);

@@ -5,9 +5,7 @@ use mathlib.Core.Path.{_≡_, refl, sym, _∙_, ap}
 use mathlib.Core.Logic.{_≢_}
 use mathlib.Core.List.{List, [], _∷_, _++_}
 use mathlib.Core.Option.{Option, none, some}
-use native.Mathlib.Decide.{decLt}
-use native.Mathlib.Omega.{arith}
-use lib.ListN.{length, replicate, length-replicate}
+use lib.ListN.{length, length-replicate}
 use Rattle.model.specs.Lists.{at, replace}
 use Rattle.model.specs.Command.{GET, Block, access, BodyCommand, inside, noBlock}
 use Rattle.model.specs.Word.{Memory}
@@ -15,7 +13,7 @@ use Rattle.model.specs.Job.{Touched, untouched, remembered, copied, Tran
 use Rattle.model.specs.Transaction.{storeOf, rememberedOf, touchedOf, freshTransaction}
 use Rattle.model.specs.Plain.{Pass, noCopies, valuesBy, valuesOf, computes, passBy, passed}
 use Rattle.model.specs.Arguments.{untilCommit}
-use Rattle.model.proofs.Lists.{at-past, at-replicate, impossible}
+use Rattle.model.proofs.Lists.{at-default, impossible}
 use Rattle.model.proofs.Fit.Transaction.{touched?}
 use Rattle.model.proofs.Transactions.Facts.{bankIn, PutAtWork, SameCopy, Fetched, AtInner, PassFacts}
 
@@ -27,25 +25,18 @@ pub record SlotsApart (blocks : ℕ) (m : Memory) (copies : List ℕ) : Type 0 w
   pub blockBelow : (b : ℕ) → b < blocks → storeOf (bankIn m b) < 48
 
 -- A PASS BEGINS
-pub none-at : {A : Type 0} (d : A) (n b : ℕ) → at d (replicate n d) b ≡ d
-none-at d n b = go (decLt b n)
-  where
-    go : Dec (b < n) → at d (replicate n d) b ≡ d
-    go (yes h) = at-replicate d d n b h
-    go (no h) = at-past d (replicate n d) b (rw length-replicate (omega arith))
-
 pub begins : (blocks : ℕ) (m : Memory) (copies kept : List ℕ) (begun : List BodyCommand)
     → PassFacts blocks m copies kept begun (freshTransaction kept begun) between []
 begins blocks m copies kept begun =
     record {
-      past = λ b t. absurd (true≢false (sym (rw (none-at untouched 16 b) at t)));
+      past = λ b t. absurd (true≢false (sym (rw (at-default untouched 16 b) at t)));
       way = λ bs G. record {
         pass = record { registers = kept; copies = noCopies bs; answers = [] };
         beside = record {
           sameRegisters = refl;
           sameAnswers = refl;
           size = length-replicate (length bs) none;
-          sameCopies = λ b. rw (none-at untouched 16 b, none-at {A = Option (List ℕ)} none (length bs) b) tt;
+          sameCopies = λ b. rw (at-default untouched 16 b, at-default {A = Option (List ℕ)} none (length bs) b) tt;
         };
         leads = refl;
       };

@@ -391,7 +391,8 @@ loop-less-4 c = omega (
 loop-again-4 : tie.Need-loop-again-4 Inv-loop2 μ-loop2 Inv-loop μ-loop
 loop-again-4 c = let l = c .before .before .before .before .before .before .before .before .before .before .before .before .before .before .loop in
     let g = c .before .before .before .loop2 in let off = rw (c .before .before .loop2-test .left) at (g .inv .4) in
-    (l .inv .0, l .inv .1, l .inv .2, l .inv .3, λ u e. l .inv .4 u (off u (rw (c .before .leaving .ensures, c .ready-by .ensures) at e)))
+    let ready : c .ready-by .result ≡ readyBy (unfinished? (g .job .phase)) (getD (l .waiting) (l .p) 0) (l .p) (l .ready) = c .ready-by .ensures in
+    (l .inv .0, l .inv .1, l .inv .2, l .inv .3, λ u e. l .inv .4 u (off u (rw (c .before .leaving .ensures, ready) at e)))
 
 cast-jobs-4 : tie.Need-cast-jobs-4 Inv-loop2 μ-loop2 Inv-loop μ-loop
 cast-jobs-4 c = search needs
