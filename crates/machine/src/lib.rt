@@ -1,3 +1,4 @@
-// The machine: the releases, and the run.
+// The machine: the releases, what one does to its task, and the run.
+pub mod arrivals;
 pub mod releases;
 pub mod run;

@@ -9,18 +9,17 @@ ghost use Rattle.model.specs.Lists.{at};
 ghost use Rattle.state.specs.State.{shared, own};
 ghost use Rattle.exchanges.specs.Places.{noted, left};
 ghost use Rattle.statements.specs.Statements.{beginTick, stepTick, starting?, lineOf};
-ghost use Rattle.machine.specs.Flat.{unfinished?, topOf, droppedBy, waitingBy, begunBy, zeroing, zeroedBy, startedBy, closed, finished, tickOf, leftBy, readyBy, Ends, flatIn, pausedAt};
+ghost use Rattle.machine.specs.Flat.{unfinished?, topOf, closed, finished, tickOf, leftBy, readyBy, Ends, flatIn, pausedAt};
+use crate::arrivals;
 use crate::releases;
 use crate::releases::Coming;
 use commands::BodyCommand;
 use commands::ceilings::SheetCeilings;
-use commands::ceilings::TaskCeilings;
 use jobs::Inner;
 use jobs::Job;
 use jobs::Phase;
 use state::Memory;
 use state::Task;
-use state::task;
 use statements::begin;
 use statements::step;
 
@@ -64,28 +63,6 @@ impl Paused {
     }
 }
 
-const POWERS: [u32; 8] = [1, 2, 4, 8, 16, 32, 64, 128];
-
-// The bit of a task in the mask of unfinished jobs.
-fn bit(i: usize) -> u32
-    requires { ⌜ i < 8 ⌝ }
-    ensures { λ r. ⌜ r ≡ 2 ^ i ⌝ }
-{
-    POWERS[i]
-}
-
-fn unfinished(phase: Phase) -> bool
-    ensures { λ r. ⌜ r ≡ unfinished? phase ⌝ }
-{
-    match phase {
-        Phase::Idle => false,
-        Phase::Plain => true,
-        Phase::Read(_, _, _) => true,
-        Phase::Exchange(_, _) => true,
-        Phase::Transaction(_) => true,
-    }
-}
-
 // The next statement takes up the command at work.
 fn starting(phase: Phase) -> bool
     ensures { λ r. ⌜ r ≡ starting? phase ⌝ }
@@ -123,75 +100,6 @@ fn task_number(n: u8) -> u8
     ensures { λ r. ⌜ (r ≡ n % 8) × (r < 8) ⌝ }
 {
     n % SheetCeilings::TASKS
-}
-
-// A release to a task whose job is unfinished waits behind it, and is dropped and counted where as many wait as may.
-fn drop_by(dropped: u32, waiting: u8, phase: Phase) -> u32
-    ensures { λ r. ⌜ r ≡ droppedBy (unfinished? phase) waiting dropped ⌝ }
-{
-    if unfinished(phase) {
-        if TaskCeilings::WAITING <= waiting {
-            return std::num::wrapping_add_u32(dropped, 1);
-        }
-        return dropped;
-    }
-    dropped
-}
-
-// How many wait then: one more, or one fewer where a job starts. Only one that waited finds any behind a job that has ended.
-fn wait_by(waiting: u8, phase: Phase) -> u8
-    ensures { λ r. ⌜ r ≡ waitingBy (unfinished? phase) waiting ⌝ }
-{
-    if unfinished(phase) {
-        if waiting < TaskCeilings::WAITING {
-            return waiting + 1;
-        }
-        return waiting;
-    }
-    if waiting == 0 {
-        return 0;
-    }
-    waiting - 1
-}
-
-// Else a job starts, with all registers 0.
-fn begun(mask: u32, i: usize, phase: Phase) -> u32
-    requires { ⌜ i < 8 ⌝ }
-    ensures { λ r. ⌜ r ≡ begunBy (unfinished? phase) mask i ⌝ }
-{
-    if unfinished(phase) {
-        return mask;
-    }
-    std::num::wrapping_add_u32(mask, bit(i))
-}
-
-fn zero(task: &mut Task)
-    ensures { λ r. ⌜ own (now (task .exit)) ≡ zeroing 8 (own (now (task .entry))) ⌝ }
-{
-    let mut n: u8 = 0;
-    while n < TaskCeilings::REGISTERS {
-        task::set_register(&mut *task, n, 0);
-        n += 1;
-    }
-}
-
-fn zero_by(task: &mut Task, phase: Phase)
-    ensures { λ r. ⌜ own (now (task .exit)) ≡ zeroedBy (unfinished? phase) (own (now (task .entry))) ⌝ }
-{
-    if unfinished(phase) {
-        return;
-    }
-    zero(&mut *task);
-}
-
-fn started(job: Job, line: usize) -> Job
-    ensures { λ r. ⌜ r ≡ startedBy (unfinished? (job .phase)) job line ⌝ }
-{
-    let phase = job.phase;
-    if unfinished(phase) {
-        return job;
-    }
-    jobs::job_at(Phase::Plain, line, 0)
 }
 
 // Where body i starts in the program, and body i - 1 ends.
@@ -270,7 +178,7 @@ fn step_tick(memory: &mut Memory, task: &mut Task, p: u8, job: Job, end: usize) 
 fn goes_on(phase: Phase, tick: u32, until: u32) -> bool
     ensures { λ r. ⌜ r ≡ (unfinished? phase && ltb tick until) ⌝ }
 {
-    if unfinished(phase) {
+    if arrivals::unfinished(phase) {
         return tick < until;
     }
     false
@@ -281,17 +189,17 @@ fn leaving(mask: u32, i: usize, phase: Phase) -> u32
     requires { ⌜ i < 8 ⌝ }
     ensures { λ r. ⌜ r ≡ leftBy (unfinished? phase) mask i ⌝ }
 {
-    if unfinished(phase) {
+    if arrivals::unfinished(phase) {
         return mask;
     }
-    lowered(mask, bit(i))
+    lowered(mask, arrivals::bit(i))
 }
 
 // The task that runs, if its job has ended and a release waits behind it.
 fn ready_by(ready: u8, p: u8, waiting: u8, phase: Phase) -> u8
     ensures { λ r. ⌜ r ≡ readyBy (unfinished? phase) waiting p ready ⌝ }
 {
-    if unfinished(phase) {
+    if arrivals::unfinished(phase) {
         return ready;
     }
     if waiting == 0 {
@@ -342,11 +250,11 @@ pub fn run(
             let found = jobs[i];
             let phase = found.phase;
             let behind = waiting[i];
-            dropped = drop_by(dropped, behind, phase);
-            waiting[i] = wait_by(behind, phase);
-            mask = begun(mask, i, phase);
-            zero_by(&mut tasks[i], phase);
-            job = started(found, bound(bounds, i));
+            dropped = arrivals::drop_by(dropped, behind, phase);
+            waiting[i] = arrivals::wait_by(behind, phase);
+            mask = arrivals::begun(mask, i, phase);
+            arrivals::zero_by(&mut tasks[i], phase);
+            job = arrivals::started(found, bound(bounds, i));
             ready = releases::NOBODY;
             place = after;
             next = releases::pending_at(sheet, place);

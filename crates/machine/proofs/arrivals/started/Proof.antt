@@ -1,8 +1,8 @@
 -- `started` meets its contract.
 use mathlib.Core.Path.{sym, _∙_}
 use borrow.Author.Needs.{needs}
-use Rattle.machine.proofs.run.started.Statement.{statement}
-use Rattle.machine.proofs.run.started.Tie as tie
+use Rattle.machine.proofs.arrivals.started.Statement.{statement}
+use Rattle.machine.proofs.arrivals.started.Tie as tie
 
 unfinished-requires : tie.Need-unfinished-requires
 unfinished-requires c κs = search needs

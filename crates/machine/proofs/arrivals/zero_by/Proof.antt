@@ -1,8 +1,8 @@
 -- `zero_by` meets its contract.
 use mathlib.Core.Path.{sym, _∙_}
 use borrow.Author.Needs.{needs}
-use Rattle.machine.proofs.run.zero_by.Statement.{statement}
-use Rattle.machine.proofs.run.zero_by.Tie as tie
+use Rattle.machine.proofs.arrivals.zero_by.Statement.{statement}
+use Rattle.machine.proofs.arrivals.zero_by.Tie as tie
 
 unfinished-requires : tie.Need-unfinished-requires
 unfinished-requires c κs = search needs

@@ -7,8 +7,8 @@ use Rattle.machine.specs.Flat.{zeroing}
 use mathlib.Core.Path.{_≡_, refl}
 use native.Mathlib.Omega.{arith}
 use borrow.Author.Needs.{needs}
-use Rattle.machine.proofs.run.zero.Statement.{statement}
-use Rattle.machine.proofs.run.zero.Tie as tie
+use Rattle.machine.proofs.arrivals.zero.Statement.{statement}
+use Rattle.machine.proofs.arrivals.zero.Tie as tie
 
 abbrev Inv-loop : tie.InvT-loop
 Inv-loop task₀ n₀ task n = (n ≤ 8) × (own task ≡ zeroing n (own task₀))

@@ -1,8 +1,8 @@
 -- `bit` meets its contract.
 use Rattle.machine.proofs.Mask.{power-at}
 use borrow.Author.Needs.{needs}
-use Rattle.machine.proofs.run.bit.Statement.{statement}
-use Rattle.machine.proofs.run.bit.Tie as tie
+use Rattle.machine.proofs.arrivals.bit.Statement.{statement}
+use Rattle.machine.proofs.arrivals.bit.Tie as tie
 
 mul-result : tie.Need-mul-result
 mul-result c = search needs

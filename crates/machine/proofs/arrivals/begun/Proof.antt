@@ -1,8 +1,8 @@
 -- `begun` meets its contract.
 use mathlib.Core.Path.{sym, _∙_}
 use borrow.Author.Needs.{needs}
-use Rattle.machine.proofs.run.begun.Statement.{statement}
-use Rattle.machine.proofs.run.begun.Tie as tie
+use Rattle.machine.proofs.arrivals.begun.Statement.{statement}
+use Rattle.machine.proofs.arrivals.begun.Tie as tie
 
 unfinished-requires : tie.Need-unfinished-requires
 unfinished-requires c κs = search needs

@@ -2,8 +2,8 @@
 use mathlib.Core.Path.{sym, _∙_}
 use borrow.Author.Needs.{needs}
 use Rattle.machine.proofs.Waiting.{room-drops, full-drops}
-use Rattle.machine.proofs.run.drop_by.Statement.{statement}
-use Rattle.machine.proofs.run.drop_by.Tie as tie
+use Rattle.machine.proofs.arrivals.drop_by.Statement.{statement}
+use Rattle.machine.proofs.arrivals.drop_by.Tie as tie
 
 unfinished-requires : tie.Need-unfinished-requires
 unfinished-requires c κs = search needs
