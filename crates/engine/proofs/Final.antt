@@ -5,7 +5,8 @@ use mathlib.Core.List.{List, [], _∷_}
 use lib.ListN.{length, getD}
 use Rattle.model.specs.Command.{Release, Command, WORD, BLOCK, TASK, RELEASE, END, body}
 use Rattle.model.specs.Sheet.{declared, commandsFrom, sheetOf, verdict, accepted, commandsAt, declaredAt}
-use Rattle.model.specs.Machine.{Machine, run, startMachine}
+use Rattle.model.specs.Machine.{Machine, run}
+use Rattle.model.specs.Start.{startMachine}
 use Rattle.model.specs.Report.{report}
 use Rattle.model.specs.Answer.{reportOf}
 use Rattle.model.proofs.Fit.Accepted.{accepted-fit}

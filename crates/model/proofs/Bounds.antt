@@ -9,7 +9,8 @@ use Rattle.model.specs.Lists.{at}
 use Rattle.model.specs.Sheet.{sheetOf}
 use Rattle.model.specs.Word.{readTick}
 use Rattle.model.specs.Exchange.{exchangeTick}
-use Rattle.model.specs.Machine.{Machine, runningOf, enter, over, runBy, run, startMachine}
+use Rattle.model.specs.Machine.{Machine, runningOf, enter, over, runBy, run}
+use Rattle.model.specs.Start.{startMachine}
 use Rattle.model.specs.History.{Operation, operationAt, historyOf}
 use Rattle.model.specs.Rates.{leastRead, mostRead, mostExchange, inTick, isTask, oneIf, runningIn, ownBefore, ownTicks}
 use Rattle.model.specs.Rates.{Starts, Ends, firstLoad, firstReading, secondReading, Loads, Gives}

@@ -8,7 +8,8 @@ use lib.ListN.{length, replicate}
 use Rattle.model.specs.Lists.{at}
 use Rattle.model.specs.Word.{current, currentOf, stored}
 use Rattle.model.specs.Transaction.{bank, versionOf, storeOf}
-use Rattle.model.specs.Machine.{Machine, run, startMachine, taskAt, waitingAt}
+use Rattle.model.specs.Machine.{Machine, run, taskAt, waitingAt}
+use Rattle.model.specs.Start.{startMachine}
 use Rattle.model.specs.Sheet.{sheetOf}
 use Rattle.model.specs.Answer.{Checked, checkAnswer, Answer, runAnswer, finalOf}
 use Rattle.model.proofs.WholeCases.{sameNumbers}

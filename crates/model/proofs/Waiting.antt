@@ -9,7 +9,8 @@ use Rattle.model.specs.Ceilings.{maxTasks}
 use Rattle.model.specs.Sheet.{Sheet, sheetOf, verdict, accepted}
 use Rattle.model.specs.Job.{Task, counting, ticks}
 use Rattle.model.specs.Machine.{Machine, noTask, waitingAt, unfinished, unfinishedAt, Running, nobody, running, runningOf, turnOf}
-use Rattle.model.specs.Machine.{move, enter, run, startMachine}
+use Rattle.model.specs.Machine.{move, enter, run}
+use Rattle.model.specs.Start.{startMachine}
 use Rattle.model.specs.History.{Operation}
 use Rattle.model.specs.Rates.{inTick, runningIn, IsAt}
 use Rattle.model.specs.Waiting.{Waits}

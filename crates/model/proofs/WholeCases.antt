@@ -11,7 +11,8 @@ use Rattle.model.specs.Lists.{at}
 use Rattle.model.specs.Command.{Block}
 use Rattle.model.specs.Sheet.{Verdict, accepted, turnedDown, verdict, sheetOf}
 use Rattle.model.specs.Word.{current}
-use Rattle.model.specs.Machine.{run, startMachine}
+use Rattle.model.specs.Machine.{run}
+use Rattle.model.specs.Start.{startMachine}
 use Rattle.model.specs.Plain.{Contents, plainly}
 use Rattle.model.specs.History.{Operation, History, operationAt, historyOf}
 use Rattle.model.specs.Claim.{countedBy, contentsOf, declaredContents, each}

@@ -7,7 +7,8 @@ use lib.ListN.{length, drop}
 use Rattle.model.specs.Refusal.{Refusal, limitTooHigh, bufferTooShort, number}
 use Rattle.model.specs.Ceilings.{maxLimit}
 use Rattle.model.specs.Sheet.{Verdict, accepted, turnedDown, verdict, sheetOf}
-use Rattle.model.specs.Machine.{Machine, run, startMachine}
+use Rattle.model.specs.Machine.{Machine, run}
+use Rattle.model.specs.Start.{startMachine}
 use Rattle.model.specs.Report.{report}
 
 -- THE SHEET CHECK. An accepted sheet has number 0 and place 0.

@@ -10,7 +10,7 @@ use Rattle.model.specs.Lists.{In}
 use Rattle.model.specs.Sheet.{Sheet, sheetOf}
 use Rattle.model.specs.Word.{Memory, currentOf}
 use Rattle.model.specs.Transaction.{blockIn}
-use Rattle.model.specs.Machine.{startMachine}
+use Rattle.model.specs.Start.{startMachine}
 use Rattle.model.specs.Answer.{finalOf}
 use Rattle.model.specs.Arguments.{Pair, swapOf}
 use Rattle.model.specs.Plain.{Contents, result, plainly}

@@ -10,6 +10,7 @@ pub mod Arguments
 pub mod Job
 pub mod Transaction
 pub mod Machine
+pub mod Start
 pub mod Report
 pub mod Answer
 pub mod Plain

@@ -1,20 +1,19 @@
 -- Ticks: waiting releases start, releases arrive, the highest task with an unfinished job does one statement, until the run stops.
-use Prim.Native.Nat.{ℕ, zero, suc, _+_, _*_, _-_}
+use Prim.Native.Nat.{ℕ, zero, suc}
 use mathlib.Core.Bool.{Bool, true, false, _&&_}
 use mathlib.Core.List.{List, [], _∷_, _++_, map}
 use lib.Dec.{eqb, ltb}
-use lib.ListN.{length, replicate}
-use Rattle.model.specs.Ceilings.{maxWords, maxBlocks, maxTasks, maxWaiting, savePlaces, blockValues}
+use lib.ListN.{length}
+use Rattle.model.specs.Ceilings.{maxTasks, maxWaiting}
 use Rattle.model.specs.Lists.{at, replace}
-use Rattle.model.specs.Command.{Release, Block, Outside, READ, PAIR, SWAP, BEGIN, BodyCommand, LOAD, ADD, outside, inside}
-use Rattle.model.specs.Sheet.{Sheet}
-use Rattle.model.specs.Word.{Word, freshWord, Memory, memory, loading, Read, reads, gives, readTick}
+use Rattle.model.specs.Command.{Release, Outside, READ, PAIR, SWAP, BEGIN, BodyCommand, LOAD, ADD, outside, inside}
+use Rattle.model.specs.Word.{Memory, loading, Read, reads, gives, readTick}
 use Rattle.model.specs.Exchange.{Entry, entry, Exchange, exchangeOf, commitSaidYes, Exchanged, goes, ends, exchangeTick, start}
 use Rattle.model.specs.Arguments.{Pair, Arguments, readOf, swapOf, transactionOf, untilCommit}
 use Rattle.model.specs.Job.{between, Phase, idle, plain, reading, exchanging, transacting, noJob}
 use Rattle.model.specs.Job.{noCounts, ticks, Task, task, counting, inPhase, done, doneBy, started}
 use Rattle.model.specs.Job.{Deed, nothingDone, began, readGave, swapCommitted, swapAnswered, Turn, turn}
-use Rattle.model.specs.Transaction.{bankValue, freshTransaction, within, loaded, added, transactionTick}
+use Rattle.model.specs.Transaction.{freshTransaction, within, loaded, added, transactionTick}
 
 -- STATEMENTS
 -- 1 yes or 0 no
@@ -274,41 +273,3 @@ beside see zero m a = a
 beside {A} see (suc n) m a =
     let go : Machine → A → A = beside see n in
     besideBy (over m) see go m a
-
--- THE START
-unfoldable pub filled : {A : Type 0} → ℕ → A → List A → List A
-filled n d l = l ++ replicate (n - length l) d
-
-abbrev pub zeros : ℕ → List ℕ
-zeros n = replicate n 0
-
--- with N tasks, task p starts with block stores 4p to 4p + 3 as copies, and block b starts in store 4N + b
-abbrev pub copiesOf : ℕ → List ℕ
-copiesOf p = (4 * p) ∷ (4 * p + 1) ∷ (4 * p + 2) ∷ (4 * p + 3) ∷ []
-
-unfoldable pub banksFrom : ℕ → List Block → List Word
-banksFrom store [] = []
-banksFrom store (b ∷ l) = freshWord (bankValue (b .version) store) ∷ banksFrom (suc store) l
-
-abbrev pub startValues : Block → List ℕ
-startValues b = b .values
-
-unfoldable pub tasksFrom : ℕ → List (List BodyCommand) → List Task
-tasksFrom p [] = []
-tasksFrom p (b ∷ l) = task b (copiesOf p) noCounts noJob ∷ tasksFrom (suc p) l
-
--- cells, stores and tasks as many as the ceilings allow; those that the sheet does not declare stay as they are here
-unfoldable pub startMemory : Sheet → Memory
-unfolding filled banksFrom
-startMemory s =
-    memory
-    (filled maxWords (freshWord 0) (map freshWord (s .words))
-    ++ filled maxBlocks (freshWord 0) (banksFrom (4 * length (s .bodies)) (s .blocks)))
-    (zeros maxTasks)
-    (replicate maxTasks (zeros savePlaces))
-    (filled (4 * maxTasks + maxBlocks) (zeros blockValues)
-    (replicate (4 * length (s .bodies)) (zeros blockValues) ++ map startValues (s .blocks)))
-
-unfoldable pub startMachine : Sheet → Machine
-unfolding filled tasksFrom startMemory
-startMachine s = machine (startMemory s) (filled maxTasks noTask (tasksFrom 0 (s .bodies))) (replicate maxTasks []) (s .releases) 0 0

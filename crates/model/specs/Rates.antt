@@ -13,7 +13,8 @@ use Rattle.model.specs.Word.{Memory, Reading, loading, gives, readTick}
 use Rattle.model.specs.Exchange.{Exchange, start, ends, exchangeTick}
 use Rattle.model.specs.Job.{untouched, Transaction, Inner, between, first, again, committing, transacting}
 use Rattle.model.specs.Transaction.{bank, blockOf, touchedOf}
-use Rattle.model.specs.Machine.{Machine, taskAt, Running, nobody, running, runningOf, enter, run, startMachine}
+use Rattle.model.specs.Machine.{Machine, taskAt, Running, nobody, running, runningOf, enter, run}
+use Rattle.model.specs.Start.{startMachine}
 use Rattle.model.specs.Arguments.{Pair, readOf, swapOf}
 use Rattle.model.specs.History.{Operation, operationAt, historyOf}
 

@@ -7,7 +7,8 @@ use mathlib.Core.List.{List, []}
 use lib.ListN.{length}
 use Rattle.model.specs.Ceilings.{maxWaiting}
 use Rattle.model.specs.Sheet.{sheetOf}
-use Rattle.model.specs.Machine.{Machine, waitingAt, unfinishedAt, running, run, startMachine}
+use Rattle.model.specs.Machine.{Machine, waitingAt, unfinishedAt, running, run}
+use Rattle.model.specs.Start.{startMachine}
 use Rattle.model.specs.History.{Operation}
 use Rattle.model.specs.Rates.{inTick, runningIn, IsAt}
 

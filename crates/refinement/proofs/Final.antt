@@ -7,7 +7,8 @@ use lib.ListN.{length, getD, take}
 use Rattle.model.specs.Lists.{at}
 use Rattle.model.specs.Sheet.{Sheet, sheetOf, verdict, accepted}
 use Rattle.model.specs.Job.{Task, countList}
-use Rattle.model.specs.Machine.{Machine, taskAt, run, startMachine}
+use Rattle.model.specs.Machine.{Machine, taskAt, run}
+use Rattle.model.specs.Start.{startMachine}
 use Rattle.model.proofs.Fit.Start.{start-fit}
 use Rattle.model.proofs.Fit.Accepted.{accepted-fit}
 use Rattle.model.proofs.Fit.Machine.{Fit}

@@ -11,6 +11,7 @@ use Rattle.model.specs.Lists.{at}
 use Rattle.model.specs.Command.{Release}
 use Rattle.model.specs.Sheet.{Sheet, sheetOf}
 use Rattle.model.specs.Machine as M
+use Rattle.model.specs.Start.{startMachine}
 use Rattle.model.proofs.Lists.{at-default}
 use Rattle.model.proofs.Fit.Elements.{below?}
 use Rattle.model.proofs.Fit.Sheet.{SheetFit}
@@ -55,26 +56,26 @@ module _ (sheet : List ℕ) (program : List BodyCommand) (bounds : List ℕ) (he
       let f = tasks .each p (omega (arith, c .bodies)) in
       rw (held .bodies p h, f .registers, f .copies, f .counts, no-pairs (getD ts p (own []) .entries))
 
-  declared-start : (p : ℕ) → p < n → M.taskAt (tasksOf sheet program bounds ts js) p ≡ M.taskAt (M.startMachine s .tasks) p
+  declared-start : (p : ℕ) → p < n → M.taskAt (tasksOf sheet program bounds ts js) p ≡ M.taskAt (startMachine s .tasks) p
   declared-start p h =
       task-at sheet program bounds (c .bodies) ts js p h
       ∙ ap (λ (j : Job). taskWith sheet program bounds p j (getD ts p (own []))) (no-job p) ∙ idle-start p h ∙ sym (start-task s p h)
 
-  undeclared-start : (p : ℕ) → p < 8 → n ≤ p → M.taskAt (tasksOf sheet program bounds ts js) p ≡ M.taskAt (M.startMachine s .tasks) p
+  undeclared-start : (p : ℕ) → p < 8 → n ≤ p → M.taskAt (tasksOf sheet program bounds ts js) p ≡ M.taskAt (startMachine s .tasks) p
   undeclared-start p l h =
       any-task sheet program bounds (c .bodies) ts js p l
       ∙ ap (λ (b : Bool). declaredBy b (taskIn sheet program bounds ts js p)) (le-ltb p n h)
       ∙ sym (start-fit c .undeclared p h)
 
-  start-tasks : tasksOf sheet program bounds ts js ≡ M.startMachine s .tasks
+  start-tasks : tasksOf sheet program bounds ts js ≡ startMachine s .tasks
   unfolding at
   start-tasks =
       let size = tasks-size sheet program bounds (c .bodies) ts js in
-      ext-getD M.noTask (tasksOf sheet program bounds ts js) (M.startMachine s .tasks) (size ∙ sym (start-fit c .tasks))
+      ext-getD M.noTask (tasksOf sheet program bounds ts js) (startMachine s .tasks) (size ∙ sym (start-fit c .tasks))
       (λ p h. below? p n (λ l. declared-start p l) (λ l. undeclared-start p (omega arith) l))
 
-  pub start-same : machineOf sheet program bounds noQueues (flatIn m ts (pausedAt place)) ≡ M.startMachine (sheetOf sheet)
-  unfolding M.startMachine
+  pub start-same : machineOf sheet program bounds noQueues (flatIn m ts (pausedAt place)) ≡ startMachine (sheetOf sheet)
+  unfolding startMachine
   start-same = rw (shared .memory, start-tasks, releases)
 
   pub start-sound : Sound sheet program bounds noQueues (flatIn m ts (pausedAt place))

@@ -10,7 +10,7 @@ use Rattle.model.specs.Command.{Block, noBlock}
 use Rattle.model.specs.Sheet.{Sheet}
 use Rattle.model.specs.Word.{Word, freshWord, Memory, memory}
 use Rattle.model.specs.Transaction.{bankValue}
-use Rattle.model.specs.Machine.{filled, banksFrom, zeros, startValues, startMemory}
+use Rattle.model.specs.Start.{filled, banksFrom, zeros, startValues, startMemory}
 use Rattle.model.proofs.Lists.{map-replace, length-replace}
 use Rattle.model.proofs.Fit.Start.{filled-size, banks-size}
 use Rattle.model.proofs.Fit.Sheet.{SheetFit}

@@ -8,7 +8,7 @@ use native.Mathlib.Omega.{arith}
 use lib.ListN.{length, getD, set, take, drop, replicate, length-append}
 use lib.Seq.{take-suc, take-all, drop-length, set-at, append-snoc, paste, paste-suc}
 use Rattle.model.specs.Lists.{at, replace}
-use Rattle.model.specs.Machine.{filled}
+use Rattle.model.specs.Start.{filled}
 
 module _ {A : Type 0} where
   pub first-next : (d : A) (l : List A) (i : ℕ) → i < length l → take (i + 1) l ≡ take i l ++ (getD l i d ∷ [])

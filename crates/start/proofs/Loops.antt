@@ -7,7 +7,7 @@ use lib.ListN.{length, getD, set, replicate, length-map, length-set, List·getD-
 use lib.Seq.{paste, getD-set-same, getD-set-other}
 use Rattle.model.specs.Lists.{at}
 use Rattle.model.specs.Word.{freshWord}
-use Rattle.model.specs.Machine.{filled, banksFrom, zeros, copiesOf, startMemory}
+use Rattle.model.specs.Start.{filled, banksFrom, zeros, copiesOf, startMemory}
 use Rattle.model.proofs.Lists.{same?, at-replicate}
 use Rattle.state.specs.Packed.{unpack}
 use Rattle.state.specs.Rows.{row, rowsFrom, rows}

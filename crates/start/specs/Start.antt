@@ -4,7 +4,7 @@ use mathlib.Core.Path.{_≡_}
 use mathlib.Core.List.{List, []}
 use lib.ListN.{length, getD}
 use Rattle.model.specs.Sheet.{Sheet}
-use Rattle.model.specs.Machine.{zeros, copiesOf, startMemory}
+use Rattle.model.specs.Start.{zeros, copiesOf, startMemory}
 use Rattle.state.specs.State.{Shared, Own, own}
 use Rattle.state.specs.Sized.{SharedSized, OwnSized}
 use Rattle.state.specs.Held.{memoryOf}

@@ -9,7 +9,8 @@ use Rattle.model.specs.Command.{Block}
 use Rattle.model.specs.Sheet.{Sheet}
 use Rattle.model.specs.Word.{Word, Memory, cellOf, currentOf, freshWord}
 use Rattle.model.specs.Job.{idle}
-use Rattle.model.specs.Machine.{Machine, taskAt, Running, nobody, running, runningOf, move, filled, banksFrom, startMachine}
+use Rattle.model.specs.Machine.{Machine, taskAt, Running, nobody, running, runningOf, move}
+use Rattle.model.specs.Start.{filled, banksFrom, startMachine}
 use Rattle.model.specs.History.{History, noHistory, observed}
 use Rattle.model.proofs.Lists.{at-map}
 use Rattle.model.proofs.Fit.Elements.{append-every, replicate-every}

@@ -4,7 +4,8 @@ use mathlib.Core.Path.{_≡_, refl, sym, _∙_, ap, subst}
 use mathlib.Core.List.{List}
 use Rattle.model.specs.Sheet.{Sheet, accepted, verdict}
 use Rattle.model.specs.Word.{Memory}
-use Rattle.model.specs.Machine.{Machine, Running, running, runningOf, move, startMachine}
+use Rattle.model.specs.Machine.{Machine, Running, running, runningOf, move}
+use Rattle.model.specs.Start.{startMachine}
 use Rattle.model.specs.Claim.{WholeOperations}
 use Rattle.model.proofs.Fit.Sheet.{SheetFit}
 use Rattle.model.proofs.Fit.Accepted.{accepted-fit}

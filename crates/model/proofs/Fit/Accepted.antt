@@ -10,7 +10,8 @@ use lib.ListN.{length, getD}
 use Rattle.model.specs.Lists.{at}
 use Rattle.model.specs.Command.{Command, Row, table, rowBy, rowOf, operand}
 use Rattle.model.specs.Sheet.{Sheet, accepted, verdict, commandsFrom, declared, sheetOf}
-use Rattle.model.specs.Machine.{run, startMachine}
+use Rattle.model.specs.Machine.{run}
+use Rattle.model.specs.Start.{startMachine}
 use Rattle.model.proofs.Lists.{impossible}
 use Rattle.model.proofs.Fit.Sheet.{SheetFit}
 use Rattle.model.proofs.Fit.Machine.{Fit}

@@ -9,7 +9,8 @@ use Rattle.model.specs.Command.{Block, Release, BodyCommand, Command, WO
 use Rattle.model.specs.Command.{END, body, blockFrom, Row, table, operand, bigEndian, noBlock}
 use Rattle.model.specs.Sheet.{Sheet, Declared, declares, declare, declared, accepted, verdict, sheetOf}
 use Rattle.model.specs.Transaction.{bankValue}
-use Rattle.model.specs.Machine.{noTask, taskAt, filled, zeros, copiesOf, banksFrom, tasksFrom, startMemory, startMachine, run, startValues}
+use Rattle.model.specs.Machine.{noTask, taskAt, run}
+use Rattle.model.specs.Start.{filled, zeros, copiesOf, banksFrom, tasksFrom, startMemory, startMachine, startValues}
 use Rattle.model.specs.Fault.{Known}
 use Rattle.model.specs.Word.{freshWord}
 use Rattle.model.proofs.Lists.{at-map}

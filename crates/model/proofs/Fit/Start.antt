@@ -10,7 +10,8 @@ use Rattle.model.specs.Command.{Block, BodyCommand, Release, noBlock}
 use Rattle.model.specs.Sheet.{Sheet}
 use Rattle.model.specs.Word.{Word, freshWord}
 use Rattle.model.specs.Job.{Task, task, noCounts, noJob}
-use Rattle.model.specs.Machine.{noTask, taskAt, filled, zeros, copiesOf, banksFrom, tasksFrom, startMemory, startMachine, startValues}
+use Rattle.model.specs.Machine.{noTask, taskAt}
+use Rattle.model.specs.Start.{filled, zeros, copiesOf, banksFrom, tasksFrom, startMemory, startMachine, startValues}
 use Rattle.model.proofs.Lists.{at-append, at-map, at-replicate, at-default}
 use Rattle.model.proofs.Fit.Elements.{append-each, replicate-each, at-filled}
 use Rattle.model.proofs.Fit.Sheet.{SheetFit}

@@ -3,7 +3,8 @@ use Prim.Native.Nat.{ℕ}
 use mathlib.Core.Path.{_≡_}
 use mathlib.Core.List.{List}
 use Rattle.model.specs.Sheet.{sheetOf}
-use Rattle.model.specs.Machine.{run, startMachine}
+use Rattle.model.specs.Machine.{run}
+use Rattle.model.specs.Start.{startMachine}
 use Rattle.model.specs.Plain.{Contents}
 use Rattle.model.specs.History.{History, historyOf}
 use Rattle.model.specs.Claim.{contentsOf, declaredContents, Counted, Sequence, Once, RespectsTime, WholeOperations}

@@ -10,7 +10,8 @@ use Rattle.model.specs.Sheet.{Sheet}
 use Rattle.model.specs.Word.{Word, own, currentBy, current, currentOf, cellOf, freshWord}
 use Rattle.model.specs.Job.{idle}
 use Rattle.model.specs.Transaction.{bank, bankValue, versionOf, storeOf, blockIn}
-use Rattle.model.specs.Machine.{noTask, taskAt, filled, zeros, banksFrom, tasksFrom, startMemory, startMachine, startValues}
+use Rattle.model.specs.Machine.{noTask, taskAt}
+use Rattle.model.specs.Start.{filled, zeros, banksFrom, tasksFrom, startMemory, startMachine, startValues}
 use Rattle.model.specs.Claim.{each, contentsOf, declaredContents}
 use Rattle.model.proofs.Lists.{at-append, at-behind, at-map}
 use Rattle.model.proofs.Fit.Sheet.{SheetFit}

@@ -11,7 +11,8 @@ use Rattle.model.specs.Lists.{at, In}
 use Rattle.model.specs.Fault.{among}
 use Rattle.model.specs.Sheet.{sheetOf}
 use Rattle.model.specs.Word.{current}
-use Rattle.model.specs.Machine.{run, startMachine}
+use Rattle.model.specs.Machine.{run}
+use Rattle.model.specs.Start.{startMachine}
 use Rattle.model.specs.Plain.{Contents}
 use Rattle.model.specs.History.{History, operationAt, historyOf}
 use Rattle.model.specs.Claim.{each, Sequence, noMore, then, Once, RespectsTime, WholeOperations}

@@ -6,7 +6,8 @@ use mathlib.Core.List.{List}
 use mathlib.Core.Option.{none}
 use Rattle.model.specs.Lists.{at}
 use Rattle.model.specs.Sheet.{Sheet, sheetOf}
-use Rattle.model.specs.Machine.{Machine, taskAt, Running, nobody, running, runningOf, move, startMachine}
+use Rattle.model.specs.Machine.{Machine, taskAt, Running, nobody, running, runningOf, move}
+use Rattle.model.specs.Start.{startMachine}
 use Rattle.model.specs.Plain.{Contents}
 use Rattle.model.specs.History.{History, operationAt, observed}
 use Rattle.model.specs.Claim.{contentsOf, WholeOperations}

@@ -9,7 +9,8 @@ use Rattle.model.specs.Command.{Access, access, BodyCommand}
 use Rattle.model.specs.Word.{Memory, Reading, loading, looking, Read, reads, gives, cellOf, readTick}
 use Rattle.model.specs.Job.{Transaction, Inner, idle, first, again, transacting, Task, counting, ticks}
 use Rattle.model.specs.Transaction.{bank, blockOf, firstRead, accessTick, againRead, commandTick, transactionTick}
-use Rattle.model.specs.Machine.{Machine, noTask, taskAt, Running, nobody, running, runningOf, move, statement, startMachine}
+use Rattle.model.specs.Machine.{Machine, noTask, taskAt, Running, nobody, running, runningOf, move, statement}
+use Rattle.model.specs.Start.{startMachine}
 use Rattle.model.specs.Rates.{mostRead, ownBefore, NoneIn, ReadTakes, BankStep, firstLoad, firstReading, secondReading}
 use Rattle.model.proofs.Lists.{same?, replace-same, replace-other, impossible}
 use Rattle.model.proofs.Fit.Sheet.{SheetFit}

@@ -11,7 +11,8 @@ use Rattle.model.specs.Word.{Memory, setStatus}
 use Rattle.model.specs.Exchange.{Entry, Exchange, exchangeOf, start, test, Exchanged, goes, ends, exchangeTick}
 use Rattle.model.specs.Job.{Transaction, committing, idle, transacting, counting, ticks}
 use Rattle.model.specs.Transaction.{transactionTick, committingBy}
-use Rattle.model.specs.Machine.{Machine, noTask, taskAt, Running, nobody, running, runningOf, move, statement, startMachine}
+use Rattle.model.specs.Machine.{Machine, noTask, taskAt, Running, nobody, running, runningOf, move, statement}
+use Rattle.model.specs.Start.{startMachine}
 use Rattle.model.specs.Rates.{ownBefore}
 use Rattle.model.proofs.Lists.{same?, replace-same, replace-other, impossible}
 use Rattle.model.proofs.Fit.Sheet.{SheetFit}

@@ -10,7 +10,8 @@ use lib.ListN.{length}
 use Rattle.model.specs.Lists.{at, replace}
 use Rattle.model.specs.Sheet.{Sheet}
 use Rattle.model.specs.Job.{Phase, idle, plain, reading, exchanging, transacting, Task, Turn, counting, ticks}
-use Rattle.model.specs.Machine.{Machine, noTask, taskAt, Running, nobody, running, runningOf, move, statement, startMachine}
+use Rattle.model.specs.Machine.{Machine, noTask, taskAt, Running, nobody, running, runningOf, move, statement}
+use Rattle.model.specs.Start.{startMachine}
 use Rattle.model.specs.History.{History, noHistory, observed}
 use Rattle.model.specs.Rates.{ownBefore}
 use Rattle.model.specs.Arguments.{Arguments}

@@ -5,7 +5,8 @@ use mathlib.Core.List.{List}
 use mathlib.Core.Option.{none, some}
 use Rattle.model.specs.Sheet.{Sheet, sheetOf, accepted, verdict}
 use Rattle.model.specs.Word.{loading}
-use Rattle.model.specs.Machine.{taskAt, Running, run, startMachine}
+use Rattle.model.specs.Machine.{taskAt, Running, run}
+use Rattle.model.specs.Start.{startMachine}
 use Rattle.model.specs.History.{Operation}
 use Rattle.model.specs.Rates.{mostRead, mostExchange, runningIn, ownBefore, ownTicks, Committing, Starts, Ends}
 use Rattle.model.specs.Rates.{ReadsBank, Loads, Gives, IsAt, NoneIn, ReadTakes, ownAtEnd, Rates}

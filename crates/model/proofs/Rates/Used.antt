@@ -8,7 +8,8 @@ use Rattle.model.specs.Lists.{at}
 use Rattle.model.specs.Command.{BodyCommand}
 use Rattle.model.specs.Sheet.{Sheet}
 use Rattle.model.specs.Job.{counting, ticks}
-use Rattle.model.specs.Machine.{noTask, taskAt, Running, nobody, running, filled, tasksFrom, move, statement, startMachine}
+use Rattle.model.specs.Machine.{noTask, taskAt, Running, nobody, running, move, statement}
+use Rattle.model.specs.Start.{filled, tasksFrom, startMachine}
 use Rattle.model.specs.Rates.{ownBefore}
 use Rattle.model.proofs.Lists.{same?, replace-same, replace-other}
 use Rattle.model.proofs.Fit.Sheet.{SheetFit}

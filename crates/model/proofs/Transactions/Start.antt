@@ -6,7 +6,8 @@ use lib.ListN.{length}
 use Rattle.model.specs.Lists.{at}
 use Rattle.model.specs.Sheet.{Sheet}
 use Rattle.model.specs.Transaction.{storeOf}
-use Rattle.model.specs.Machine.{taskAt, copiesOf, startMemory, startMachine}
+use Rattle.model.specs.Machine.{taskAt}
+use Rattle.model.specs.Start.{copiesOf, startMemory, startMachine}
 use Rattle.model.specs.History.{Operation}
 use Rattle.model.specs.Command.{noBlock}
 use Rattle.model.proofs.Fit.Sheet.{SheetFit}
