@@ -1,11 +1,12 @@
 -- Worked figures of document 01 and of the changes: one table of sheets, limits and figures, and one fact over the whole table, by computation.
 use Prim.Native.Nat.{ℕ, zero, suc, _+_}
-use mathlib.Core.Bool.{Bool, true, _&&_}
+use mathlib.Core.Bool.{Bool, true, false, _&&_}
 use mathlib.Core.Path.{_≡_, refl}
 use mathlib.Core.List.{List, [], _∷_, _++_}
 use lib.Dec.{eqb}
 use lib.ListN.{length, replicate}
 use Rattle.model.specs.Lists.{at}
+use Rattle.model.specs.Command.{Release}
 use Rattle.model.specs.Word.{current, currentOf, stored}
 use Rattle.model.specs.Transaction.{bank, versionOf, storeOf}
 use Rattle.model.specs.Machine.{Machine, run, taskAt, waitingAt}
@@ -32,6 +33,8 @@ pub data Figure : Type 0 where
   rejectedAre : ℕ → ℕ → Figure
   ticksUsed : ℕ → ℕ → Figure
   waitingAre : ℕ → ℕ → Figure
+  -- task, the tick of the oldest release that waits behind its job
+  oldestIs : ℕ → ℕ → Figure
   ticksDone : ℕ → Figure
   dropsAre : ℕ → Figure
 
@@ -55,8 +58,12 @@ pub record Case : Type 0 where
 fill : ℕ
 fill = 0x2E
 
+oldest : List Release → ℕ → Bool
+oldest [] t = false
+oldest (r ∷ l) t = eqb (r .tick) t
+
 holds : Machine → Figure → Bool
-unfolding at current
+unfolding at current oldest
 holds m (wordIs w v) = eqb (currentOf (m .memory) w) v
 holds m (versionIs b v) = eqb (versionOf (currentOf (m .memory) (bank b))) v
 holds m (valueIs b o v) = eqb (stored (m .memory .stores) (storeOf (currentOf (m .memory) (bank b))) o) v
@@ -66,6 +73,7 @@ holds m (spentAre p n) = eqb (taskAt (m .tasks) p .counts .spent) n
 holds m (rejectedAre p n) = eqb (taskAt (m .tasks) p .counts .rejected) n
 holds m (ticksUsed p n) = eqb (taskAt (m .tasks) p .counts .ticks) n
 holds m (waitingAre p n) = eqb (length (waitingAt (m .waiting) p)) n
+holds m (oldestIs p t) = oldest (waitingAt (m .waiting) p) t
 holds m (ticksDone n) = eqb (m .now) n
 holds m (dropsAre n) = eqb (m .dropped) n
 
@@ -229,6 +237,9 @@ table =
     ∷ figuresBy 12 (sheetAAt (0 ∷ 3 ∷ [])) (registerIs 0 0 1 ∷ registerIs 0 1 12 ∷ registerIs 0 2 5 ∷ waitingAre 0 1 ∷ ticksUsed 0 12 ∷ [])
     ∷ figuresBy 13 (sheetAAt (0 ∷ 3 ∷ [])) (registerIs 0 0 0 ∷ registerIs 0 1 12 ∷ registerIs 0 2 0 ∷ waitingAre 0 0 ∷ ticksUsed 0 13 ∷ [])
     ∷ figures (sheetAAt (0 ∷ 3 ∷ [])) (registerIs 0 0 0 ∷ finishedAre 0 2 ∷ ticksDone 23 ∷ dropsAre 0 ∷ [])
+    -- the oldest starts first, and ahead of the tick's own release
+    ∷ figuresBy 13 (sheetAAt (0 ∷ 3 ∷ 7 ∷ [])) (waitingAre 0 1 ∷ oldestIs 0 7 ∷ [])
+    ∷ figuresBy 13 (sheetAAt (0 ∷ 3 ∷ 12 ∷ [])) (waitingAre 0 1 ∷ oldestIs 0 12 ∷ [])
     -- tick 11 ends the first job: a release in it still finds four waiting; one in tick 12 comes after the oldest has left its place
     ∷ figures (sheetAAt (0 ∷ 1 ∷ 2 ∷ 3 ∷ 4 ∷ 11 ∷ [])) (finishedAre 0 5 ∷ ticksDone 56 ∷ dropsAre 1 ∷ [])
     ∷ figures (sheetAAt (0 ∷ 1 ∷ 2 ∷ 3 ∷ 4 ∷ 12 ∷ [])) (finishedAre 0 6 ∷ ticksDone 67 ∷ dropsAre 0 ∷ [])
