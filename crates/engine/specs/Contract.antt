@@ -1,5 +1,5 @@
--- The contracts of the two public entries: number, place and buffer, each by an equation with the model's answer, the claim, the rates, and what
--- holds of releases that wait.
+-- The contracts of the two public entries: number, place and buffer, each by an equation with the model's answer, the claim, the rates,
+-- and what holds of releases that wait.
 use Prim.Native.Nat.{ℕ}
 use mathlib.Core.Path.{_≡_}
 use mathlib.Core.List.{List}

@@ -12,6 +12,7 @@ use Rattle.model.specs.Ceilings.{maxTasks}
 use Rattle.model.specs.Command.{Release, commandAt}
 use Rattle.model.specs.Sheet.{Sheet, sheetOf}
 use Rattle.model.specs.Machine as M
+use Rattle.model.proofs.Fit.Elements.{and-false}
 use Rattle.model.proofs.Fit.Sheet.{SheetFit}
 use Rattle.model.proofs.Fit.Machine.{Fit}
 use Rattle.model.proofs.Fit.Running.{nobody-none}
@@ -48,10 +49,6 @@ run-none m = refl
 run-on : (k : ℕ) (m : M.Machine) → M.over m ≡ false → M.run (suc k) m ≡ M.run k (M.tick m)
 unfolding M.run M.runBy
 run-on k m e = rw e
-
-and-false : (b : Bool) → b && false ≡ false
-and-false true = refl
-and-false false = refl
 
 module _ (sheet : List ℕ) (program : List BodyCommand) (bounds : List ℕ) (held : Programmed sheet program bounds)
     (c : SheetFit (sheetOf sheet)) where

@@ -6,7 +6,7 @@ use mathlib.Core.List.{List, [], _∷_, _++_}
 use native.Mathlib.Omega.{arith}
 use lib.ListN.{length}
 use lib.Dec.{eqb}
-use borrow.Author.Tests.{ltb-true, eq-eqb, eqb-true}
+use borrow.Author.Tests.{ltb-true, ltb-false, eq-eqb, eqb-true}
 use Rattle.model.specs.Ceilings.{maxTasks, maxWaiting}
 use Rattle.model.specs.Command.{Release}
 use Rattle.model.specs.Machine.{Machine, waitingAt, unfinishedAt, starting, behind, dropping, releaseBy, roomAt, released, toCome}
@@ -22,7 +22,9 @@ pub data Entering (m : Machine) : Machine → Type 0 where
   waits : (r : Release) (l : List Release) → m .releases ≡ r ∷ l → unfinishedAt m (r .task) ≡ true
       → length (waitingAt (m .waiting) (r .task)) < maxWaiting
       → Entering m (toCome (behind (r .task) (waitingAt (m .waiting) (r .task) ++ (r ∷ [])) m) l)
-  drops : (r : Release) (l : List Release) → m .releases ≡ r ∷ l → unfinishedAt m (r .task) ≡ true → Entering m (toCome (dropping m) l)
+  drops : (r : Release) (l : List Release) → m .releases ≡ r ∷ l → unfinishedAt m (r .task) ≡ true
+      → maxWaiting ≤ length (waitingAt (m .waiting) (r .task))
+      → Entering m (toCome (dropping m) l)
 
 pub data Entered : Machine → Machine → Type 0 where
   nothing : {m : Machine} → Entered m m
@@ -45,7 +47,7 @@ release-enters {m} r l e = go (unfinishedAt m (r .task)) refl (roomAt m (r .task
     go : (a : Bool) → unfinishedAt m (r .task) ≡ a → (b : Bool) → roomAt m (r .task) ≡ b → Entering m (toCome (releaseBy a b r m) l)
     go false u b k = starts r l e u
     go true u true k = waits r l e u (ltb-true _ _ k)
-    go true u false k = drops r l e u
+    go true u false k = drops r l e u (ltb-false _ _ k)
 
 -- the releases still to come do not count in what arrives
 release-any : (a b : Bool) (r : Release) (m : Machine) (rs : List Release) → releaseBy a b r (toCome m rs) ≡ toCome (releaseBy a b r m) rs

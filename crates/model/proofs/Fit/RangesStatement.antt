@@ -120,7 +120,7 @@ pub entering-range : (m n : Machine) → Entering m n → Ranges m → Ranges n
 entering-range m n (oldest p r l h u w) f = record { memory = f .memory; task = starting-range f p }
 entering-range m n (starts r l e u) f = record { memory = f .memory; task = starting-range f (r .task) }
 entering-range m n (waits r l e u k) f = record { memory = f .memory; task = f .task }
-entering-range m n (drops r l e u) f = record { memory = f .memory; task = f .task }
+entering-range m n (drops r l e u k) f = record { memory = f .memory; task = f .task }
 
 -- TICKS
 module _ {s : Sheet} (c : SheetFit s) where

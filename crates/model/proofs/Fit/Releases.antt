@@ -179,7 +179,7 @@ module _ {s : Sheet} (c : SheetFit s) where
         releases = others-fit (all-fit f e);
         dropped = omega (arith, fewer f e);
       }
-  entering-fit m m′ (drops r l e u) f =
+  entering-fit m m′ (drops r l e u k) f =
       record {
         memory = f .memory;
         tasks = f .tasks;

@@ -1,7 +1,7 @@
 -- Where a job has ended, none waits once those that wait have started, and no arrival changes that. What has come is not to come again.
 use Prim.Native.Nat.{ℕ, zero, suc, _<_, _≤_}
 use mathlib.Core.Path.{_≡_, refl, sym, _∙_, ap}
-use mathlib.Core.Bool.{Bool, true, false, true≢false, _&&_}
+use mathlib.Core.Bool.{Bool, true, false, true≢false}
 use mathlib.Core.Logic.{_≢_}
 use mathlib.Core.List.{List, [], _∷_}
 use native.Mathlib.Omega.{arith}
@@ -13,6 +13,7 @@ use Rattle.model.specs.Job.{Task}
 use Rattle.model.specs.Machine.{Machine, noTask, waitingAt, unfinished, unfinishedAt, starting, behind, released, toCome}
 use Rattle.model.specs.Machine.{startBy, startOldest, startWaiting, arrive, enter, none?, noneWaits}
 use Rattle.model.proofs.Lists.{same?, replace-same, replace-other, length-replace, at-past}
+use Rattle.model.proofs.Fit.Elements.{and-false}
 use Rattle.model.proofs.Fit.Enter.{Entering, oldest, starts, waits, drops, along, arrive-enters, NoneDue, none-arrives, due-arrives}
 use Rattle.model.proofs.Fit.Enter.{oldest-releases}
 
@@ -54,7 +55,7 @@ entering-settled {m} (waits r l e u k) f = record {
   size = f .size;
   settled = λ q. same? q (r .task) (λ e i. absurd (true≢false (sym u ∙ rw e at i))) (λ d i. behind-other m d _ ∙ f .settled q i);
 }
-entering-settled (drops r l e u) f = record { size = f .size; settled = f .settled }
+entering-settled (drops r l e u k) f = record { size = f .size; settled = f .settled }
 
 pub arrive-settled : {l : List Release} {m : Machine} → m .releases ≡ l → SettledFit m → SettledFit (arrive l m)
 arrive-settled {l} {m} e f = along SettledFit (λ m n. entering-settled) (arrive-enters l m e) f
@@ -164,7 +165,3 @@ unfolding at
 some-waits [] p e = let z = ap length e in absurd (omega arith)
 some-waits (l ∷ ws) zero e = rw e refl
 some-waits (l ∷ ws) (suc p) e = rw (some-waits ws p e) (and-false (none? l))
-  where
-    and-false : (b : Bool) → b && false ≡ false
-    and-false true = refl
-    and-false false = refl

@@ -79,7 +79,7 @@ entering-arrived : (m n : Machine) → Entering m n → Arrived m n
 entering-arrived m n (oldest p r l h u w) = arrived-then (same-tasks refl refl refl) (starting-arrived p (behind p l m) u)
 entering-arrived m n (starts r l e u) = arrived-then (starting-arrived (r .task) m u) (same-tasks refl refl refl)
 entering-arrived m n (waits r l e u k) = same-tasks refl refl refl
-entering-arrived m n (drops r l e u) = same-tasks refl refl refl
+entering-arrived m n (drops r l e u k) = same-tasks refl refl refl
 
 pub arrived : (m : Machine) → Arrived m (enter m)
 arrived m = along (Arrived m) (λ n k s a. arrived-then a (entering-arrived n k s)) (entered m) (same-tasks refl refl refl)
