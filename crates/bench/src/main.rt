@@ -2,7 +2,7 @@
 //
 // The longest sheet has 4,857 bytes: 32 * 5 for words, 16 * 37 for blocks, 8 tasks, 512 * 6 for body commands, 256 * 4 for releases, END.
 // So a faulty command starts at 4,856 at the latest; none has more than 37 bytes, and the first 4,893 bytes of any longer input decide
-// its answer. No report has more than 3,848 bytes.
+// its answer. No report has more than 3,925 bytes.
 use libc::STDIN_FILENO;
 use libc::STDOUT_FILENO;
 
@@ -21,7 +21,7 @@ fn print_refusal(number: u8, place: usize) {
 }
 
 fn answer(sheet: &[u8]) {
-    let mut report = [0u8; 3848];
+    let mut report = [0u8; 3925];
     let a = engine::run(sheet, 65535, &mut report);
     if a.number == 0 {
         print_report(&report, a.place);

@@ -15,7 +15,7 @@ use Rattle.report.specs.Text.{reportText, Reported}
 use Rattle.report.specs.declared.Totals.{Totals}
 
 abbrev pub totals : Sheet → Paused → Totals
-totals x q = record { words = x .words; blocks = x .blocks; tasks = x .tasks; now = q .ticks; dropped = q .dropped }
+totals x q = record { words = x .words; blocks = x .blocks; tasks = x .tasks; now = q .ticks }
 
 pub record FlatRun (s : List ℕ) (limit : ℕ) (text : List ℕ) : Type 0 where
   pub index : Sheet

@@ -74,7 +74,6 @@ fn run_accepted(sheet: &[u8], limit: u32, buffer: &mut [u8]) -> usize
         blocks: n.blocks,
         tasks: n.tasks,
         now: ended.ticks,
-        dropped: ended.dropped,
     };
     report::report(&memory, &tasks, totals, &mut *buffer)
 }

@@ -45,6 +45,9 @@ rejected = 2
 abbrev pub ticks : ℕ
 ticks = 3
 
+abbrev pub dropped : ℕ
+dropped = 4
+
 -- a count rises by one
 unfoldable pub counted : Own → ℕ → Own
 counted t n = setCount t n ((at 0 (t .counts) n + 1) % 4294967296)

@@ -90,6 +90,8 @@ pub const REJECTED: u8 = 2;
 
 pub const TICKS: u8 = 3;
 
+pub const DROPPED: u8 = 4;
+
 pub fn count(task: &mut Task, n: u8)
     ensures { λ r. ⌜ own (now (task .exit)) ≡ counted (own (now (task .entry))) n ⌝ }
 {

@@ -1,6 +1,5 @@
 -- THE FLAT MACHINE, the code's: what all tasks share, each task's own record and job, the mask of unfinished jobs, how many releases wait
--- behind each job, the task whose job has ended with one waiting, the place of the next release in the sheet, the ticks done and the
--- releases dropped.
+-- behind each job, the task whose job has ended with one waiting, the place of the next release in the sheet and the ticks done.
 use Prim.Native.Nat.{ℕ, zero, suc, _+_, _-_, _/_, _%_, _^_, _<_, _≤_}
 use mathlib.Core.Path.{_≡_}
 use mathlib.Core.Bool.{Bool, true, false, _&&_}
@@ -110,11 +109,9 @@ pub record FlatMachine : Type 0 where
   pub ready : ℕ
   pub place : ℕ
   pub ticks : ℕ
-  pub dropped : ℕ
 
-abbrev pub flat : Shared → List Own → List Job → ℕ → List ℕ → ℕ → ℕ → ℕ → ℕ → FlatMachine
-flat m ts js k ws y r n d =
-    record { memory = m; tasks = ts; jobs = js; mask = k; waiting = ws; ready = y; place = r; ticks = n; dropped = d }
+abbrev pub flat : Shared → List Own → List Job → ℕ → List ℕ → ℕ → ℕ → ℕ → FlatMachine
+flat m ts js k ws y r n = record { memory = m; tasks = ts; jobs = js; mask = k; waiting = ws; ready = y; place = r; ticks = n }
 
 abbrev pub noJob : Job
 noJob = job P.Idle 0 0 0 0 0
@@ -129,11 +126,11 @@ ownOf w p = getD (w .tasks) p (own [])
 abbrev pub waitingCount : FlatMachine → ℕ → ℕ
 waitingCount w p = getD (w .waiting) p 0
 
--- A RELEASE to task p arrives. By: the task's job is unfinished. Then it waits, or is dropped and counted where as many wait as may;
--- else a job starts with all registers 0, and one fewer waits if any did.
-abbrev pub droppedBy : Bool → ℕ → ℕ → ℕ
-droppedBy true waiting n = if (ltb waiting maxWaiting) n ((n + 1) % 4294967296)
-droppedBy false waiting n = n
+-- A RELEASE to task p arrives. By: the task's job is unfinished. Then it waits, or is dropped where as many wait as may, and the task
+-- counts it; else a job starts with all registers 0, and one fewer waits if any did.
+abbrev pub droppedBy : Bool → ℕ → Own → Own
+droppedBy true waiting t = if (ltb waiting maxWaiting) t (counted t count.dropped)
+droppedBy false waiting t = t
 
 abbrev pub waitingBy : Bool → ℕ → ℕ
 waitingBy true waiting = if (ltb waiting maxWaiting) (waiting + 1) waiting
@@ -154,17 +151,20 @@ abbrev pub startedBy : Bool → Job → ℕ → Job
 startedBy true j line = j
 startedBy false j line = jobAt P.Plain line 0
 
+-- the task's record after it, k waiting before it
+abbrev pub recordBy : Bool → ℕ → Own → Own
+recordBy b k t = zeroedBy b (droppedBy b k t)
+
 abbrev pub releasedBy : List ℕ → FlatMachine → ℕ → ℕ → Job → FlatMachine
 releasedBy bounds w p next j =
     flat (w .memory)
-    (set (w .tasks) p (zeroedBy (unfinished? (j .phase)) (ownOf w p)))
+    (set (w .tasks) p (recordBy (unfinished? (j .phase)) (waitingCount w p) (ownOf w p)))
     (set (w .jobs) p (startedBy (unfinished? (j .phase)) j (at 0 bounds p)))
     (begunBy (unfinished? (j .phase)) (w .mask) p)
     (set (w .waiting) p (waitingBy (unfinished? (j .phase)) (waitingCount w p)))
     nobody
     next
     (w .ticks)
-    (droppedBy (unfinished? (j .phase)) (waitingCount w p) (w .dropped))
 
 unfoldable pub released : List ℕ → FlatMachine → ℕ → ℕ → FlatMachine
 released bounds w task next = releasedBy bounds w (task % 8) next (jobOf w (task % 8))
@@ -206,7 +206,6 @@ tickedWith w p m c =
     (readyBy (unfinished? (c .next .phase)) (waitingCount w p) p (w .ready))
     (w .place)
     (w .ticks + 1)
-    (w .dropped)
 
 abbrev pub tickedBy : ℕ → FlatMachine → ℕ → Left Job → FlatMachine
 tickedBy end w p l = tickedWith w p (l .memory) (closed end (l .task) (l .next))
@@ -217,7 +216,7 @@ tickedFor program bounds w p = tickedBy (at 0 bounds (p + 1)) w p (statement pro
 
 -- a tick in which nobody has work
 abbrev pub passed : FlatMachine → FlatMachine
-passed w = flat (w .memory) (w .tasks) (w .jobs) (w .mask) (w .waiting) (w .ready) (w .place) (w .ticks + 1) (w .dropped)
+passed w = flat (w .memory) (w .tasks) (w .jobs) (w .mask) (w .waiting) (w .ready) (w .place) (w .ticks + 1)
 
 -- the highest task with an unfinished job does one statement; with none the tick passes
 unfoldable pub ticked : List BodyCommand → List ℕ → FlatMachine → FlatMachine
@@ -241,9 +240,9 @@ pub data Ends (sheet : List ℕ) (program : List BodyCommand) (bounds : List ℕ
 
 -- a run between two ticks, with its records
 abbrev pub flatIn : Shared → List Own → Paused → FlatMachine
-flatIn m ts q = flat m ts (q .jobs) (q .mask) (q .waiting) (q .ready) (q .place) (q .ticks) (q .dropped)
+flatIn m ts q = flat m ts (q .jobs) (q .mask) (q .waiting) (q .ready) (q .place) (q .ticks)
 
 -- no job has run
 abbrev pub pausedAt : ℕ → Paused
 pausedAt place =
-    record { jobs = replicate 8 noJob; mask = 0; waiting = replicate 8 0; ready = nobody; place = place; ticks = 0; dropped = 0 }
+    record { jobs = replicate 8 noJob; mask = 0; waiting = replicate 8 0; ready = nobody; place = place; ticks = 0 }

@@ -31,17 +31,15 @@ pub fn unfinished(phase: Phase) -> bool
     }
 }
 
-// A release to a task whose job is unfinished waits behind it, and is dropped and counted where as many wait as may.
-pub fn drop_by(dropped: u32, waiting: u8, phase: Phase) -> u32
-    ensures { λ r. ⌜ r ≡ droppedBy (unfinished? phase) waiting dropped ⌝ }
+// A release to a task whose job is unfinished waits behind it, and is dropped where as many wait as may: the task counts it.
+pub fn drop_by(task: &mut Task, waiting: u8, phase: Phase)
+    ensures { λ r. ⌜ own (now (task .exit)) ≡ droppedBy (unfinished? phase) waiting (own (now (task .entry))) ⌝ }
 {
     if unfinished(phase) {
         if TaskCeilings::WAITING <= waiting {
-            return std::num::wrapping_add_u32(dropped, 1);
+            jobs::count(&mut *task, jobs::DROPPED);
         }
-        return dropped;
     }
-    dropped
 }
 
 // How many wait then: one more, or one fewer where a job starts. Only one that waited finds any behind a job that has ended.

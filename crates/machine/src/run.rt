@@ -28,7 +28,7 @@ const TASKS: usize = SheetCeilings::TASKS as usize;
 const COMMANDS: usize = SheetCeilings::COMMANDS as usize;
 
 // A run between two ticks: the jobs, the mask of unfinished ones, how many releases wait behind each, the task whose job has ended with one
-// waiting, or NOBODY, the place of the next release, the ticks done and the releases dropped.
+// waiting, or NOBODY, the place of the next release and the ticks done.
 pub struct Paused {
     pub jobs: [Job; TASKS],
     pub mask: u32,
@@ -36,7 +36,6 @@ pub struct Paused {
     pub ready: u8,
     pub place: usize,
     pub ticks: u32,
-    pub dropped: u32,
 }
 
 impl Paused {
@@ -58,7 +57,6 @@ impl Paused {
             ready: releases::NOBODY,
             place: place,
             ticks: 0,
-            dropped: 0,
         }
     }
 }
@@ -240,7 +238,6 @@ pub fn run(
     let mut place = from.place;
     let mut next = releases::pending_at(sheet, place);
     let mut tick = from.ticks;
-    let mut dropped = from.dropped;
     while tick < limit {
         let release = releases::coming_at(next, tick, ready, place);
         if let Coming::Due(task, after) = release {
@@ -250,9 +247,9 @@ pub fn run(
             let found = jobs[i];
             let phase = found.phase;
             let behind = waiting[i];
-            dropped = arrivals::drop_by(dropped, behind, phase);
             waiting[i] = arrivals::wait_by(behind, phase);
             mask = arrivals::begun(mask, i, phase);
+            arrivals::drop_by(&mut tasks[i], behind, phase);
             arrivals::zero_by(&mut tasks[i], phase);
             job = arrivals::started(found, bound(bounds, i));
             ready = releases::NOBODY;
@@ -269,7 +266,6 @@ pub fn run(
                 ready,
                 place,
                 ticks: tick,
-                dropped,
             };
         }
         // Nobody has work: the ticks before the next release are idle.
@@ -315,6 +311,5 @@ pub fn run(
         ready,
         place,
         ticks: tick,
-        dropped,
     }
 }

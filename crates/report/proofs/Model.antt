@@ -31,7 +31,6 @@ module _ {s : Sheet} {f : Machine} {m : Shared} {ts : List Own} {t : Totals}
         least (t .tasks) (length (s .bodies)) maxTasks (h .tasks) (c .bodies),
         h .memory,
         h .now,
-        h .dropped,
         lines-equal (length (s .bodies)) 0 (taskLinesOf ts) (taskLines (f .tasks)) each,
       )
     where

@@ -22,7 +22,7 @@ use Rattle.exchanges.specs.Places.{if}
 use Rattle.exchanges.specs.Reading.{owned, savedFor, currentIn}
 use Rattle.exchanges.proofs.Reading.{own-unpack, saved-for}
 use Rattle.report.specs.Writing.{Written}
-use Rattle.report.specs.Text.{shown, taskLinesOf}
+use Rattle.report.specs.Text.{shown, taskLinesOf, taskMost}
 use Rattle.report.proofs.Writing.{then}
 
 module _ {m : Shared} (s : SharedSized m) where
@@ -53,7 +53,7 @@ store-text stores s h e f = rw (e, f, add-zero, at-rows 8 48 s stores h)
 
 -- the T line and the R line with the counts and registers found
 pub task-text : (tasks : List (List ℕ)) (p : ℕ) {counts registers before middle after : List ℕ} {i j k : ℕ} → counts ≡ own (getD tasks p []) .counts
-    → registers ≡ own (getD tasks p []) .registers → length registers ≡ 8 → Written 57 (line 0x54 (p ∷ take shown counts)) before middle i j
-    → Written 101 (line 0x52 (p ∷ take 8 registers)) middle after j k → Written 158 (taskLinesOf (map own tasks) p) before after i k
+    → registers ≡ own (getD tasks p []) .registers → length registers ≡ 8 → Written 68 (line 0x54 (p ∷ take shown counts)) before middle i j
+    → Written 101 (line 0x52 (p ∷ take 8 registers)) middle after j k → Written taskMost (taskLinesOf (map own tasks) p) before after i k
 task-text tasks p {registers = registers} e f whole u w =
     rw (List·getD-map own tasks p [], ← e, ← f) (rw (take-all 8 registers (omega arith)) at (then u w))

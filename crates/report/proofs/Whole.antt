@@ -13,16 +13,16 @@ use Rattle.state.specs.State.{Shared, Own}
 use Rattle.state.specs.Held.{memoryOf}
 use Rattle.report.specs.declared.Totals.{Totals}
 use Rattle.report.specs.Writing.{Written}
-use Rattle.report.specs.Text.{taskLinesOf, reportText, Reported}
+use Rattle.report.specs.Text.{taskLinesOf, taskMost, reportText, reportMost, Reported}
 use Rattle.report.proofs.Writing.{then, as-text}
 
 pub whole : (m : Shared) (ts : List Own) (t : Totals) {w b p i j k r : ℕ} {start middle later last end : List ℕ}
     → w ≡ min (t .words) 32 → b ≡ min (t .blocks) 16 → p ≡ min (t .tasks) 8
     → Written (24 * w) (lines w 0 (wordLine (memoryOf m))) start middle 0 i
     → Written (112 * b) (lines b 0 (blockLine (memoryOf m))) middle later i j
-    → Written (158 * p) (lines p 0 (taskLinesOf ts)) later last j k
-    → Written 24 (line 0x45 (t .now ∷ t .dropped ∷ [])) last end k r
-    → Written 3848 (reportText m ts t) start end 0 r
+    → Written (taskMost * p) (lines p 0 (taskLinesOf ts)) later last j k
+    → Written 13 (line 0x45 (t .now ∷ [])) last end k r
+    → Written reportMost (reportText m ts t) start end 0 r
 unfolding reportText
 whole m ts t ew eb ep words blocks tasks ends =
     rw (← ew, ← eb, ← ep) (as-text refl (omega arith) (then (then (then words blocks) tasks) ends))

@@ -16,11 +16,15 @@ use Rattle.report.specs.declared.Totals.{Totals}
 
 -- how many of a task's counts its T line shows
 abbrev pub shown : ℕ
-shown = 4
+shown = 5
 
 -- a task's T line with the first of its counts, and its R line with its registers
 abbrev pub taskLinesOf : List Own → ℕ → List ℕ
 taskLinesOf ts p = line 0x54 (p ∷ take shown (getD ts p (own []) .counts)) ++ line 0x52 (p ∷ getD ts p (own []) .registers)
+
+-- its length at most: a T line of six numbers and an R line of nine, each number with its space 11 bytes at most
+abbrev pub taskMost : ℕ
+taskMost = 169
 
 -- of what the totals name, and no more than the records hold
 unfoldable pub reportText : Shared → List Own → Totals → List ℕ
@@ -28,7 +32,11 @@ reportText m ts t =
     lines (min (t .words) maxWords) 0 (wordLine (memoryOf m))
     ++ lines (min (t .blocks) maxBlocks) 0 (blockLine (memoryOf m))
     ++ lines (min (t .tasks) maxTasks) 0 (taskLinesOf ts)
-    ++ line 0x45 (t .now ∷ t .dropped ∷ [])
+    ++ line 0x45 (t .now ∷ [])
+
+-- its length at most: 32 W lines of two numbers, 16 B lines of ten, the lines of 8 tasks, the E line
+abbrev pub reportMost : ℕ
+reportMost = 3925
 
 -- The answer is the report's length; a buffer that is long enough has the report at its start, and nothing else is changed.
 pub record Reported (text before after : List ℕ) (answer : ℕ) : Type 0 where
@@ -44,7 +52,6 @@ pub record Holds (s : Sheet) (f : Machine) (m : Shared) (ts : List Own) (t : Tot
   pub registers : (p : ℕ) → p < length (s .bodies) → taskAt (f .tasks) p .job .registers ≡ getD ts p (own []) .registers
   pub counts : (p : ℕ) → p < length (s .bodies) → countList (taskAt (f .tasks) p .counts) ≡ take shown (getD ts p (own []) .counts)
   pub now : f .now ≡ t .now
-  pub dropped : f .dropped ≡ t .dropped
 
 -- what the sheet check lets through
 pub record Within (s : Sheet) : Type 0 where

@@ -11,7 +11,7 @@ ghost use Rattle.model.specs.Report.{fields, lines, wordLine, blockLine};
 ghost use Rattle.state.specs.State.{shared, own};
 ghost use Rattle.state.specs.Held.{memoryOf};
 ghost use Rattle.report.specs.Writing.{Written, farthest};
-ghost use Rattle.report.specs.Text.{taskLinesOf, reportText, Reported};
+ghost use Rattle.report.specs.Text.{taskLinesOf, taskMost, reportText, reportMost, Reported};
 use commands::ceilings::SheetCeilings;
 use commands::ceilings::TaskCeilings;
 use exchanges::places;
@@ -36,15 +36,14 @@ const VALUES: usize = SheetCeilings::BLOCK_VALUES;
 const REGISTERS: usize = TaskCeilings::REGISTERS as usize;
 
 // How many of a task's counts its T line shows.
-const SHOWN: usize = 4;
+const SHOWN: usize = 5;
 
-// How many words, blocks and tasks the sheet declares, the ticks done and the releases dropped.
+// How many words, blocks and tasks the sheet declares, and the ticks done.
 pub struct Totals {
     pub words: usize,
     pub blocks: usize,
     pub tasks: usize,
     pub now: u32,
-    pub dropped: u32,
 }
 
 // The current value of a cell that there is.
@@ -109,8 +108,8 @@ fn block_lines(buffer: &mut [u8], place: usize, memory: &Memory, blocks: usize) 
 
 // The T line and the R line of a task.
 fn task_line(buffer: &mut [u8], place: usize, tasks: &[Task; 8], p: usize) -> usize
-    requires { ⌜ (p < maxTasks) × (place + 158 ≤ farthest) ⌝ }
-    ensures { λ r. ⌜ Written 158 (taskLinesOf (map own (now (tasks .entry))) p) (now (buffer .entry)) (now (buffer .exit)) place r ⌝ }
+    requires { ⌜ (p < maxTasks) × (place + taskMost ≤ farthest) ⌝ }
+    ensures { λ r. ⌜ Written taskMost (taskLinesOf (map own (now (tasks .entry))) p) (now (buffer .entry)) (now (buffer .exit)) place r ⌝ }
 {
     let task = &tasks[p];
     let counts = task::counts(task);
@@ -120,8 +119,8 @@ fn task_line(buffer: &mut [u8], place: usize, tasks: &[Task; 8], p: usize) -> us
 }
 
 fn task_lines(buffer: &mut [u8], place: usize, tasks: &[Task; 8], count: usize) -> usize
-    requires { ⌜ (count ≤ maxTasks) × (place + 158 * count ≤ farthest) ⌝ }
-    ensures { λ r. ⌜ Written (158 * count) (lines count 0 (taskLinesOf (map own (now (tasks .entry))))) (now (buffer .entry)) (now (buffer .exit)) place r ⌝ }
+    requires { ⌜ (count ≤ maxTasks) × (place + taskMost * count ≤ farthest) ⌝ }
+    ensures { λ r. ⌜ Written (taskMost * count) (lines count 0 (taskLinesOf (map own (now (tasks .entry))))) (now (buffer .entry)) (now (buffer .exit)) place r ⌝ }
 {
     let mut next = place;
     let mut p = 0;
@@ -143,7 +142,7 @@ fn at_most(n: usize, ceiling: usize) -> usize
 
 // The whole report, as far as the buffer goes.
 fn write(buffer: &mut [u8], memory: &Memory, tasks: &[Task; 8], totals: Totals) -> usize
-    ensures { λ r. ⌜ Written 3848 (reportText (shared (now (memory .entry))) (map own (now (tasks .entry))) totals) (now (buffer .entry)) (now (buffer .exit)) 0 r ⌝ }
+    ensures { λ r. ⌜ Written reportMost (reportText (shared (now (memory .entry))) (map own (now (tasks .entry))) totals) (now (buffer .entry)) (now (buffer .exit)) 0 r ⌝ }
 {
     let words = at_most(totals.words, WORDS);
     let blocks = at_most(totals.blocks, BLOCKS);
@@ -151,7 +150,7 @@ fn write(buffer: &mut [u8], memory: &Memory, tasks: &[Task; 8], totals: Totals) 
     let after_words = word_lines(&mut *buffer, 0, memory, words);
     let after_blocks = block_lines(&mut *buffer, after_words, memory, blocks);
     let after_tasks = task_lines(&mut *buffer, after_blocks, tasks, count);
-    text::pair_line(&mut *buffer, after_tasks, b'E', totals.now, totals.dropped)
+    text::number_line(&mut *buffer, after_tasks, b'E', totals.now)
 }
 
 // The report's length. If the buffer is as long, the report stands at its start, and nothing else in it is changed; if not, nothing is.

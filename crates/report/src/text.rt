@@ -95,7 +95,15 @@ pub fn head(buffer: &mut [u8], place: usize, letter: u8, value: u32) -> usize
     field(&mut *buffer, next, value)
 }
 
-// A line of two numbers.
+// A line of one number, and of two.
+pub fn number_line(buffer: &mut [u8], place: usize, letter: u8, value: u32) -> usize
+    requires { ⌜ place + 13 ≤ farthest ⌝ }
+    ensures { λ r. ⌜ Written 13 (line letter (value ∷ [])) (now (buffer .entry)) (now (buffer .exit)) place r ⌝ }
+{
+    let end = head(&mut *buffer, place, letter, value);
+    put(&mut *buffer, end, b'\n')
+}
+
 pub fn pair_line(buffer: &mut [u8], place: usize, letter: u8, first: u32, second: u32) -> usize
     requires { ⌜ place + 24 ≤ farthest ⌝ }
     ensures { λ r. ⌜ Written 24 (line letter (first ∷ second ∷ [])) (now (buffer .entry)) (now (buffer .exit)) place r ⌝ }

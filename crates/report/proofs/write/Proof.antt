@@ -22,8 +22,8 @@ block-lines-requires c κs = search needs
 task-lines-requires : tie.Need-task-lines-requires
 task-lines-requires c κs = search needs
 
-pair-line-requires : tie.Need-pair-line-requires
-pair-line-requires c κs = search needs
+number-line-requires : tie.Need-number-line-requires
+number-line-requires c κs = search needs
 
 same-length : tie.Need-same-length
 same-length c = search needs
@@ -36,9 +36,9 @@ returns c =
     .before .before .before .before .before .at-most3 .ensures)
     (c .before .before .before .before .before .before .before .before .before .before .before .before .before .before .word-lines .ensures)
     (c .before .before .before .before .before .before .before .before .before .before .block-lines .ensures)
-    (c .before .before .before .before .before .before .task-lines .ensures) (c .before .before .pair-line .ensures)
+    (c .before .before .before .before .before .before .task-lines .ensures) (c .before .before .number-line .ensures)
 
 pub write-spec : {M : Type 1} → statement M
 write-spec =
     tie.close (tie.spec at-most-requires at-most-requires-2 at-most-requires-3 word-lines-requires block-lines-requires task-lines-requires
-    pair-line-requires same-length returns)
+    number-line-requires same-length returns)
