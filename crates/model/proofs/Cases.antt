@@ -32,11 +32,11 @@ pub data Figure : Type 0 where
   spentAre : ℕ → ℕ → Figure
   rejectedAre : ℕ → ℕ → Figure
   ticksUsed : ℕ → ℕ → Figure
+  droppedAre : ℕ → ℕ → Figure
   waitingAre : ℕ → ℕ → Figure
   -- task, the tick of the oldest release that waits behind its job
   oldestIs : ℕ → ℕ → Figure
   ticksDone : ℕ → Figure
-  dropsAre : ℕ → Figure
 
 -- WHAT BOTH ENTRIES ANSWER
 pub data Outcome : Type 0 where
@@ -72,10 +72,10 @@ holds m (finishedAre p n) = eqb (taskAt (m .tasks) p .counts .finished) n
 holds m (spentAre p n) = eqb (taskAt (m .tasks) p .counts .spent) n
 holds m (rejectedAre p n) = eqb (taskAt (m .tasks) p .counts .rejected) n
 holds m (ticksUsed p n) = eqb (taskAt (m .tasks) p .counts .ticks) n
+holds m (droppedAre p n) = eqb (taskAt (m .tasks) p .counts .dropped) n
 holds m (waitingAre p n) = eqb (length (waitingAt (m .waiting) p)) n
 holds m (oldestIs p t) = oldest (waitingAt (m .waiting) p) t
 holds m (ticksDone n) = eqb (m .now) n
-holds m (dropsAre n) = eqb (m .dropped) n
 
 all : Machine → List Figure → Bool
 unfolding holds
@@ -137,46 +137,46 @@ bytesA =
     ∷ 0x05
     ∷ []
 
--- "W 0 5", "T 0 1 0 0 12", "R 0 1 12 5 0 0 0 0 0", "E 12 0"
+-- "W 0 5", "T 0 1 0 0 12 0", "R 0 1 12 5 0 0 0 0 0", "E 12"
 reportA : List ℕ
 reportA =
     0x57 ∷ 0x20 ∷ 0x30 ∷ 0x20 ∷ 0x35 ∷ 0x0A
-    ∷ 0x54 ∷ 0x20 ∷ 0x30 ∷ 0x20 ∷ 0x31 ∷ 0x20 ∷ 0x30 ∷ 0x20 ∷ 0x30 ∷ 0x20 ∷ 0x31 ∷ 0x32 ∷ 0x0A
+    ∷ 0x54 ∷ 0x20 ∷ 0x30 ∷ 0x20 ∷ 0x31 ∷ 0x20 ∷ 0x30 ∷ 0x20 ∷ 0x30 ∷ 0x20 ∷ 0x31 ∷ 0x32 ∷ 0x20 ∷ 0x30 ∷ 0x0A
     ∷ 0x52 ∷ 0x20 ∷ 0x30 ∷ 0x20 ∷ 0x31 ∷ 0x20 ∷ 0x31 ∷ 0x32 ∷ 0x20 ∷ 0x35
     ∷ 0x20 ∷ 0x30 ∷ 0x20 ∷ 0x30 ∷ 0x20 ∷ 0x30 ∷ 0x20 ∷ 0x30 ∷ 0x20 ∷ 0x30 ∷ 0x0A
-    ∷ 0x45 ∷ 0x20 ∷ 0x31 ∷ 0x32 ∷ 0x20 ∷ 0x30 ∷ 0x0A
+    ∷ 0x45 ∷ 0x20 ∷ 0x31 ∷ 0x32 ∷ 0x0A
     ∷ []
 
--- P8's report: "W 0 12", "T 0 0 0 0 0", "R 0 0 0 0 0 0 0 0 0", "E 0 0"
+-- P8's report: "W 0 12", "T 0 0 0 0 0 0", "R 0 0 0 0 0 0 0 0 0", "E 0"
 untouchedA : List ℕ
 untouchedA =
     0x57 ∷ 0x20 ∷ 0x30 ∷ 0x20 ∷ 0x31 ∷ 0x32 ∷ 0x0A
-    ∷ 0x54 ∷ 0x20 ∷ 0x30 ∷ 0x20 ∷ 0x30 ∷ 0x20 ∷ 0x30 ∷ 0x20 ∷ 0x30 ∷ 0x20 ∷ 0x30 ∷ 0x0A
+    ∷ 0x54 ∷ 0x20 ∷ 0x30 ∷ 0x20 ∷ 0x30 ∷ 0x20 ∷ 0x30 ∷ 0x20 ∷ 0x30 ∷ 0x20 ∷ 0x30 ∷ 0x20 ∷ 0x30 ∷ 0x0A
     ∷ 0x52 ∷ 0x20 ∷ 0x30 ∷ 0x20 ∷ 0x30 ∷ 0x20 ∷ 0x30 ∷ 0x20 ∷ 0x30
     ∷ 0x20 ∷ 0x30 ∷ 0x20 ∷ 0x30 ∷ 0x20 ∷ 0x30 ∷ 0x20 ∷ 0x30 ∷ 0x20 ∷ 0x30 ∷ 0x0A
-    ∷ 0x45 ∷ 0x20 ∷ 0x30 ∷ 0x20 ∷ 0x30 ∷ 0x0A
+    ∷ 0x45 ∷ 0x20 ∷ 0x30 ∷ 0x0A
     ∷ []
 
--- P10's report: "B 0 16777215 41 0 0 0 0 0 0 77", "T 0 0 1 0 20", "R 0 42 1 0 0 0 0 0 0", "E 20 0"
+-- P10's report: "B 0 16777215 41 0 0 0 0 0 0 77", "T 0 0 1 0 20 0", "R 0 42 1 0 0 0 0 0 0", "E 20"
 spentU : List ℕ
 spentU =
     0x42 ∷ 0x20 ∷ 0x30 ∷ 0x20 ∷ 0x31 ∷ 0x36 ∷ 0x37 ∷ 0x37 ∷ 0x37 ∷ 0x32 ∷ 0x31 ∷ 0x35 ∷ 0x20 ∷ 0x34 ∷ 0x31
     ∷ 0x20 ∷ 0x30 ∷ 0x20 ∷ 0x30 ∷ 0x20 ∷ 0x30 ∷ 0x20 ∷ 0x30 ∷ 0x20 ∷ 0x30 ∷ 0x20 ∷ 0x30 ∷ 0x20 ∷ 0x37 ∷ 0x37 ∷ 0x0A
-    ∷ 0x54 ∷ 0x20 ∷ 0x30 ∷ 0x20 ∷ 0x30 ∷ 0x20 ∷ 0x31 ∷ 0x20 ∷ 0x30 ∷ 0x20 ∷ 0x32 ∷ 0x30 ∷ 0x0A
+    ∷ 0x54 ∷ 0x20 ∷ 0x30 ∷ 0x20 ∷ 0x30 ∷ 0x20 ∷ 0x31 ∷ 0x20 ∷ 0x30 ∷ 0x20 ∷ 0x32 ∷ 0x30 ∷ 0x20 ∷ 0x30 ∷ 0x0A
     ∷ 0x52 ∷ 0x20 ∷ 0x30 ∷ 0x20 ∷ 0x34 ∷ 0x32 ∷ 0x20 ∷ 0x31
     ∷ 0x20 ∷ 0x30 ∷ 0x20 ∷ 0x30 ∷ 0x20 ∷ 0x30 ∷ 0x20 ∷ 0x30 ∷ 0x20 ∷ 0x30 ∷ 0x20 ∷ 0x30 ∷ 0x0A
-    ∷ 0x45 ∷ 0x20 ∷ 0x32 ∷ 0x30 ∷ 0x20 ∷ 0x30 ∷ 0x0A
+    ∷ 0x45 ∷ 0x20 ∷ 0x32 ∷ 0x30 ∷ 0x0A
     ∷ []
 
--- sheet A released at ticks 0 to 5: "W 0 5", "T 0 5 0 0 56", "R 0 0 12 5 0 0 0 0 0", "E 56 1". The first job takes 12 ticks; the next four find 5
+-- sheet A released at ticks 0 to 5: "W 0 5", "T 0 5 0 0 56 1", "R 0 0 12 5 0 0 0 0 0", "E 56". The first job takes 12 ticks; the next four find 5
 -- in word 0 and take 11 each, 3 and a SWAP of 8; the sixth release finds four waiting.
 reportBurst : List ℕ
 reportBurst =
     0x57 ∷ 0x20 ∷ 0x30 ∷ 0x20 ∷ 0x35 ∷ 0x0A
-    ∷ 0x54 ∷ 0x20 ∷ 0x30 ∷ 0x20 ∷ 0x35 ∷ 0x20 ∷ 0x30 ∷ 0x20 ∷ 0x30 ∷ 0x20 ∷ 0x35 ∷ 0x36 ∷ 0x0A
+    ∷ 0x54 ∷ 0x20 ∷ 0x30 ∷ 0x20 ∷ 0x35 ∷ 0x20 ∷ 0x30 ∷ 0x20 ∷ 0x30 ∷ 0x20 ∷ 0x35 ∷ 0x36 ∷ 0x20 ∷ 0x31 ∷ 0x0A
     ∷ 0x52 ∷ 0x20 ∷ 0x30 ∷ 0x20 ∷ 0x30 ∷ 0x20 ∷ 0x31 ∷ 0x32 ∷ 0x20 ∷ 0x35
     ∷ 0x20 ∷ 0x30 ∷ 0x20 ∷ 0x30 ∷ 0x20 ∷ 0x30 ∷ 0x20 ∷ 0x30 ∷ 0x20 ∷ 0x30 ∷ 0x0A
-    ∷ 0x45 ∷ 0x20 ∷ 0x35 ∷ 0x36 ∷ 0x20 ∷ 0x31 ∷ 0x0A
+    ∷ 0x45 ∷ 0x20 ∷ 0x35 ∷ 0x36 ∷ 0x0A
     ∷ []
 
 -- THE TABLE
@@ -231,22 +231,22 @@ table =
     ∷ figures (sheetU 16777215) (ticksDone 20 ∷ valueIs 0 0 41 ∷ versionIs 0 16777215 ∷ finishedAre 0 0 ∷ spentAre 0 1 ∷ [])
     ∷ report (sheetU 16777215) 65535 spentU
     -- two tasks U
-    ∷ figures sheetUU (ticksDone 75 ∷ valueIs 0 0 43 ∷ versionIs 0 5 ∷ rejectedAre 0 0 ∷ rejectedAre 1 0 ∷ dropsAre 0 ∷ [])
+    ∷ figures sheetUU (ticksDone 75 ∷ valueIs 0 0 43 ∷ versionIs 0 5 ∷ rejectedAre 0 0 ∷ rejectedAre 1 0 ∷ droppedAre 0 0 ∷ [])
     -- CHANGE 1, releases that wait: a burst; the second of two has not started at limit 12, has at 13, and ends at 23
     ∷ report (sheetAAt (0 ∷ 1 ∷ 2 ∷ 3 ∷ 4 ∷ 5 ∷ [])) 65535 reportBurst
     ∷ figuresBy 12 (sheetAAt (0 ∷ 3 ∷ [])) (registerIs 0 0 1 ∷ registerIs 0 1 12 ∷ registerIs 0 2 5 ∷ waitingAre 0 1 ∷ ticksUsed 0 12 ∷ [])
     ∷ figuresBy 13 (sheetAAt (0 ∷ 3 ∷ [])) (registerIs 0 0 0 ∷ registerIs 0 1 12 ∷ registerIs 0 2 0 ∷ waitingAre 0 0 ∷ ticksUsed 0 13 ∷ [])
-    ∷ figures (sheetAAt (0 ∷ 3 ∷ [])) (registerIs 0 0 0 ∷ finishedAre 0 2 ∷ ticksDone 23 ∷ dropsAre 0 ∷ [])
+    ∷ figures (sheetAAt (0 ∷ 3 ∷ [])) (registerIs 0 0 0 ∷ finishedAre 0 2 ∷ ticksDone 23 ∷ droppedAre 0 0 ∷ [])
     -- the oldest starts first, and ahead of the tick's own release
     ∷ figuresBy 13 (sheetAAt (0 ∷ 3 ∷ 7 ∷ [])) (waitingAre 0 1 ∷ oldestIs 0 7 ∷ [])
     ∷ figuresBy 13 (sheetAAt (0 ∷ 3 ∷ 12 ∷ [])) (waitingAre 0 1 ∷ oldestIs 0 12 ∷ [])
     -- tick 11 ends the first job: a release in it still finds four waiting; one in tick 12 comes after the oldest has left its place
-    ∷ figures (sheetAAt (0 ∷ 1 ∷ 2 ∷ 3 ∷ 4 ∷ 11 ∷ [])) (finishedAre 0 5 ∷ ticksDone 56 ∷ dropsAre 1 ∷ [])
-    ∷ figures (sheetAAt (0 ∷ 1 ∷ 2 ∷ 3 ∷ 4 ∷ 12 ∷ [])) (finishedAre 0 6 ∷ ticksDone 67 ∷ dropsAre 0 ∷ [])
+    ∷ figures (sheetAAt (0 ∷ 1 ∷ 2 ∷ 3 ∷ 4 ∷ 11 ∷ [])) (finishedAre 0 5 ∷ ticksDone 56 ∷ droppedAre 0 1 ∷ [])
+    ∷ figures (sheetAAt (0 ∷ 1 ∷ 2 ∷ 3 ∷ 4 ∷ 12 ∷ [])) (finishedAre 0 6 ∷ ticksDone 67 ∷ droppedAre 0 0 ∷ [])
     -- a spent job behind which one waits, 20 ticks each
     ∷ figuresBy 20 (sheetUAt 16777215 (0 ∷ 5 ∷ [])) (registerIs 0 0 42 ∷ registerIs 0 1 1 ∷ spentAre 0 1 ∷ waitingAre 0 1 ∷ [])
     ∷ figuresBy 21 (sheetUAt 16777215 (0 ∷ 5 ∷ [])) (registerIs 0 0 0 ∷ registerIs 0 1 0 ∷ spentAre 0 1 ∷ waitingAre 0 0 ∷ [])
-    ∷ figures (sheetUAt 16777215 (0 ∷ 5 ∷ [])) (spentAre 0 2 ∷ finishedAre 0 0 ∷ ticksDone 40 ∷ dropsAre 0 ∷ versionIs 0 16777215 ∷ [])
+    ∷ figures (sheetUAt 16777215 (0 ∷ 5 ∷ [])) (spentAre 0 2 ∷ finishedAre 0 0 ∷ ticksDone 40 ∷ droppedAre 0 0 ∷ versionIs 0 16777215 ∷ [])
     ∷ []
 
 -- every sheet of the table is refused or accepted as it says, with these answers and figures

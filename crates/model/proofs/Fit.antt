@@ -8,6 +8,7 @@ pub mod Exchange
 pub mod Transaction
 pub mod Machine
 -- every statement keeps them: outside a transaction and inside it
+pub mod Counts
 pub mod Outside
 pub mod Blocks
 pub mod Pass

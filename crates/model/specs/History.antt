@@ -10,7 +10,7 @@ use Rattle.model.specs.Lists.{at, replace}
 use Rattle.model.specs.Arguments.{Arguments}
 use Rattle.model.specs.Job.{Deed, nothingDone, began, readGave, swapCommitted, swapAnswered, getGave, passLost}
 use Rattle.model.specs.Job.{transactionCommitted, transactionEnded, endedUntouched, endedSpent}
-use Rattle.model.specs.Machine.{answer, Machine, statement, turnOf, Running, nobody, running, runningOf, beside}
+use Rattle.model.specs.Machine.{answer, Machine, statement, turnOf, Running, nobody, running, runningOf, enter, beside}
 
 -- `last` is its last tick, none if the limit came before
 pub record Operation : Type 0 where
@@ -87,15 +87,17 @@ noted t p (amends f) h =
     let n : ℕ = at 0 (h .latest) p in
     record { began = replace (h .began) n (amendBy f (operationAt h n)) ++ (none ∷ []); latest = h .latest }
 
--- a tick in which that task runs
+-- a tick in which that task runs, its releases having arrived
 unfoldable pub observed : Machine → Running → History → History
 unfolding at noted eventOf statement
 observed m nobody h = noted (m .now) 0 nothing h
 observed m (running p) h = noted (m .now) p (eventOf (m .now) (turnOf m p .did)) h
 
 unfoldable pub observedTick : Machine → History → History
-unfolding observed runningOf
-observedTick m h = observed m (runningOf m) h
+unfolding observed runningOf enter
+observedTick m h =
+    let n : Machine = enter m in
+    observed n (runningOf n) h
 
 unfoldable pub historyOf : ℕ → Machine → History
 unfolding beside observedTick

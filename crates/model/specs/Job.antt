@@ -53,32 +53,34 @@ job f l rs ps = record { phase = f; commands = l; registers = rs; pairs = ps }
 abbrev pub noJob : Job
 noJob = job idle [] (replicate registers 0) []
 
--- THE COUNTS of a task, in the order of its T line: jobs finished, jobs spent, commits rejected, ticks used.
+-- THE COUNTS of a task, in the order of its T line: jobs finished, jobs spent, commits rejected, ticks used, releases dropped.
 pub record Counts : Type 0 where
   pub finished : ℕ
   pub spent : ℕ
   pub rejected : ℕ
   pub ticks : ℕ
+  pub dropped : ℕ
 
 pub data Count : Type 0 where
-  finished spent rejected ticks : Count
+  finished spent rejected ticks dropped : Count
 
-abbrev pub counts : ℕ → ℕ → ℕ → ℕ → Counts
-counts f s r t = record { finished = f; spent = s; rejected = r; ticks = t }
+abbrev pub counts : ℕ → ℕ → ℕ → ℕ → ℕ → Counts
+counts f s r t d = record { finished = f; spent = s; rejected = r; ticks = t; dropped = d }
 
 abbrev pub noCounts : Counts
-noCounts = counts 0 0 0 0
+noCounts = counts 0 0 0 0 0
 
 -- as a list, for the T line
 abbrev pub countList : Counts → List ℕ
-countList c = c .finished ∷ c .spent ∷ c .rejected ∷ c .ticks ∷ []
+countList c = c .finished ∷ c .spent ∷ c .rejected ∷ c .ticks ∷ c .dropped ∷ []
 
 -- a count rises by one
 abbrev pub raised : Count → Counts → Counts
-raised finished c = counts (suc (c .finished)) (c .spent) (c .rejected) (c .ticks)
-raised spent c = counts (c .finished) (suc (c .spent)) (c .rejected) (c .ticks)
-raised rejected c = counts (c .finished) (c .spent) (suc (c .rejected)) (c .ticks)
-raised ticks c = counts (c .finished) (c .spent) (c .rejected) (suc (c .ticks))
+raised finished c = counts (suc (c .finished)) (c .spent) (c .rejected) (c .ticks) (c .dropped)
+raised spent c = counts (c .finished) (suc (c .spent)) (c .rejected) (c .ticks) (c .dropped)
+raised rejected c = counts (c .finished) (c .spent) (suc (c .rejected)) (c .ticks) (c .dropped)
+raised ticks c = counts (c .finished) (c .spent) (c .rejected) (suc (c .ticks)) (c .dropped)
+raised dropped c = counts (c .finished) (c .spent) (c .rejected) (c .ticks) (suc (c .dropped))
 
 -- A TASK: its body, its copy slots, which hold the numbers of block stores, its counts and its job.
 pub record Task : Type 0 where

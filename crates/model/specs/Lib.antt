@@ -18,3 +18,5 @@ pub mod History
 pub mod Claim
 pub mod Rates
 pub mod Waiting
+pub mod Arrivals
+pub mod Drops

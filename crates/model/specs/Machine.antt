@@ -11,7 +11,7 @@ use Rattle.model.specs.Word.{Memory, loading, Read, reads, gives, readTi
 use Rattle.model.specs.Exchange.{Entry, entry, Exchange, exchangeOf, commitSaidYes, Exchanged, goes, ends, exchangeTick, start}
 use Rattle.model.specs.Arguments.{Pair, Arguments, readOf, swapOf, transactionOf, untilCommit}
 use Rattle.model.specs.Job.{between, Phase, idle, plain, reading, exchanging, transacting, noJob}
-use Rattle.model.specs.Job.{noCounts, ticks, Task, task, counting, inPhase, done, doneBy, started}
+use Rattle.model.specs.Job.{noCounts, ticks, dropped, Task, task, counting, inPhase, done, doneBy, started}
 use Rattle.model.specs.Job.{Deed, nothingDone, began, readGave, swapCommitted, swapAnswered, Turn, turn}
 use Rattle.model.specs.Transaction.{freshTransaction, within, loaded, added, transactionTick}
 
@@ -80,17 +80,16 @@ statement p m t (exchanging r x) = swapBy t r x (exchangeTick p m x (x .step))
 statement p m t (transacting x s) = transactionTick p m t x s
 
 -- THE MACHINE: the tasks by their numbers, the releases that wait behind each task's job, the oldest first, the releases to come,
--- the ticks done, the releases dropped
+-- the ticks done
 pub record Machine : Type 0 where
   pub memory : Memory
   pub tasks : List Task
   pub waiting : List (List Release)
   pub releases : List Release
   pub now : ℕ
-  pub dropped : ℕ
 
-abbrev pub machine : Memory → List Task → List (List Release) → List Release → ℕ → ℕ → Machine
-machine m ts ws rs n d = record { memory = m; tasks = ts; waiting = ws; releases = rs; now = n; dropped = d }
+abbrev pub machine : Memory → List Task → List (List Release) → List Release → ℕ → Machine
+machine m ts ws rs n = record { memory = m; tasks = ts; waiting = ws; releases = rs; now = n }
 
 abbrev pub noTask : Task
 noTask = task [] [] noCounts noJob
@@ -144,25 +143,29 @@ runningOf m = runningFrom m 0 (m .tasks) nobody
 abbrev pub unfinishedAt : Machine → ℕ → Bool
 unfinishedAt m p = unfinished (taskAt (m .tasks) p .job .phase)
 
+-- task p, changed
+abbrev pub withTask : ℕ → Task → Machine → Machine
+withTask p t m = machine (m .memory) (replace (m .tasks) p t) (m .waiting) (m .releases) (m .now)
+
 -- a job of task p starts
 abbrev pub starting : ℕ → Machine → Machine
-starting p m =
-    machine (m .memory) (replace (m .tasks) p (started (taskAt (m .tasks) p))) (m .waiting) (m .releases) (m .now) (m .dropped)
+starting p m = withTask p (started (taskAt (m .tasks) p)) m
 
 -- those wait behind the job of task p
 abbrev pub behind : ℕ → List Release → Machine → Machine
-behind p l m = machine (m .memory) (m .tasks) (replace (m .waiting) p l) (m .releases) (m .now) (m .dropped)
+behind p l m = machine (m .memory) (m .tasks) (replace (m .waiting) p l) (m .releases) (m .now)
 
-abbrev pub dropping : Machine → Machine
-dropping m = machine (m .memory) (m .tasks) (m .waiting) (m .releases) (m .now) (suc (m .dropped))
+-- a release to task p is dropped, and the task counts it
+abbrev pub dropping : ℕ → Machine → Machine
+dropping p m = withTask p (counting dropped (taskAt (m .tasks) p)) m
 
 -- By: the task's job is unfinished, and there is room behind it. A release to a task whose job is unfinished waits behind it,
--- or is dropped and counted where there is no room; else a job starts.
+-- or is dropped where there is no room; else a job starts.
 unfoldable pub releaseBy : Bool → Bool → Release → Machine → Machine
 unfolding at replace
 releaseBy false room r m = starting (r .task) m
 releaseBy true true r m = behind (r .task) (waitingAt (m .waiting) (r .task) ++ (r ∷ [])) m
-releaseBy true false r m = dropping m
+releaseBy true false r m = dropping (r .task) m
 
 abbrev pub roomAt : Machine → ℕ → Bool
 roomAt m p = ltb (length (waitingAt (m .waiting) p)) maxWaiting
@@ -171,7 +174,7 @@ abbrev pub released : Release → Machine → Machine
 released r m = releaseBy (unfinishedAt m (r .task)) (roomAt m (r .task)) r m
 
 abbrev pub toCome : Machine → List Release → Machine
-toCome m rs = machine (m .memory) (m .tasks) (m .waiting) rs (m .now) (m .dropped)
+toCome m rs = machine (m .memory) (m .tasks) (m .waiting) rs (m .now)
 
 unfoldable pub arriveBy : Bool → (Machine → Machine) → Release → List Release → Machine → Machine
 unfolding at releaseBy
@@ -214,12 +217,12 @@ turnOf m p = statement p (m .memory) (taskAt (m .tasks) p) (taskAt (m .tasks) p 
 
 abbrev pub afterTurn : Machine → ℕ → Turn → Machine
 afterTurn m p u =
-    machine (u .memory) (replace (m .tasks) p (counting ticks (u .task))) (m .waiting) (m .releases) (suc (m .now)) (m .dropped)
+    machine (u .memory) (replace (m .tasks) p (counting ticks (u .task))) (m .waiting) (m .releases) (suc (m .now))
 
 -- with nobody to run the tick is idle
 unfoldable pub move : Machine → Running → Machine
 unfolding at replace statement
-move m nobody = machine (m .memory) (m .tasks) (m .waiting) (m .releases) (suc (m .now)) (m .dropped)
+move m nobody = machine (m .memory) (m .tasks) (m .waiting) (m .releases) (suc (m .now))
 move m (running p) = afterTurn m p (turnOf m p)
 
 unfoldable pub moveAny : Machine → Machine
@@ -260,11 +263,11 @@ run (suc n) m =
     let go : Machine → Machine = run n in
     runBy (over m) go m
 
--- BESIDE THE RUN: what an observer has who is shown each tick's machine, before its statement, with what he had so far
+-- BESIDE THE RUN: what an observer has who is shown the machine before each tick that the run does, with what he had so far
 unfoldable pub besideBy : {A : Type 0} → Bool → (Machine → A → A) → (Machine → A → A) → Machine → A → A
-unfolding enter tick
+unfolding tick
 besideBy true see go m a = a
-besideBy false see go m a = go (tick m) (see (enter m) a)
+besideBy false see go m a = go (tick m) (see m a)
 
 -- the same machine, the same limit, the same stop
 unfoldable pub beside : {A : Type 0} → (Machine → A → A) → ℕ → Machine → A → A

@@ -56,7 +56,7 @@ abbrev pub taskLines : List Task → ℕ → List ℕ
 taskLines ts p = taskLine p (taskAt ts p) ++ registerLine p (taskAt ts p)
 
 abbrev pub endLine : Machine → List ℕ
-endLine m = line 0x45 (m .now ∷ m .dropped ∷ [])
+endLine m = line 0x45 (m .now ∷ [])
 
 -- of what the sheet declares
 unfoldable pub report : Sheet → Machine → List ℕ

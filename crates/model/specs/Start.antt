@@ -45,4 +45,4 @@ startMemory s =
 
 unfoldable pub startMachine : Sheet → Machine
 unfolding filled tasksFrom startMemory
-startMachine s = machine (startMemory s) (filled maxTasks noTask (tasksFrom 0 (s .bodies))) (replicate maxTasks []) (s .releases) 0 0
+startMachine s = machine (startMemory s) (filled maxTasks noTask (tasksFrom 0 (s .bodies))) (replicate maxTasks []) (s .releases) 0

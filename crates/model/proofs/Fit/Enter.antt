@@ -1,4 +1,5 @@
 -- What comes before a tick's statement, one thing after the other: the oldest waiting release of a task starts, or a release arrives.
+-- And what the observer of arrivals notes of it.
 use Prim.Native.Nat.{ℕ, zero, suc, _<_, _≤_}
 use mathlib.Core.Path.{_≡_, refl, sym, _∙_, ap, subst}
 use mathlib.Core.Bool.{Bool, true, false}
@@ -11,43 +12,76 @@ use Rattle.model.specs.Ceilings.{maxTasks, maxWaiting}
 use Rattle.model.specs.Command.{Release}
 use Rattle.model.specs.Machine.{Machine, waitingAt, unfinishedAt, starting, behind, dropping, releaseBy, roomAt, released, toCome}
 use Rattle.model.specs.Machine.{arriveBy, arrive, startBy, startOldest, startWaiting, enter}
+use Rattle.model.specs.Arrivals as A
+use Rattle.model.specs.Arrivals.{Arrival, arrival, startedJob, neither, fateBy, fateOf, firstStarts, seenStartBy, seenStarts}
+use Rattle.model.specs.Arrivals.{seenArriveBy, seenArrive, seenEnter}
 use Rattle.model.proofs.Lists.{test?}
+
+-- the next release is due
+pub record Due (m : Machine) (r : Release) (l : List Release) : Type 0 where
+  pub next : m .releases ≡ r ∷ l
+  pub now : r .tick ≡ m .now
 
 pub data Entering (m : Machine) : Machine → Type 0 where
   -- the oldest of those that wait behind a job that has ended
   oldest : (p : ℕ) (r : Release) (l : List Release) → p < maxTasks → unfinishedAt m p ≡ false → waitingAt (m .waiting) p ≡ r ∷ l
       → Entering m (starting p (behind p l m))
   -- a release
-  starts : (r : Release) (l : List Release) → m .releases ≡ r ∷ l → unfinishedAt m (r .task) ≡ false → Entering m (toCome (starting (r .task) m) l)
-  waits : (r : Release) (l : List Release) → m .releases ≡ r ∷ l → unfinishedAt m (r .task) ≡ true
+  starts : (r : Release) (l : List Release) → Due m r l → unfinishedAt m (r .task) ≡ false → Entering m (toCome (starting (r .task) m) l)
+  waits : (r : Release) (l : List Release) → Due m r l → unfinishedAt m (r .task) ≡ true
       → length (waitingAt (m .waiting) (r .task)) < maxWaiting
       → Entering m (toCome (behind (r .task) (waitingAt (m .waiting) (r .task) ++ (r ∷ [])) m) l)
-  drops : (r : Release) (l : List Release) → m .releases ≡ r ∷ l → unfinishedAt m (r .task) ≡ true
+  drops : (r : Release) (l : List Release) → Due m r l → unfinishedAt m (r .task) ≡ true
       → maxWaiting ≤ length (waitingAt (m .waiting) (r .task))
-      → Entering m (toCome (dropping m) l)
+      → Entering m (toCome (dropping (r .task) m) l)
 
-pub data Entered : Machine → Machine → Type 0 where
-  nothing : {m : Machine} → Entered m m
-  then : {m n k : Machine} → Entering m n → Entered n k → Entered m k
+abbrev pub notes : {m n : Machine} → Entering m n → List Arrival → List Arrival
+notes {m} (oldest p r l h u w) xs = firstStarts p (m .now) xs
+notes {m} (starts r l d u) xs = xs ++ (arrival r (startedJob (m .now)) ∷ [])
+notes (waits r l d u k) xs = xs ++ (arrival r A.waits ∷ [])
+notes (drops r l d u k) xs = xs ++ (arrival r neither ∷ [])
+
+pub data Entered : Machine → List Arrival → Machine → List Arrival → Type 0 where
+  nothing : {m : Machine} {xs : List Arrival} → Entered m xs m xs
+  then : {m n k : Machine} {xs ys : List Arrival} (s : Entering m n) → Entered n (notes s xs) k ys → Entered m xs k ys
 
 -- what each of them keeps, all keep
-pub along : {m n : Machine} (P : Machine → Type 0) → ((m n : Machine) → Entering m n → P m → P n) → Entered m n → P m → P n
-along P keeps nothing k = k
-along P keeps (then s r) k = along P keeps r (keeps _ _ s k)
+pub along-noted : {m n : Machine} {xs ys : List Arrival} (P : Machine → List Arrival → Type 0)
+    → ((m n : Machine) (xs : List Arrival) (s : Entering m n) → P m xs → P n (notes s xs)) → Entered m xs n ys → P m xs → P n ys
+along-noted P keeps nothing k = k
+along-noted P keeps (then s r) k = along-noted P keeps r (keeps _ _ _ s k)
 
-entered-then : {m n k : Machine} → Entered m n → Entered n k → Entered m k
+pub along : {m n : Machine} {xs ys : List Arrival} (P : Machine → Type 0) → ((m n : Machine) → Entering m n → P m → P n) → Entered m xs n ys
+    → P m → P n
+along P keeps r k = along-noted (λ m xs. P m) (λ m n xs s. keeps m n s) r k
+
+entered-then : {m n k : Machine} {xs ys zs : List Arrival} → Entered m xs n ys → Entered n ys k zs → Entered m xs k zs
 entered-then nothing b = b
 entered-then (then s r) b = then s (entered-then r b)
 
 -- RELEASES
-pub release-enters : {m : Machine} (r : Release) (l : List Release) → m .releases ≡ r ∷ l → Entering m (toCome (released r m) l)
-unfolding releaseBy
-release-enters {m} r l e = go (unfinishedAt m (r .task)) refl (roomAt m (r .task)) refl
-  where
-    go : (a : Bool) → unfinishedAt m (r .task) ≡ a → (b : Bool) → roomAt m (r .task) ≡ b → Entering m (toCome (releaseBy a b r m) l)
-    go false u b k = starts r l e u
-    go true u true k = waits r l e u (ltb-true _ _ k)
-    go true u false k = drops r l e u (ltb-false _ _ k)
+module _ {m : Machine} {r : Release} {l : List Release} (d : Due m r l) where
+  release-by : (a : Bool) → unfinishedAt m (r .task) ≡ a → (b : Bool) → roomAt m (r .task) ≡ b → Entering m (toCome (releaseBy a b r m) l)
+  unfolding releaseBy
+  release-by false u b k = starts r l d u
+  release-by true u true k = waits r l d u (ltb-true _ _ k)
+  release-by true u false k = drops r l d u (ltb-false _ _ k)
+
+  pub release-enters : Entering m (toCome (released r m) l)
+  release-enters = release-by (unfinishedAt m (r .task)) refl (roomAt m (r .task)) refl
+
+  release-notes : (xs : List Arrival) (a : Bool) (u : unfinishedAt m (r .task) ≡ a) (b : Bool) (k : roomAt m (r .task) ≡ b)
+      → notes (release-by a u b k) xs ≡ xs ++ (arrival r (fateBy a b (m .now)) ∷ [])
+  unfolding releaseBy release-by
+  release-notes xs false u b k = refl
+  release-notes xs true u true k = refl
+  release-notes xs true u false k = refl
+
+  release-then : {n : Machine} {xs ys : List Arrival} → Entered (toCome (released r m) l) (xs ++ (arrival r (fateOf r m) ∷ [])) n ys → Entered m xs n ys
+  unfolding release-enters
+  release-then {n} {xs} {ys} rest =
+      let e = release-notes xs (unfinishedAt m (r .task)) refl (roomAt m (r .task)) refl in
+      then release-enters (subst (λ (z : List Arrival). Entered (toCome (released r m) l) z n ys) (sym e) rest)
 
 -- the releases still to come do not count in what arrives
 release-any : (a b : Bool) (r : Release) (m : Machine) (rs : List Release) → releaseBy a b r (toCome m rs) ≡ toCome (releaseBy a b r m) rs
@@ -83,16 +117,41 @@ none-arrives m d = go (m .releases) refl d
     go [] e d = ap (toCome m) (sym e)
     go (r ∷ l) e d = rw d (ap (toCome m) (sym e))
 
-pub arrive-enters : (l : List Release) (m : Machine) → m .releases ≡ l → Entered m (arrive l m)
-unfolding arrive arriveBy
-arrive-enters [] m e = subst (Entered m) (ap (toCome m) e) nothing
-arrive-enters (r ∷ l) m e = test? (eqb (r .tick) (m .now)) (λ d. due d (arrive-enters l (toCome (released r m) l) refl)) (λ d. later d)
+-- nor in what is noted
+noted-any : (l : List Release) (m : Machine) (rs : List Release) (xs : List Arrival) → seenArrive l (toCome m rs) xs ≡ seenArrive l m xs
+unfolding seenArrive seenArriveBy
+noted-any [] m rs xs = refl
+noted-any (r ∷ l) m rs xs = go (eqb (r .tick) (m .now)) (noted-any l)
   where
-    due : eqb (r .tick) (m .now) ≡ true → Entered (toCome (released r m) l) (arrive l (toCome (released r m) l)) → Entered m (arrive (r ∷ l) m)
-    due d rest = subst (Entered m) (sym (due-arrives r l m (eqb-true _ _ d))) (then (release-enters r l e) rest)
+    go : (b : Bool) → ((m : Machine) (rs : List Release) (xs : List Arrival) → seenArrive l (toCome m rs) xs ≡ seenArrive l m xs)
+        → seenArriveBy b (seenArrive l) r (toCome m rs) xs ≡ seenArriveBy b (seenArrive l) r m xs
+    go true on =
+        let noted = xs ++ (arrival r (fateOf r m) ∷ []) in
+        ap (λ (n : Machine). seenArrive l n noted) (release-any (unfinishedAt m (r .task)) (roomAt m (r .task)) r m rs) ∙ on (released r m) rs noted
+    go false on = refl
 
-    later : eqb (r .tick) (m .now) ≡ false → Entered m (arrive (r ∷ l) m)
-    later d = rw d (subst (Entered m) (ap (toCome m) e) nothing)
+pub arrive-enters : (l : List Release) (m : Machine) (xs : List Arrival) → m .releases ≡ l → Entered m xs (arrive l m) (seenArrive l m xs)
+unfolding arrive arriveBy seenArrive seenArriveBy
+arrive-enters [] m xs e = subst (λ (z : Machine). Entered m xs z xs) (ap (toCome m) e) nothing
+arrive-enters (r ∷ l) m xs e =
+    test? (eqb (r .tick) (m .now))
+    (λ d. due d (arrive-enters l (toCome (released r m) l) (xs ++ (arrival r (fateOf r m) ∷ [])) refl))
+    (λ d. later d)
+  where
+    next : Machine
+    next = toCome (released r m) l
+
+    seen : List Arrival
+    seen = xs ++ (arrival r (fateOf r m) ∷ [])
+
+    due : eqb (r .tick) (m .now) ≡ true → Entered next seen (arrive l next) (seenArrive l next seen)
+        → Entered m xs (arrive (r ∷ l) m) (seenArrive (r ∷ l) m xs)
+    due d rest =
+        rw d (release-then (record { next = e; now = eqb-true _ _ d })
+        (rw (arrive-any l (released r m) l, noted-any l (released r m) l seen) at rest))
+
+    later : eqb (r .tick) (m .now) ≡ false → Entered m xs (arrive (r ∷ l) m) (seenArrive (r ∷ l) m xs)
+    later d = rw d (subst (λ (z : Machine). Entered m xs z xs) (ap (toCome m) e) nothing)
 
 -- then none is due any more
 pub arrive-all : (l : List Release) (m : Machine) → NoneDue (arrive l m) (arrive l m .releases)
@@ -101,19 +160,21 @@ arrive-all [] m = tt
 arrive-all (r ∷ l) m = test? (eqb (r .tick) (m .now)) (λ d. rw d (arrive-all l (released r m))) (λ d. rw (d, d) refl)
 
 -- THOSE THAT WAIT
-oldest-enters : (p : ℕ) (m : Machine) → p < maxTasks → Entered m (startOldest p m)
-unfolding startBy
-oldest-enters p m h = go (unfinishedAt m p) refl (waitingAt (m .waiting) p) refl
+oldest-then : (p : ℕ) (m : Machine) {k : Machine} (xs : List Arrival) {ys : List Arrival} → p < maxTasks
+    → Entered (startOldest p m) (seenStartBy (unfinishedAt m p) (waitingAt (m .waiting) p) p (m .now) xs) k ys → Entered m xs k ys
+unfolding startBy seenStartBy
+oldest-then p m {k} xs {ys} h = go (unfinishedAt m p) refl (waitingAt (m .waiting) p) refl
   where
-    go : (b : Bool) → unfinishedAt m p ≡ b → (l : List Release) → waitingAt (m .waiting) p ≡ l → Entered m (startBy b l p m)
-    go true u l w = nothing
-    go false u [] w = nothing
-    go false u (r ∷ l) w = then (oldest p r l h u w) nothing
+    go : (b : Bool) → unfinishedAt m p ≡ b → (l : List Release) → waitingAt (m .waiting) p ≡ l
+        → Entered (startBy b l p m) (seenStartBy b l p (m .now) xs) k ys → Entered m xs k ys
+    go true u l w rest = rest
+    go false u [] w rest = rest
+    go false u (r ∷ l) w rest = then (oldest p r l h u w) rest
 
-start-all : (n : ℕ) (m : Machine) → n ≤ maxTasks → Entered m (startWaiting n m)
-unfolding startWaiting
-start-all zero m h = nothing
-start-all (suc p) m h = entered-then (oldest-enters p m h) (start-all p (startOldest p m) (omega arith))
+start-all : (n : ℕ) (m : Machine) (xs : List Arrival) → n ≤ maxTasks → Entered m xs (startWaiting n m) (seenStarts n m xs)
+unfolding startWaiting seenStarts
+start-all zero m xs h = nothing
+start-all (suc p) m xs h = oldest-then p m xs h (start-all p (startOldest p m) _ (omega arith))
 
 pub oldest-releases : (p : ℕ) (m : Machine) → startOldest p m .releases ≡ m .releases
 unfolding startBy
@@ -130,6 +191,8 @@ start-releases zero m = refl
 start-releases (suc p) m = start-releases p (startOldest p m) ∙ oldest-releases p m
 
 -- ALL THAT COMES BEFORE A TICK'S STATEMENT
-pub entered : (m : Machine) → Entered m (enter m)
-unfolding enter
-entered m = entered-then (start-all maxTasks m (omega arith)) (arrive-enters (m .releases) (startWaiting maxTasks m) (start-releases maxTasks m))
+pub entered : (m : Machine) (xs : List Arrival) → Entered m xs (enter m) (seenEnter m xs)
+unfolding enter seenEnter
+entered m xs =
+    entered-then (start-all maxTasks m xs (omega arith))
+    (arrive-enters (m .releases) (startWaiting maxTasks m) (seenStarts maxTasks m xs) (start-releases maxTasks m))

@@ -90,4 +90,4 @@ pub record Fit (s : Sheet) (m : Machine) : Type 0 where
   pub undeclared : (p : ℕ) → length (s .bodies) ≤ p → taskAt (m .tasks) p ≡ noTask
   pub waiting : WaitingFit (length (s .bodies)) (m .waiting)
   pub releases : ReleasesFit (length (s .bodies)) (m .now) (m .releases)
-  pub dropped : m .dropped + length (m .releases) ≤ 256
+  pub dropped : (p : ℕ) → taskAt (m .tasks) p .counts .dropped + length (m .releases) ≤ 256

@@ -15,7 +15,7 @@ use Rattle.model.specs.Exchange.{Entry, entry, Exchanged, goes, ends, Ex
 use Rattle.model.specs.Command.{READ, PAIR, SWAP, BodyCommand, LOAD, ADD, outside, body}
 use Rattle.model.specs.Sheet.{after, inBody, waiting, afterBody, afterOutside}
 use Rattle.model.specs.Job.{Phase, reading, exchanging, Task, Turn, turn, rest, done, doneBy, inPhase, Deed}
-use Rattle.model.specs.Machine.{answer, readBy, swapBy, beginning}
+use Rattle.model.specs.Machine.{answer, readBy, swapBy, beginning, unfinished}
 use Rattle.model.specs.Arguments.{Arguments}
 use Rattle.model.proofs.Lists.{at-append, same?, length-replace}
 use Rattle.model.proofs.Fit.Elements.{or-left, or-right, and-left, and-right, append-all}
@@ -23,6 +23,7 @@ use Rattle.model.proofs.Fit.Exchange.{entryOf, EntriesFit, Unloaded, Ex
 use Rattle.model.proofs.Fit.Machine.{wordOf, OutsideFit, ReadingFit, PhaseFit}
 use Rattle.model.proofs.Fit.Body.{Faultless, Open, CommandFits, command-fits}
 use Rattle.model.proofs.Fit.Memory.{MemoryFit}
+use Rattle.model.proofs.Fit.Counts.{CountsFit, same-counts, finished-counts}
 
 -- THE WAITING PAIRS
 pub no-entries : (low high : ℕ) → EntriesFit low high []
@@ -89,27 +90,25 @@ unloaded-more {ps} u c o n =
     }
 
 -- WHAT A STATEMENT LEAVES
--- a statement of task t leaves this turn; at most one count has risen, by one
+-- a statement of task t leaves this turn
 pub record TurnFit (words blocks : ℕ) (t : Task) (u : Turn) : Type 0 where
   pub memory : MemoryFit (u .memory)
   pub body : u .task .body ≡ t .body
   pub registers : length (u .task .job .registers) ≡ 8
   pub copies : length (u .task .copies) ≡ 4
-  pub counts : u .task .counts .finished + u .task .counts .spent + u .task .counts .rejected
-      ≤ suc (t .counts .finished + t .counts .spent + t .counts .rejected)
-  pub ticks : u .task .counts .ticks ≡ t .counts .ticks
+  pub counts : CountsFit t (u .task)
   pub phase : PhaseFit words blocks (u .task .copies) (u .task .job .commands) (u .task .job .pairs) (u .task .job .phase)
 
 -- the same turn as the first of an operation
 pub first-turn-fit : {words blocks : ℕ} {t : Task} {u : Turn} {a : Arguments} → TurnFit words blocks t u → TurnFit words blocks t (beginning a u)
 first-turn-fit f =
-    record { memory = f .memory; body = f .body; registers = f .registers; copies = f .copies; counts = f .counts; ticks = f .ticks; phase = f .phase }
+    record { memory = f .memory; body = f .body; registers = f .registers; copies = f .copies; counts = f .counts; phase = f .phase }
 
--- the task as it was, in another phase
-pub phase-fit : {words blocks : ℕ} {m : Memory} {d : Deed} (t : Task) (f : Phase) → MemoryFit m → length (t .job .registers) ≡ 8
-    → length (t .copies) ≡ 4
+-- the task as it was, in another phase of its job
+pub phase-fit : {words blocks : ℕ} {m : Memory} {d : Deed} (t : Task) (f : Phase) → unfinished f ≡ true → MemoryFit m
+    → length (t .job .registers) ≡ 8 → length (t .copies) ≡ 4
     → PhaseFit words blocks (t .copies) (t .job .commands) (t .job .pairs) f → TurnFit words blocks t (turn m (inPhase t f) d)
-phase-fit t f g rs cs p = record { memory = g; body = refl; registers = rs; copies = cs; counts = omega arith; ticks = refl; phase = p }
+phase-fit t f u g rs cs p = record { memory = g; body = refl; registers = rs; copies = cs; counts = same-counts u refl; phase = p }
 
 -- no PAIR waits where a body may end
 none-waiting : (ps : List Entry) (b : Body) → b .pairs ≡ map wordOf ps → mayEnd b ≡ true → ps ≡ []
@@ -132,8 +131,7 @@ done-fit {words} {blocks} {m} {d} t l rs ps cs e g hr hc o =
       body = refl;
       registers = hr;
       copies = hc;
-      counts = omega arith;
-      ticks = refl;
+      counts = finished-counts refl refl;
       phase = record { commands = refl; noPairs = none-waiting ps (o .known .body) (o .waiting) (o .faultless) };
     }
     go (c ∷ l) o = record {
@@ -141,8 +139,7 @@ done-fit {words} {blocks} {m} {d} t l rs ps cs e g hr hc o =
       body = refl;
       registers = hr;
       copies = hc;
-      counts = omega arith;
-      ticks = refl;
+      counts = same-counts refl refl;
       phase = record { command = c; others = l; commands = refl; outside = o };
     }
 
@@ -223,7 +220,7 @@ some-pairs ps b e q = go ps (rw e at q)
 pub read-fit : {words blocks : ℕ} {m : Memory} → MemoryFit m → (t : Task) → length (t .job .registers) ≡ 8 → length (t .copies) ≡ 4 → (r w : ℕ)
     → ReadingFit words blocks (t .job .commands) (t .job .pairs) r w → (o : Read) → TurnFit words blocks t (readBy m t r w o)
 unfolding readBy
-read-fit g t hr hc r w f (reads s) = phase-fit t (reading r w s) g hr hc f
+read-fit g t hr hc r w f (reads s) = phase-fit t (reading r w s) refl g hr hc f
 read-fit {words} {blocks} g t hr hc r w f (gives v) =
     done-fit t (f .others) (replace (t .job .registers) r v) (t .job .pairs) (t .copies) (ap rest (f .commands)) g
     (length-replace (t .job .registers) r v ∙ hr) hc
@@ -241,7 +238,7 @@ pub swap-fit : {words blocks : ℕ} (t : Task) (hr : length (t .job .registers) 
     → (x : Exchange) (o : Exchanged) → ExchangedFit 0 words (t .job .pairs) o → TurnFit words blocks t (swapBy t r x o)
 unfolding swapBy
 swap-fit t hr hc r f y (goes m x) e =
-    phase-fit t (exchanging r x) (e .memory) hr hc
+    phase-fit t (exchanging r x) refl (e .memory) hr hc
     (record { others = f .others; commands = f .commands; register = f .register; exchange = e .exchange; outside = f .outside })
 swap-fit {words} {blocks} t hr hc r f y (ends m yes?) e =
     done-fit t (f .others) (replace (t .job .registers) r (answer yes?)) [] (t .copies) (ap rest (f .commands)) e

@@ -10,7 +10,7 @@ use Rattle.model.specs.Command.{Outside, READ, PAIR, SWAP, BEGIN, BodyCo
 use Rattle.model.specs.Word.{Memory, loading, Read, reads, gives, readTick}
 use Rattle.model.specs.Sheet.{Sheet}
 use Rattle.model.specs.Exchange.{Entry, entry, Exchanged, goes, ends, exchangeOf, start, exchangeTick, Exchange}
-use Rattle.model.specs.Job.{between, Phase, idle, plain, reading, exchanging, transacting, Task, turn, started, counting, ticks, Deed, Turn}
+use Rattle.model.specs.Job.{between, Phase, idle, plain, reading, exchanging, transacting, Task, turn, started, Count, ticks, dropped, counting, Deed, Turn}
 use Rattle.model.specs.Transaction.{loaded, added, freshTransaction}
 use Rattle.model.specs.Machine.{answer, readBy, swapBy, plainTick, statement, Machine, noTask, taskAt, starting, Running, nobody}
 use Rattle.model.specs.Machine.{running, runningOf, move, moveAny, tick, enter, beginning, outsideTick, recorded}
@@ -110,17 +110,18 @@ zeros-range n r = replicate-every 0 Value n 0 (omega arith) (omega arith) r
 started-range : {t : Task} → TaskRange t → TaskRange (started t)
 started-range f = record { body = f .body; commands = f .body; register = zeros-range 8; pair = no-entry-range; copy = f .copy; phase = tt }
 
-ticked-range : {t : Task} → TaskRange t → TaskRange (counting ticks t)
-ticked-range f = record { body = f .body; commands = f .commands; register = f .register; pair = f .pair; copy = f .copy; phase = f .phase }
+counting-range : {t : Task} (c : Count) → TaskRange t → TaskRange (counting c t)
+counting-range c f = record { body = f .body; commands = f .commands; register = f .register; pair = f .pair; copy = f .copy; phase = f .phase }
 
 starting-range : {m : Machine} → Ranges m → (p : ℕ) → (q : ℕ) → TaskRange (taskAt (starting p m .tasks) q)
 starting-range {m} f p = replace-all noTask TaskRange (m .tasks) p _ (started-range (f .task p)) (f .task)
 
 pub entering-range : (m n : Machine) → Entering m n → Ranges m → Ranges n
 entering-range m n (oldest p r l h u w) f = record { memory = f .memory; task = starting-range f p }
-entering-range m n (starts r l e u) f = record { memory = f .memory; task = starting-range f (r .task) }
-entering-range m n (waits r l e u k) f = record { memory = f .memory; task = f .task }
-entering-range m n (drops r l e u k) f = record { memory = f .memory; task = f .task }
+entering-range m n (starts r l d u) f = record { memory = f .memory; task = starting-range f (r .task) }
+entering-range m n (waits r l d u k) f = record { memory = f .memory; task = f .task }
+entering-range m n (drops r l d u k) f =
+    record { memory = f .memory; task = replace-all noTask TaskRange (m .tasks) (r .task) _ (counting-range dropped (f .task (r .task))) (f .task) }
 
 -- TICKS
 module _ {s : Sheet} (c : SheetFit s) where
@@ -130,13 +131,13 @@ module _ {s : Sheet} (c : SheetFit s) where
   move-range {m} f k (running p) r =
       let h = declared c (tasks-of f) p (r .unfinished) in
       let u = statement-range (k .memory) (k .task p) p (omega (arith, h, c .bodies)) (f .task p h) in
-      record { memory = u .memory; task = replace-all noTask TaskRange (m .tasks) p _ (ticked-range (u .task)) (k .task) }
+      record { memory = u .memory; task = replace-all noTask TaskRange (m .tasks) p _ (counting-range ticks (u .task)) (k .task) }
 
   pub tick-range : {m : Machine} → Fit s m → Ranges m → Ranges (tick m)
   unfolding tick moveAny
   tick-range {m} f k =
       let n : Machine = enter m in
-      move-range (enter-fit c f) (along Ranges entering-range (entered m) k) (runningOf n) (running-fit n)
+      move-range (enter-fit c f) (along Ranges entering-range (entered m []) k) (runningOf n) (running-fit n)
 
   pub after-ticks-range : (n : ℕ) {m : Machine} → Fit s m → Ranges m → Ranges (stateAfter m n)
   unfolding stateAfter

@@ -11,15 +11,15 @@ use Rattle.model.specs.Lists.{at, replace}
 use Rattle.model.specs.Command.{Release, BodyCommand}
 use Rattle.model.specs.Fault.{Body}
 use Rattle.model.specs.Sheet.{Sheet}
-use Rattle.model.specs.Job.{Task, started}
+use Rattle.model.specs.Job.{Task, dropped, counting, started}
 use Rattle.model.specs.Machine.{noTask, taskAt, waitingAt, Machine, starting, startWaiting, enter}
 use Rattle.model.proofs.Lists.{replace-same, replace-other, length-replace, same?}
-use Rattle.model.proofs.Fit.Elements.{below?}
+use Rattle.model.proofs.Fit.Elements.{below?, replace-all}
 use Rattle.model.proofs.Fit.Body.{Faultless}
 use Rattle.model.proofs.Fit.Sheet.{BodyFit, SheetFit, ReleasesFit, releaseAt}
 use Rattle.model.proofs.Fit.Machine.{OutsideFit, PlainFit, TaskFit, DeclaredFit, WaitingFit, Fit}
 use Rattle.model.proofs.Fit.Outside.{no-entries, no-unloaded}
-use Rattle.model.proofs.Fit.Enter.{Entering, oldest, starts, waits, drops, along, NoneDue, arrive-all, entered}
+use Rattle.model.proofs.Fit.Enter.{Due, Entering, oldest, starts, waits, drops, along, NoneDue, arrive-all, entered}
 
 -- TASKS
 -- a body is not empty and starts outside a transaction with no PAIR waiting
@@ -53,6 +53,11 @@ started-fit {words} {blocks} {t = t} b f =
       ticks = f .ticks;
       phase = subst (λ (l : List BodyCommand). PlainFit words blocks l []) (sym (f .body)) (body-start _ b);
     }
+
+-- a release to it is dropped
+dropped-fit : {words blocks now : ℕ} {text : List BodyCommand} {t : Task} → TaskFit words blocks text now t → TaskFit words blocks text now (counting dropped t)
+dropped-fit f =
+    record { body = f .body; registers = f .registers; copies = f .copies; counts = f .counts; ticks = f .ticks; phase = f .phase }
 
 -- the tasks of a machine
 pub record TasksFit (s : Sheet) (now : ℕ) (ts : List Task) : Type 0 where
@@ -129,15 +134,19 @@ module _ {s : Sheet} (c : SheetFit s) where
   starting-fit f p h = changed-fit c (tasks-of f) (f .task) p h (started-fit (c .body p h) (f .task p h))
 
   -- the first release has come
-  module _ {m : Machine} (f : Fit s m) {r : Release} {l : List Release} (e : m .releases ≡ r ∷ l) where
+  module _ {m : Machine} (f : Fit s m) {r : Release} {l : List Release} (d : Due m r l) where
     all-fit : ReleasesFit n (m .now) (r ∷ l)
-    all-fit = subst (ReleasesFit n (m .now)) e (f .releases)
+    all-fit = subst (ReleasesFit n (m .now)) (d .next) (f .releases)
 
     pub declared-release : r .task < n
     declared-release = first-task all-fit
 
-    fewer : m .dropped + suc (length l) ≤ 256
-    fewer = omega (arith, f .dropped, ap length e)
+    fewer : (p : ℕ) → taskAt (m .tasks) p .counts .dropped + suc (length l) ≤ 256
+    fewer p = omega (arith, f .dropped p, ap length (d .next))
+
+  -- drops and releases to come are together no more than the sheet's releases
+  abbrev FewDrops : List Release → Task → Type 0
+  FewDrops l t = t .counts .dropped + length l ≤ 256
 
   pub entering-fit : (m m′ : Machine) → Entering m m′ → Fit s m → Fit s m′
   entering-fit m m′ (oldest p r l h u w) f =
@@ -150,23 +159,23 @@ module _ {s : Sheet} (c : SheetFit s) where
         undeclared = ts .undeclared;
         waiting = behind-fit (f .waiting) (c .bodies) p k l (omega (arith, f .waiting .most p, ap length w));
         releases = f .releases;
-        dropped = f .dropped;
+        dropped = replace-all noTask (FewDrops (m .releases)) (m .tasks) p _ (f .dropped p) (f .dropped);
       }
     where
       some : r ∷ l ≡ [] → ⊥
       some e = let z = ap length e in omega arith
-  entering-fit m m′ (starts r l e u) f =
-      let ts = starting-fit f (r .task) (declared-release f e) in
+  entering-fit m m′ (starts r l d u) f =
+      let ts = starting-fit f (r .task) (declared-release f d) in
       record {
         memory = f .memory;
         tasks = ts .size;
         task = ts .task;
         undeclared = ts .undeclared;
         waiting = f .waiting;
-        releases = others-fit (all-fit f e);
-        dropped = omega (arith, fewer f e);
+        releases = others-fit (all-fit f d);
+        dropped = replace-all noTask (FewDrops l) (m .tasks) (r .task) _ (omega (arith, fewer f d (r .task))) (λ q. omega (arith, fewer f d q));
       }
-  entering-fit m m′ (waits r l e u k) f =
+  entering-fit m m′ (waits r l d u k) f =
       let ws = waitingAt (m .waiting) (r .task) in
       record {
         memory = f .memory;
@@ -174,25 +183,27 @@ module _ {s : Sheet} (c : SheetFit s) where
         task = f .task;
         undeclared = f .undeclared;
         waiting =
-            behind-fit (f .waiting) (c .bodies) (r .task) (declared-release f e) (ws ++ (r ∷ []))
+            behind-fit (f .waiting) (c .bodies) (r .task) (declared-release f d) (ws ++ (r ∷ []))
             (omega (arith, k, length-append ws (r ∷ [])));
-        releases = others-fit (all-fit f e);
-        dropped = omega (arith, fewer f e);
+        releases = others-fit (all-fit f d);
+        dropped = λ q. omega (arith, fewer f d q);
       }
-  entering-fit m m′ (drops r l e u k) f =
+  entering-fit m m′ (drops r l d u k) f =
+      let h = declared-release f d in
+      let ts = changed-fit c (tasks-of f) (f .task) (r .task) h (dropped-fit (f .task (r .task) h)) in
       record {
         memory = f .memory;
-        tasks = f .tasks;
-        task = f .task;
-        undeclared = f .undeclared;
+        tasks = ts .size;
+        task = ts .task;
+        undeclared = ts .undeclared;
         waiting = f .waiting;
-        releases = others-fit (all-fit f e);
-        dropped = omega (arith, fewer f e);
+        releases = others-fit (all-fit f d);
+        dropped = replace-all noTask (FewDrops l) (m .tasks) (r .task) _ (omega (arith, fewer f d (r .task))) (λ q. omega (arith, fewer f d q));
       }
 
   -- ALL OF IT: then the releases to come are for later ticks
   pub enter-fit : {m : Machine} → Fit s m → Fit s (enter m)
-  enter-fit {m} f = along (Fit s) entering-fit (entered m) f
+  enter-fit {m} f = along (Fit s) entering-fit (entered m []) f
 
 pub later-fit : {n : ℕ} (m : Machine) → NoneDue m (m .releases) → ReleasesFit n (m .now) (m .releases) → ReleasesFit n (suc (m .now)) (m .releases)
 later-fit {n} m d f = go (m .releases) d f

@@ -9,11 +9,11 @@ use Rattle.model.specs.Lists.{at}
 use Rattle.model.specs.Command.{Block, BodyCommand, Release, noBlock}
 use Rattle.model.specs.Sheet.{Sheet}
 use Rattle.model.specs.Word.{Word, freshWord}
-use Rattle.model.specs.Job.{Task, task, noCounts, noJob}
+use Rattle.model.specs.Job.{Counts, Task, task, noCounts, noJob}
 use Rattle.model.specs.Machine.{noTask, taskAt}
 use Rattle.model.specs.Start.{filled, zeros, copiesOf, banksFrom, tasksFrom, startMemory, startMachine, startValues}
 use Rattle.model.proofs.Lists.{at-append, at-map, at-replicate, at-default}
-use Rattle.model.proofs.Fit.Elements.{append-each, replicate-each, at-filled}
+use Rattle.model.proofs.Fit.Elements.{append-each, replicate-each, at-filled, below?}
 use Rattle.model.proofs.Fit.Sheet.{SheetFit}
 use Rattle.model.proofs.Fit.Memory.{MemoryFit}
 use Rattle.model.proofs.Fit.Machine.{TaskFit, DeclaredFit, Fit}
@@ -104,6 +104,12 @@ start-undeclared : (s : Sheet) (p : ℕ) → length (s .bodies) ≤ p → taskAt
 unfolding startMachine filled
 start-undeclared s p h = at-filled noTask (tasksFrom 0 (s .bodies)) (8 - length (tasksFrom 0 (s .bodies))) p (rw (tasks-size 0 (s .bodies)) h)
 
+-- nothing counted
+pub start-counts : (s : Sheet) (p : ℕ) → taskAt (startMachine s .tasks) p .counts ≡ noCounts
+start-counts s p =
+    below? p (length (s .bodies)) (λ h. ap (λ (t : Task). t .counts) (start-task s p h))
+    (λ h. ap (λ (t : Task). t .counts) (start-undeclared s p h))
+
 start-task-fit : (words blocks : ℕ) (body : List BodyCommand) (p : ℕ) → TaskFit words blocks body 0 (startTask body p)
 start-task-fit words blocks body p =
     record { body = refl; registers = refl; copies = refl; counts = omega arith; ticks = omega arith; phase = record { commands = refl; noPairs = refl } }
@@ -125,5 +131,5 @@ start-fit {s} c =
         undeclared = λ p h. at-default {A = List Release} [] 8 p;
       };
       releases = c .releases;
-      dropped = omega (arith, c .mostReleases);
+      dropped = λ p. rw (start-counts s p) (omega (arith, c .mostReleases));
     }

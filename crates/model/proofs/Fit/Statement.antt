@@ -92,8 +92,7 @@ module _ {words blocks : ℕ} (most : blocks ≤ 16) {m : Memory} (g : MemoryFit
     body = refl;
     registers = hr;
     copies = hc;
-    counts = omega arith;
-    ticks = refl;
+    counts = record { most = omega arith; ticks = refl; dropped = refl; jobs = λ u. refl };
     phase = subst (λ (z : Phase). PhaseFit words blocks (t .copies) (t .job .commands) (t .job .pairs) z) (sym e) h;
   }
   phase-statement-fit p plain e h =

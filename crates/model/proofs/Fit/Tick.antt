@@ -1,5 +1,5 @@
 -- Ticks and runs keep a machine well formed.
-use Prim.Native.Nat.{ℕ, suc, _<_, zero}
+use Prim.Native.Nat.{ℕ, zero, suc, _+_, _<_, _≤_}
 use mathlib.Core.Path.{_≡_, refl, sym, _∙_, ap, subst}
 use mathlib.Core.Bool.{true, false≢true}
 use mathlib.Core.List.{List}
@@ -8,14 +8,14 @@ use lib.ListN.{length}
 use Rattle.model.specs.Command.{BodyCommand}
 use Rattle.model.specs.Sheet.{Sheet}
 use Rattle.model.specs.Job.{Task, Turn, counting, ticks}
-use Rattle.model.specs.Machine.{taskAt, Machine, unfinished, Running}
+use Rattle.model.specs.Machine.{noTask, taskAt, Machine, unfinished, Running}
 use Rattle.model.specs.Machine.{nobody, running, runningOf, move, moveAny, tick, run, enter}
 use Rattle.model.proofs.Fit.Sheet.{SheetFit, ReleasesFit}
 use Rattle.model.proofs.Fit.Machine.{TaskFit, DeclaredFit, Fit}
 use Rattle.model.proofs.Fit.Outside.{TurnFit}
 use Rattle.model.proofs.Fit.Releases.{TasksFit, changed-fit, tasks-of, enter-fit, enter-later, later-fit}
 use Rattle.model.proofs.History.Steps.{stateAfter, stopped}
-use Rattle.model.proofs.Fit.Elements.{below?}
+use Rattle.model.proofs.Fit.Elements.{below?, replace-all}
 use Rattle.model.proofs.Fit.Statement.{statement-fit}
 use Rattle.model.proofs.Fit.Running.{RunningFit, running-fit, busy}
 
@@ -31,8 +31,8 @@ turned-fit f g =
       body = g .body ∙ f .body;
       registers = g .registers;
       copies = g .copies;
-      counts = omega (arith, g .counts, g .ticks, f .counts);
-      ticks = omega (arith, g .ticks, f .ticks);
+      counts = omega (arith, g .counts .most, g .counts .ticks, f .counts);
+      ticks = omega (arith, g .counts .ticks, f .ticks);
       phase = g .phase;
     }
 
@@ -76,7 +76,8 @@ module _ {s : Sheet} (c : SheetFit s) where
         undeclared = ts .undeclared;
         waiting = f .waiting;
         releases = later;
-        dropped = f .dropped;
+        dropped = replace-all noTask (λ (t : Task). t .counts .dropped + length (m .releases) ≤ 256) (m .tasks) p _
+            (rw (u .counts .dropped) (f .dropped p)) (f .dropped);
       }
 
   pub tick-fit : {m : Machine} → Fit s m → Fit s (tick m)

@@ -25,6 +25,7 @@ use Rattle.model.proofs.Fit.Transaction.{copied?, namedSoFar, BlocksFit
 use Rattle.model.proofs.Fit.Blocks.{count-fewer, blocks-read, blocks-copied, gather-some, gather-entries}
 use Rattle.model.proofs.Fit.Pass.{PassFit, first-command, named-fit, pass-access, transaction-fit}
 use Rattle.model.proofs.Fit.Pass.{pass-start, not-over, pass-load, pass-add, pass-of}
+use Rattle.model.proofs.Fit.Counts.{same-counts, rejected-counts, spent-counts}
 use Rattle.model.proofs.Fit.Outside.{TurnFit, done-fit, no-entries, no-unloaded, open-next}
 use Rattle.model.proofs.Fit.Exchange.{EntriesFit, ExchangedFit, exchange-start, exchange-fit}
 use Rattle.model.proofs.Fit.Machine.{OutsideFit}
@@ -59,7 +60,7 @@ pass-touch f b s n t = record { kept = f .kept; begun = f .begun; known = f .kno
 module _ {words blocks : ℕ} (t : Task) (hr : length (t .job .registers) ≡ 8) (hc : length (t .copies) ≡ 4) where
   pub within-fit : {m : Memory} {d : Deed} {l : List BodyCommand} {rs : List ℕ} {x : Transaction} {s : Inner} → MemoryFit m → length rs ≡ 8
       → PassFit words blocks l x → InnerFit blocks (t .copies) l x s → TurnFit words blocks t (turn m (within t l rs x s) d)
-  within-fit g h f i = record { memory = g; body = refl; registers = h; copies = hc; counts = omega arith; ticks = refl; phase = transaction-fit f i }
+  within-fit g h f i = record { memory = g; body = refl; registers = h; copies = hc; counts = same-counts refl refl; phase = transaction-fit f i }
 
   pub stays-fit : {m : Memory} {d : Deed} (l : List BodyCommand) {x : Transaction} {s : Inner} → t .job .commands ≡ l → MemoryFit m
       → PassFit words blocks l x → InnerFit blocks (t .copies) l x s → TurnFit words blocks t (turn m (stays t x s) d)
@@ -82,14 +83,13 @@ module _ {words blocks : ℕ} (t : Task) (hr : length (t .job .registers) ≡ 8)
     body = refl;
     registers = f .kept;
     copies = hc;
-    counts = omega arith;
-    ticks = refl;
+    counts = rejected-counts refl refl;
     phase = transaction-fit (pass-start (f .begun) (f .kept)) tt;
   }
 
   pub ended-fit : {m : Memory} {d : Deed} → MemoryFit m → TurnFit words blocks t (turn m (ended t) d)
   ended-fit g =
-      record { memory = g; body = refl; registers = hr; copies = hc; counts = omega arith; ticks = refl; phase = record { commands = refl; noPairs = refl } }
+      record { memory = g; body = refl; registers = hr; copies = hc; counts = spent-counts refl refl; phase = record { commands = refl; noPairs = refl } }
 
   -- GET AND PUT
   module _ (most : blocks ≤ 16) {m : Memory} (g : MemoryFit m) {x : Transaction} {l : List BodyCommand} where

@@ -10,10 +10,10 @@ use Rattle.model.specs.Ceilings.{maxTasks}
 use Rattle.model.specs.Lists.{at}
 use Rattle.model.specs.Command.{Release}
 use Rattle.model.specs.Job.{Task}
-use Rattle.model.specs.Machine.{Machine, noTask, waitingAt, unfinished, unfinishedAt, starting, behind, released, toCome}
+use Rattle.model.specs.Machine.{Machine, noTask, waitingAt, unfinished, unfinishedAt, starting, behind, dropping, released, toCome}
 use Rattle.model.specs.Machine.{startBy, startOldest, startWaiting, arrive, enter, none?, noneWaits}
 use Rattle.model.proofs.Lists.{same?, replace-same, replace-other, length-replace, at-past}
-use Rattle.model.proofs.Fit.Elements.{and-false}
+use Rattle.model.proofs.Fit.Elements.{and-false, replace-part}
 use Rattle.model.proofs.Fit.Enter.{Entering, oldest, starts, waits, drops, along, arrive-enters, NoneDue, none-arrives, due-arrives}
 use Rattle.model.proofs.Fit.Enter.{oldest-releases}
 
@@ -32,6 +32,10 @@ module _ (m : Machine) {p q : ℕ} (d : q ≢ p) where
   pub behind-other : (l : List Release) → waitingAt (behind p l m .waiting) q ≡ waitingAt (m .waiting) q
   behind-other l = replace-other [] (m .waiting) p q l d
 
+-- a drop leaves every job
+dropped-any : (m : Machine) (p q : ℕ) → unfinishedAt (dropping p m) q ≡ unfinishedAt m q
+dropped-any m p q = replace-part noTask (λ (t : Task). unfinished (t .job .phase)) (m .tasks) p _ refl q
+
 pub started-same : (m : Machine) {p : ℕ} → p < length (m .tasks) → unfinishedAt (starting p m) p ≡ true
 started-same m {p} h = ap (λ (t : Task). unfinished (t .job .phase)) (replace-same noTask (m .tasks) p _ h)
 
@@ -47,18 +51,21 @@ entering-settled {m} (oldest p r l h u w) f = record {
       (λ e i. absurd (true≢false (sym (started-same (behind p l m) (rw (f .size) h)) ∙ rw e at i)))
       (λ d i. behind-other m d l ∙ f .settled q (sym (started-other (behind p l m) d) ∙ i));
 }
-entering-settled {m} (starts r l e u) f = record {
+entering-settled {m} (starts r l due u) f = record {
   size = length-replace (m .tasks) (r .task) _ ∙ f .size;
   settled = λ q. same? q (r .task) (λ e i. rw e (f .settled (r .task) u)) (λ d i. f .settled q (sym (started-other m d) ∙ i));
 }
-entering-settled {m} (waits r l e u k) f = record {
+entering-settled {m} (waits r l due u k) f = record {
   size = f .size;
   settled = λ q. same? q (r .task) (λ e i. absurd (true≢false (sym u ∙ rw e at i))) (λ d i. behind-other m d _ ∙ f .settled q i);
 }
-entering-settled (drops r l e u k) f = record { size = f .size; settled = f .settled }
+entering-settled {m} (drops r l due u k) f = record {
+  size = length-replace (m .tasks) (r .task) _ ∙ f .size;
+  settled = λ q i. f .settled q (sym (dropped-any m (r .task) q) ∙ i);
+}
 
 pub arrive-settled : {l : List Release} {m : Machine} → m .releases ≡ l → SettledFit m → SettledFit (arrive l m)
-arrive-settled {l} {m} e f = along SettledFit (λ m n. entering-settled) (arrive-enters l m e) f
+arrive-settled {l} {m} e f = along SettledFit (λ m n. entering-settled) (arrive-enters l m [] e) f
 
 -- THOSE THAT WAIT START
 oldest-settled : {p : ℕ} (m : Machine) → p < length (m .tasks) → SettledAt (startOldest p m) p

@@ -10,8 +10,9 @@ use borrow.Author.Tests.{ltb-true, ltb-false}
 use Rattle.model.specs.Lists.{at, replace}
 use Rattle.model.specs.Command.{BodyCommand}
 use Rattle.model.specs.Job.{Phase, idle, plain, reading, exchanging, transacting, Job, job, Task, started}
-use Rattle.model.specs.Machine.{Machine, noTask, taskAt, unfinished, runsBefore, nobody, runningOf, unfinishedAt, starting, behind, enter}
+use Rattle.model.specs.Machine.{Machine, noTask, taskAt, unfinished, runsBefore, nobody, runningOf, unfinishedAt, starting, behind, dropping, enter}
 use Rattle.model.proofs.Fit.Enter.{Entering, oldest, starts, waits, drops, along, entered}
+use Rattle.model.proofs.Fit.Elements.{replace-part}
 use Rattle.model.proofs.Fit.Running.{busy, runs-not-after, Foremost, nobody-none}
 use Rattle.model.proofs.Lists.{same?, test?, replace-same, replace-other, length-replace, replace-past, impossible}
 
@@ -75,14 +76,28 @@ starting-arrived : (p : ℕ) (m : Machine) → unfinishedAt m p ≡ false → Ar
 starting-arrived p m e =
     record { memory = refl; now = refl; size = length-replace (m .tasks) p _; task = λ q. one-starts (m .tasks) p q (idle-phase _ e) }
 
+dropping-arrived : (p : ℕ) (m : Machine) → Arrived m (dropping p m)
+dropping-arrived p m =
+    record {
+      memory = refl;
+      now = refl;
+      size = length-replace (m .tasks) p _;
+      task = λ q. record {
+        body = replace-part noTask (λ (t : Task). t .body) (m .tasks) p _ refl q;
+        copies = replace-part noTask (λ (t : Task). t .copies) (m .tasks) p _ refl q;
+        ticks = replace-part noTask (λ (t : Task). t .counts .ticks) (m .tasks) p _ refl q;
+        job = sameJob (replace-part noTask (λ (t : Task). t .job) (m .tasks) p _ refl q);
+      };
+    }
+
 entering-arrived : (m n : Machine) → Entering m n → Arrived m n
 entering-arrived m n (oldest p r l h u w) = arrived-then (same-tasks refl refl refl) (starting-arrived p (behind p l m) u)
-entering-arrived m n (starts r l e u) = arrived-then (starting-arrived (r .task) m u) (same-tasks refl refl refl)
-entering-arrived m n (waits r l e u k) = same-tasks refl refl refl
-entering-arrived m n (drops r l e u k) = same-tasks refl refl refl
+entering-arrived m n (starts r l d u) = arrived-then (starting-arrived (r .task) m u) (same-tasks refl refl refl)
+entering-arrived m n (waits r l d u k) = same-tasks refl refl refl
+entering-arrived m n (drops r l d u k) = arrived-then (dropping-arrived (r .task) m) (same-tasks refl refl refl)
 
 pub arrived : (m : Machine) → Arrived m (enter m)
-arrived m = along (Arrived m) (λ n k s a. arrived-then a (entering-arrived n k s)) (entered m) (same-tasks refl refl refl)
+arrived m = along (Arrived m) (λ n k s a. arrived-then a (entering-arrived n k s)) (entered m []) (same-tasks refl refl refl)
 
 -- THE TASK THAT RUNS: whoever would run before it is idle
 pub before-idle : {m : Machine} {p : ℕ} → Foremost m p → (q : ℕ) → runsBefore m q p ≡ true → taskAt (m .tasks) q .job .phase ≡ idle

@@ -20,9 +20,9 @@ arrivedAt m t = enter (stateAfter m t)
 
 -- what an observer has after t ticks, who had a at first
 unfoldable pub seenAfter : {A : Type 0} → (Machine → A → A) → A → Machine → ℕ → A
-unfolding arrivedAt
+unfolding stateAfter
 seenAfter see a m zero = a
-seenAfter see a m (suc t) = see (arrivedAt m t) (seenAfter see a m t)
+seenAfter see a m (suc t) = see (stateAfter m t) (seenAfter see a m t)
 
 unfoldable pub historyAfter : Machine → ℕ → History
 unfolding seenAfter observedTick
@@ -34,7 +34,7 @@ unfolding stateAfter tick moveAny arrivedAt
 state-next m t = refl
 
 pub history-next : (m : Machine) (t : ℕ) → historyAfter m (suc t) ≡ observed (arrivedAt m t) (runningOf (arrivedAt m t)) (historyAfter m t)
-unfolding historyAfter seenAfter observedTick
+unfolding historyAfter seenAfter observedTick arrivedAt
 history-next m t = refl
 
 -- where n more ticks of the run stop, k being done, for any observer
@@ -46,7 +46,7 @@ pub record Stops {A : Type 0} (see : Machine → A → A) (a : A) (m : Machine) 
 
 module _ {A : Type 0} (see : Machine → A → A) (a : A) (m : Machine) where
   pub stops : (n k : ℕ) → Stops see a m n k
-  unfolding run runBy beside besideBy stateAfter seenAfter arrivedAt
+  unfolding run runBy beside besideBy stateAfter seenAfter
   stops zero k = record { ticks = k; most = omega arith; state = refl; seen = refl }
   stops (suc n) k = test? (over (stateAfter m k)) (λ e. done e) (λ e. goes e (stops n (suc k)))
     where

@@ -7,13 +7,14 @@ use lib.ListN.{length, replicate}
 use Rattle.model.specs.Lists.{at}
 use Rattle.model.specs.Command.{BodyCommand}
 use Rattle.model.specs.Sheet.{Sheet}
-use Rattle.model.specs.Job.{counting, ticks}
+use Rattle.model.specs.Job.{Counts, counting, ticks}
 use Rattle.model.specs.Machine.{noTask, taskAt, Running, nobody, running, move, statement}
 use Rattle.model.specs.Start.{filled, tasksFrom, startMachine}
 use Rattle.model.specs.Rates.{ownBefore}
 use Rattle.model.proofs.Lists.{same?, replace-same, replace-other}
 use Rattle.model.proofs.Fit.Sheet.{SheetFit}
 use Rattle.model.proofs.Fit.Statement.{statement-fit}
+use Rattle.model.proofs.Fit.Start.{start-counts}
 use Rattle.model.proofs.History.Steps.{stateAfter, arrivedAt, state-next}
 use Rattle.model.proofs.Fit.Running.{Foremost, running-foremost}
 use Rattle.model.proofs.History.Ticks.{arrived-at, arrived-linked}
@@ -22,23 +23,6 @@ use Rattle.model.proofs.Demand3.Always.{holds, holds-at, value-now}
 use Rattle.model.proofs.Demand3.State.{declared-task, ready}
 use Rattle.model.proofs.Rates.Own.{other-task, own-runs, own-waits}
 use Rattle.model.proofs.Rates.Run.{who}
-
--- none at first
-none-behind : (n p : ℕ) → taskAt (replicate n noTask) p .counts .ticks ≡ 0
-unfolding at
-none-behind zero p = refl
-none-behind (suc n) zero = refl
-none-behind (suc n) (suc p) = none-behind n p
-
-none-at-first : (q : ℕ) (l : List (List BodyCommand)) (n p : ℕ) → taskAt (tasksFrom q l ++ replicate n noTask) p .counts .ticks ≡ 0
-unfolding at tasksFrom
-none-at-first q [] n p = none-behind n p
-none-at-first q (b ∷ l) n zero = refl
-none-at-first q (b ∷ l) n (suc p) = none-at-first (suc q) l n p
-
-start-ticks : (s : Sheet) (p : ℕ) → taskAt (startMachine s .tasks) p .counts .ticks ≡ 0
-unfolding startMachine filled
-start-ticks s p = none-at-first 0 (s .bodies) (8 - length (tasksFrom 0 (s .bodies))) p
 
 module _ {s : Sheet} (c : SheetFit s) where
   -- a statement uses one tick more
@@ -52,7 +36,7 @@ module _ {s : Sheet} (c : SheetFit s) where
       let now = value-now c t (holds c t) in
       let f = k .fit .task p (declared-task c l k now p r) in
       statement-fit (c .blocks) (k .fit .memory) (taskAt (arrivedAt (startMachine s) t .tasks) p) (f .registers) (f .copies) p
-      (ready c l k now p r .job) .ticks
+      (ready c l k now p r .job) .counts .ticks
 
   next-ticks : (t p : ℕ) → taskAt (arrivedAt (startMachine s) t .tasks) p .counts .ticks ≡ ownBefore (who c) p 0 t → (r : Running) → who c t ≡ r
       → taskAt (move (arrivedAt (startMachine s) t) r .tasks) p .counts .ticks ≡ ownBefore (who c) p 0 (suc t)
@@ -69,6 +53,6 @@ module _ {s : Sheet} (c : SheetFit s) where
 
   pub ticks-used : (t p : ℕ) → taskAt (stateAfter (startMachine s) t .tasks) p .counts .ticks ≡ ownBefore (who c) p 0 t
   unfolding stateAfter ownBefore
-  ticks-used zero p = start-ticks s p
+  ticks-used zero p = ap (λ (c : Counts). c .ticks) (start-counts s p)
   ticks-used (suc t) p =
       rw (state-next (startMachine s) t) (next-ticks t p (arrived-at (startMachine s) t .task p .ticks ∙ ticks-used t p) (who c t) refl)
