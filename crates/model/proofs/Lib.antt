@@ -21,3 +21,4 @@ pub mod Demand3
 pub mod Rates
 -- releases that wait (`waits` in Waiting.antt)
 pub mod Waiting
+pub mod Drops

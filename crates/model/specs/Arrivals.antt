@@ -90,6 +90,11 @@ started? (startedJob t) = true
 started? waits = false
 started? neither = false
 
+abbrev pub startedIn? : ℕ → Fate → Bool
+startedIn? u (startedJob t) = eqb t u
+startedIn? u waits = false
+startedIn? u neither = false
+
 abbrev pub neither? : Fate → Bool
 neither? (startedJob t) = false
 neither? waits = false

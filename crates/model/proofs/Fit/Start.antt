@@ -9,9 +9,10 @@ use Rattle.model.specs.Lists.{at}
 use Rattle.model.specs.Command.{Block, BodyCommand, Release, noBlock}
 use Rattle.model.specs.Sheet.{Sheet}
 use Rattle.model.specs.Word.{Word, freshWord}
-use Rattle.model.specs.Job.{Counts, Task, task, noCounts, noJob}
+use Rattle.model.specs.Job.{Task, task, noCounts, noJob}
 use Rattle.model.specs.Machine.{noTask, taskAt}
 use Rattle.model.specs.Start.{filled, zeros, copiesOf, banksFrom, tasksFrom, startMemory, startMachine, startValues}
+use Rattle.model.specs.Drops.{jobsOf}
 use Rattle.model.proofs.Lists.{at-append, at-map, at-replicate, at-default}
 use Rattle.model.proofs.Fit.Elements.{append-each, replicate-each, at-filled, below?}
 use Rattle.model.proofs.Fit.Sheet.{SheetFit}
@@ -104,11 +105,19 @@ start-undeclared : (s : Sheet) (p : ℕ) → length (s .bodies) ≤ p → taskAt
 unfolding startMachine filled
 start-undeclared s p h = at-filled noTask (tasksFrom 0 (s .bodies)) (8 - length (tasksFrom 0 (s .bodies))) p (rw (tasks-size 0 (s .bodies)) h)
 
--- nothing counted
+-- what every task has at first
+module _ {B : Type 0} (f : Task → B) (b : B) (declared : (body : List BodyCommand) (p : ℕ) → f (startTask body p) ≡ b) (none : f noTask ≡ b) where
+  start-part : (s : Sheet) (p : ℕ) → f (taskAt (startMachine s .tasks) p) ≡ b
+  start-part s p =
+      below? p (length (s .bodies))
+      (λ h. ap f (start-task s p h) ∙ declared (at [] (s .bodies) p) p)
+      (λ h. ap f (start-undeclared s p h) ∙ none)
+
 pub start-counts : (s : Sheet) (p : ℕ) → taskAt (startMachine s .tasks) p .counts ≡ noCounts
-start-counts s p =
-    below? p (length (s .bodies)) (λ h. ap (λ (t : Task). t .counts) (start-task s p h))
-    (λ h. ap (λ (t : Task). t .counts) (start-undeclared s p h))
+start-counts = start-part (λ t. t .counts) noCounts (λ body p. refl) refl
+
+pub start-jobs : (s : Sheet) (p : ℕ) → jobsOf (taskAt (startMachine s .tasks) p) ≡ 0
+start-jobs = start-part jobsOf 0 (λ body p. refl) refl
 
 start-task-fit : (words blocks : ℕ) (body : List BodyCommand) (p : ℕ) → TaskFit words blocks body 0 (startTask body p)
 start-task-fit words blocks body p =

@@ -9,7 +9,7 @@ use Rattle.model.specs.Command.{BodyCommand}
 use Rattle.model.specs.Sheet.{Sheet}
 use Rattle.model.specs.Job.{Task, Turn, counting, ticks}
 use Rattle.model.specs.Machine.{noTask, taskAt, Machine, unfinished, Running}
-use Rattle.model.specs.Machine.{nobody, running, runningOf, move, moveAny, tick, run, enter}
+use Rattle.model.specs.Machine.{nobody, running, runningOf, turnOf, move, moveAny, tick, run, enter}
 use Rattle.model.proofs.Fit.Sheet.{SheetFit, ReleasesFit}
 use Rattle.model.proofs.Fit.Machine.{TaskFit, DeclaredFit, Fit}
 use Rattle.model.proofs.Fit.Outside.{TurnFit}
@@ -52,6 +52,13 @@ module _ {s : Sheet} (c : SheetFit s) where
       below? p (length (s .bodies)) (λ l. l)
       (λ l. absurd (false≢true (ap (λ (t : Task). unfinished (t .job .phase)) (sym (f .undeclared p l)) ∙ h)))
 
+  -- the statement of the task that runs
+  pub turn-fit : {m : Machine} → Fit s m → (p : ℕ) → busy (m .tasks) p ≡ true
+      → TurnFit (length (s .words)) (length (s .blocks)) (taskAt (m .tasks) p) (turnOf m p)
+  turn-fit {m} f p u =
+      let g = f .task p (declared (tasks-of f) p u) in
+      statement-fit (c .blocks) (f .memory) (taskAt (m .tasks) p) (g .registers) (g .copies) p (g .phase)
+
   move-fit : {m : Machine} → Fit s m → ReleasesFit (length (s .bodies)) (suc (m .now)) (m .releases) → (r : Running) → RunningFit m r → Fit s (move m r)
   unfolding move
   move-fit f later nobody r = record {
@@ -65,10 +72,8 @@ module _ {s : Sheet} (c : SheetFit s) where
   }
   move-fit {m} f later (running p) r =
       let h = declared (tasks-of f) p (r .unfinished) in
-      let t : Task = taskAt (m .tasks) p in
-      let g = f .task p h in
-      let u = statement-fit (c .blocks) (f .memory) t (g .registers) (g .copies) p (g .phase) in
-      let ts = changed-fit c (tasks-of f) (waited (tasks-of f)) p h (turned-fit g u) in
+      let u = turn-fit f p (r .unfinished) in
+      let ts = changed-fit c (tasks-of f) (waited (tasks-of f)) p h (turned-fit (f .task p h) u) in
       record {
         memory = u .memory;
         tasks = ts .size;

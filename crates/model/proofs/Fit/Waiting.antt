@@ -33,7 +33,7 @@ module _ (m : Machine) {p q : ℕ} (d : q ≢ p) where
   behind-other l = replace-other [] (m .waiting) p q l d
 
 -- a drop leaves every job
-dropped-any : (m : Machine) (p q : ℕ) → unfinishedAt (dropping p m) q ≡ unfinishedAt m q
+pub dropped-any : (m : Machine) (p q : ℕ) → unfinishedAt (dropping p m) q ≡ unfinishedAt m q
 dropped-any m p q = replace-part noTask (λ (t : Task). unfinished (t .job .phase)) (m .tasks) p _ refl q
 
 pub started-same : (m : Machine) {p : ℕ} → p < length (m .tasks) → unfinishedAt (starting p m) p ≡ true

@@ -1,0 +1,4 @@
+pub mod Fates
+pub mod Accounted
+pub mod Starts
+pub mod Theorem
