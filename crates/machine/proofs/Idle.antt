@@ -37,11 +37,11 @@ idled-later q t limit {r} e = by (ltb t (untilOf q limit)) refl
     by true f = rw (e, f) (ltb-true t (untilOf q limit) f)
     by false f = rw (e, f) (omega arith)
 
-pass-turn : (program : List BodyCommand) (bounds : List ℕ) (m : Shared) (ts : List Own) (jobs : List Job) (n : ℕ) (ws : List ℕ) (y r t d : ℕ)
+pass-turn : (program : List BodyCommand) (bounds : List ℕ) (m : Shared) (ts : List Own) (jobs : List Job) (n : ℕ) (ws : List ℕ) (y r t : ℕ)
     → n ≡ 0
-    → flat m ts jobs n ws y r (t + 1) d ≡ ticked program bounds (flat m ts jobs n ws y r t d)
+    → flat m ts jobs n ws y r (t + 1) ≡ ticked program bounds (flat m ts jobs n ws y r t)
 unfolding ticked
-pass-turn program bounds m ts jobs n ws y r t d e = rw (eq-eqb n 0 e)
+pass-turn program bounds m ts jobs n ws y r t e = rw (eq-eqb n 0 e)
 
 -- a release to come keeps the run from stopping
 due-on : (b : Bool) (task next n : ℕ) → stopsBy (dueBy b task next) n ≡ false
@@ -61,16 +61,16 @@ module _ (y r : ℕ) (q : Pending) (n t : ℕ) (none : ltb y nobody ≡ false) w
       by false f g = absurd (true≢false (sym (eq-eqb n 0 z) ∙ g))
 
 module _ (sheet : List ℕ) (program : List BodyCommand) (bounds : List ℕ) (limit : ℕ) (m : Shared) (ts : List Own) (jobs : List Job) (n : ℕ)
-    (ws : List ℕ) (y r d : ℕ) (q : Pending) (next : q ≡ pendingAt (commandAt sheet r)) (idle : n ≡ 0) (u : FlatMachine) where
+    (ws : List ℕ) (y r : ℕ) (q : Pending) (next : q ≡ pendingAt (commandAt sheet r)) (idle : n ≡ 0) (u : FlatMachine) where
   -- the run goes on from this machine at that tick
   abbrev Goes : ℕ → Type 0
-  Goes t = Ends sheet program bounds limit (flat m ts jobs n ws y r t d) u
+  Goes t = Ends sheet program bounds limit (flat m ts jobs n ws y r t) u
 
   one : (t : ℕ) → t < limit → ((task after : ℕ) → comingBy y r q t ≡ Due task after → ⊥) → stopsBy (comingBy y r q t) n ≡ false → Goes (t + 1)
       → Goes t
   one t lt due on e =
       after-tick sheet program bounds limit _ q next _ lt due on
-      (pass-turn program bounds m ts jobs n ws y r t d idle) u e
+      (pass-turn program bounds m ts jobs n ws y r t idle) u e
 
   -- k ticks before the next release
   all : (k t : ℕ) → ltb y nobody ≡ false → q .some ≡ true → t + k ≤ untilOf q limit → Goes (t + k) → Goes t

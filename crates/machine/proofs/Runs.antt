@@ -1,9 +1,9 @@
 -- What the parts of the run's loops ensure makes a release or a tick of the flat machine, and the loop's rest the run's.
-use Prim.Native.Nat.{ℕ, _+_, _%_, _<_, _≤_}
+use Prim.Native.Nat.{ℕ, zero, suc, _+_, _%_, _<_, _≤_}
 use mathlib.Core.Path.{_≡_, refl, sym, ap, _∙_, subst}
 use mathlib.Core.Bool.{Bool, true, false, false≢true, _&&_, _||_}
 use mathlib.Core.Logic.{_⊎_, inl, inr}
-use mathlib.Core.List.{List, [], map}
+use mathlib.Core.List.{List, [], _∷_, map}
 use native.Mathlib.Omega.{arith}
 use borrow.Author.Tests.{ne-eqb, ltb-true, ltb-false}
 use lib.Dec.{ltb}
@@ -65,44 +65,59 @@ apart-most true = omega arith
 apart-most false = omega arith
 
 -- ONE RECORD OF ALL is replaced, and read
-pub record-set : (ts : List (List ℕ)) (i : ℕ) (t : List ℕ) (x : Own) → own t ≡ x → map own (set ts i t) ≡ set (map own ts) i x
+record-set : (ts : List (List ℕ)) (i : ℕ) (t : List ℕ) → map own (set ts i t) ≡ set (map own ts) i (own t)
 unfolding replace
-record-set ts i t x e = map-replace own ts i t ∙ ap (set (map own ts) i) e
+record-set ts i t = map-replace own ts i t
 
-pub record-at : (ts : List (List ℕ)) (i : ℕ) → getD (map own ts) i (own []) ≡ own (getD ts i [])
+record-at : (ts : List (List ℕ)) (i : ℕ) → getD (map own ts) i (own []) ≡ own (getD ts i [])
 unfolding at
 record-at ts i = at-map own [] ts i
+
+-- and replaced again, by what was made of it
+record-twice : (ts : List (List ℕ)) (i : ℕ) (x z : List ℕ) (f : Own → Own) → own z ≡ f (own (getD (set ts i x) i []))
+    → map own (set (set ts i x) i z) ≡ set (map own ts) i (f (own x))
+record-twice [] i x z f e = refl
+record-twice (t ∷ ts) zero x z f e = ap (λ (y : Own). y ∷ map own ts) e
+record-twice (t ∷ ts) (suc i) x z f e = ap (λ (l : List Own). own t ∷ l) (record-twice ts i x z f e)
 
 -- The job k of the task at hand is held beside the others; the machine has it in its place.
 module _ (sheet : List ℕ) (program : List BodyCommand) (bounds : List ℕ) (limit : ℕ) (w v : FlatMachine) where
   pub same-machine : v ≡ w → (u : FlatMachine) → Ends sheet program bounds limit v u → Ends sheet program bounds limit w u
   same-machine e u r = subst (λ (x : FlatMachine). Ends sheet program bounds limit x u) e r
 
-module _ (m : Shared) (ts : List Own) (jobs : List Job) (k : Job) (n : ℕ) (ws : List ℕ) (y r t d p q : ℕ) where
-  pub switched : flat m ts (set (set jobs p k) q (getD (set jobs p k) q noJob)) n ws y r t d ≡ flat m ts (set jobs p k) n ws y r t d
+module _ (m : Shared) (ts : List Own) (jobs : List Job) (k : Job) (n : ℕ) (ws : List ℕ) (y r t p q : ℕ) where
+  pub switched : flat m ts (set (set jobs p k) q (getD (set jobs p k) q noJob)) n ws y r t ≡ flat m ts (set jobs p k) n ws y r t
   switched = rw (set-getD (set jobs p k) q noJob)
 
 -- the job of task 0 taken out of the jobs and held apart is still the same machine
 pub resumed : (sheet : List ℕ) (program : List BodyCommand) (bounds : List ℕ) (limit : ℕ) (m : Shared) (ts : List Own) (js : List Job)
-    (n : ℕ) (ws : List ℕ) (y r t d : ℕ) (u : FlatMachine) → Ends sheet program bounds limit (flat m ts (set js 0 (getD js 0 noJob)) n ws y r t d) u
-    → Ends sheet program bounds limit (flat m ts js n ws y r t d) u
-resumed sheet program bounds limit m ts js n ws y r t d u e = rw (set-getD js 0 noJob) at e
+    (n : ℕ) (ws : List ℕ) (y r t : ℕ) (u : FlatMachine)
+    → Ends sheet program bounds limit (flat m ts (set js 0 (getD js 0 noJob)) n ws y r t) u
+    → Ends sheet program bounds limit (flat m ts js n ws y r t) u
+resumed sheet program bounds limit m ts js n ws y r t u e = rw (set-getD js 0 noJob) at e
 
--- A RELEASE
-module _ (bounds : List ℕ) (m : Shared) (ts : List (List ℕ)) (jobs : List Job) (k : Job) (n : ℕ) (ws : List ℕ) (y r t d task next : ℕ) where
-  pub release-turn : (q p : ℕ) (z : List ℕ) {n' b d' line : ℕ} {j : Job}
+-- A RELEASE to task p: its job, and whether that is still at work
+module _ (bounds : List ℕ) (m : Shared) (ts : List (List ℕ)) (jobs : List Job) (k : Job) (n : ℕ) (ws : List ℕ)
+    (y r t task next q p : ℕ) where
+  abbrev found : Job
+  found = getD (set jobs q k) p noJob
+
+  abbrev works? : Bool
+  works? = unfinished? (found .phase)
+
+  pub release-turn : (x z : List ℕ) {n' b line : ℕ} {j : Job}
       → p ≡ task % 8
-      → d' ≡ droppedBy (unfinished? (getD (set jobs q k) p noJob .phase)) (getD ws p 0) d
-      → b ≡ waitingBy (unfinished? (getD (set jobs q k) p noJob .phase)) (getD ws p 0)
-      → n' ≡ begunBy (unfinished? (getD (set jobs q k) p noJob .phase)) n p
-      → own z ≡ zeroedBy (unfinished? (getD (set jobs q k) p noJob .phase)) (own (getD ts p []))
+      → b ≡ waitingBy works? (getD ws p 0)
+      → n' ≡ begunBy works? n p
+      → own x ≡ droppedBy works? (getD ws p 0) (own (getD ts p []))
+      → own z ≡ zeroedBy works? (own (getD (set ts p x) p []))
       → line ≡ at 0 bounds p
-      → j ≡ startedBy (unfinished? (getD (set jobs q k) p noJob .phase)) (getD (set jobs q k) p noJob) line
-      → flat m (map own (set ts p z)) (set (set jobs q k) p j) n' (set ws p b) nobody next t d'
-      ≡ released bounds (flat m (map own ts) (set jobs q k) n ws y r t d) task next
+      → j ≡ startedBy works? found line
+      → flat m (map own (set (set ts p x) p z)) (set (set jobs q k) p j) n' (set ws p b) nobody next t
+      ≡ released bounds (flat m (map own ts) (set jobs q k) n ws y r t) task next
   unfolding released
-  release-turn q p z e1 e2 e3 e4 e5 e6 e7 =
-      rw (e2, e3, e4, e7, e6, record-set ts p z _ e5, ← record-at ts p, e1)
+  release-turn x z e1 e2 e3 e4 e5 e6 e7 =
+      rw (e2, e3, e7, e6, record-twice ts p x z (zeroedBy works?) e5, e4, ← record-at ts p, e1)
 
 -- A TICK
 -- a statement, closed and counted
@@ -131,24 +146,24 @@ module _ (program : List BodyCommand) (m : Shared) (t : Own) (p : ℕ) (k : Job)
   step-statement e = rw e
 
 module _ (program : List BodyCommand) (bounds : List ℕ) (m : Shared) (ts : List (List ℕ)) (jobs : List Job) (k : Job) (n : ℕ) (ws : List ℕ)
-    (y r t d p : ℕ) where
+    (y r t p : ℕ) where
   abbrev after : Left Job → FlatMachine
   after l =
       flat (l .memory) (set (map own ts) p (l .task)) (set (set jobs p k) p (l .next)) (leftBy (unfinished? (l .next .phase)) n p) ws
-      (readyBy (unfinished? (l .next .phase)) (getD ws p 0) p y) r (t + 1) d
+      (readyBy (unfinished? (l .next .phase)) (getD ws p 0) p y) r (t + 1)
 
   tick-turn : (x : List ℕ) {end : ℕ} {m' : Shared} {j : Job}
       → (n ≡ 0 → ⊥) → p ≡ topOf 8 n → p < length jobs → end ≡ at 0 bounds (p + 1)
       → left j m' (own x) ≡ tickOf end (statement program m (own (getD ts p [])) p k)
       → flat m' (map own (set ts p x)) (set jobs p j) (leftBy (unfinished? (j .phase)) n p) ws
-      (readyBy (unfinished? (j .phase)) (getD ws p 0) p y) r (t + 1) d
-      ≡ ticked program bounds (flat m (map own ts) (set jobs p k) n ws y r t d)
+      (readyBy (unfinished? (j .phase)) (getD ws p 0) p y) r (t + 1)
+      ≡ ticked program bounds (flat m (map own ts) (set jobs p k) n ws y r t)
   unfolding ticked
   tick-turn x {end = end} {m' = m'} {j = j} work top lt e1 e2 =
-      rw (record-set ts p x (own x) refl, ← set-set jobs p k j) (ap after e2 ∙ is-ticked)
+      rw (record-set ts p x, ← set-set jobs p k j) (ap after e2 ∙ is-ticked)
     where
       is-ticked : after (tickOf end (statement program m (own (getD ts p [])) p k)) ≡ ticked program bounds
-          (flat m (map own ts) (set jobs p k) n ws y r t d)
+          (flat m (map own ts) (set jobs p k) n ws y r t)
       is-ticked = rw (ne-eqb n 0 work, ← top, getD-set-same jobs p k noJob lt, record-at ts p, ← e1)
 
 -- THE RUN'S STEPS, by the next release, decoded once
@@ -231,7 +246,7 @@ goes-before f t until e h = ltb-true t until (both (unfinished? f) (ltb t until)
 
 -- one statement more
 module _ (sheet : List ℕ) (program : List BodyCommand) (bounds : List ℕ) (limit : ℕ) (m : Shared) (ts : List (List ℕ)) (jobs : List Job) (k : Job)
-    (n : ℕ) (ws : List ℕ) (y r t d p : ℕ) (q : Pending) where
+    (n : ℕ) (ws : List ℕ) (y r t p : ℕ) (q : Pending) where
   pub stretch : (x : List ℕ) (until : ℕ) {ts' : List (List ℕ)} {end : ℕ} {m' : Shared} {j : Job} {b : Bool}
       → (n ≡ 0 → ⊥) → p ≡ topOf 8 n → p < length jobs → end ≡ at 0 bounds (p + 1)
       → t < limit → q ≡ pendingAt (commandAt sheet r) → ((task next : ℕ) → comingBy y r q t ≡ Due task next → ⊥)
@@ -240,9 +255,9 @@ module _ (sheet : List ℕ) (program : List BodyCommand) (bounds : List ℕ) (li
       → (u : FlatMachine)
       → Ends sheet program bounds limit
       (flat m' (map own ts') (set jobs p j) (leftBy (b || unfinished? (j .phase)) n p) ws
-      (readyBy (b || unfinished? (j .phase)) (getD ws p 0) p y) r (t + 1) d) u
-      → Ends sheet program bounds limit (flat m (map own ts) (set jobs p k) n ws y r t d) u
+      (readyBy (b || unfinished? (j .phase)) (getD ws p 0) p y) r (t + 1)) u
+      → Ends sheet program bounds limit (flat m (map own ts) (set jobs p k) n ws y r t) u
   stretch x until {j = j} work top lt e1 more e2 due e3 e4 e5 u e =
       after-tick sheet program bounds limit _ q e2 _ more due (on-work (comingBy y r q t) n work)
-      (tick-turn program bounds m ts jobs k n ws y r t d p x work top lt e1 e4) u
+      (tick-turn program bounds m ts jobs k n ws y r t p x work top lt e1 e4) u
       (rw (e3, e5, going (unfinished? (j .phase)) (ltb (t + 1) until)) at e)

@@ -1,9 +1,11 @@
 -- A release to a task whose job is unfinished waits while there is room and is dropped where there is none; a job's end makes one that waits ready.
-use Prim.Native.Nat.{ℕ, _+_, _-_, _%_, _<_, _≤_}
+use Prim.Native.Nat.{ℕ, _+_, _-_, _<_, _≤_}
 use mathlib.Core.Path.{_≡_}
 use mathlib.Core.Bool.{Bool, true, false}
 use borrow.Author.Tests.{lt-ltb, le-ltb, eq-eqb, ne-eqb}
 use Rattle.model.specs.Ceilings.{maxWaiting}
+use Rattle.state.specs.State.{Own}
+use Rattle.jobs.specs.Jobs.{dropped, counted}
 use Rattle.machine.specs.Flat.{droppedBy, waitingBy, readyBy}
 
 -- w releases wait behind the job, and the answer is whether that is unfinished
@@ -20,11 +22,11 @@ module _ (w : ℕ) {b : Bool} where
   pub starts-one : b ≡ false → w - 1 ≡ waitingBy b w
   starts-one e = rw e
 
-  pub room-drops : (d : ℕ) → b ≡ true → w < maxWaiting → d ≡ droppedBy b w d
-  room-drops d e h = rw (e, lt-ltb w maxWaiting h)
+  pub room-drops : (t : Own) → b ≡ true → w < maxWaiting → t ≡ droppedBy b w t
+  room-drops t e h = rw (e, lt-ltb w maxWaiting h)
 
-  pub full-drops : (d : ℕ) {r : ℕ} → b ≡ true → maxWaiting ≤ w → r ≡ (d + 1) % 4294967296 → r ≡ droppedBy b w d
-  full-drops d e h f = rw (e, le-ltb w maxWaiting h) f
+  pub full-drops : (t : Own) {r : Own} → b ≡ true → maxWaiting ≤ w → r ≡ counted t dropped → r ≡ droppedBy b w t
+  full-drops t e h f = rw (e, le-ltb w maxWaiting h) f
 
   pub ends-none : (p y : ℕ) → b ≡ false → w ≡ 0 → y ≡ readyBy b w p y
   ends-none p y e h = rw (e, eq-eqb w 0 h)

@@ -8,19 +8,19 @@ use Rattle.machine.proofs.arrivals.drop_by.Tie as tie
 unfinished-requires : tie.Need-unfinished-requires
 unfinished-requires c κs = search needs
 
-wrapping-add-u32-requires : tie.Need-wrapping-add-u32-requires
-wrapping-add-u32-requires c κs = search needs
+count-requires : tie.Need-count-requires
+count-requires c κs = search needs
 
 returns : tie.Need-returns
 returns c =
-    full-drops _ _ (sym (c .before .before .before .unfinished .ensures) ∙ c .before .before .if1 .taken) (c .before .if2 .taken)
-    (c .wrapping-add-u32 .ensures)
+    full-drops _ _ (sym (c .before .before .before .before .unfinished .ensures) ∙ c .before .before .before .if1 .taken)
+    (c .before .before .if2 .taken) (c .count .ensures)
 
 returns-2 : tie.Need-returns-2
 returns-2 c = room-drops _ _ (sym (c .before .before .unfinished .ensures) ∙ c .before .if1 .taken) (c .if2 .left)
 
 returns-3 : tie.Need-returns-3
-returns-3 c = search needs
+returns-3 c = rw (sym (c .before .unfinished .ensures) ∙ c .if1 .left)
 
 pub drop-by-spec : {M : Type 1} → statement M
-drop-by-spec = tie.close (tie.spec unfinished-requires wrapping-add-u32-requires returns returns-2 returns-3)
+drop-by-spec = tie.close (tie.spec unfinished-requires count-requires returns returns-2 returns-3)

@@ -31,33 +31,33 @@ not-due (Due t n) k task next e = miss (0 ∷ 1 ∷ []) 2 tt k
 
 -- while one task runs: with busy, what the next statement needs; the mask still has the task, and no release behind its job is ready
 abbrev Inv-loop2 : tie.InvT-loop2
-Inv-loop2 sheet bounds memory₀ tasks₀ limit program jobs p job₀ mask waiting ready place next tick₀ dropped highest i until end busy₀ memory tasks job
-    tick busy =
+Inv-loop2 sheet bounds memory₀ tasks₀ limit program jobs p job₀ mask waiting ready place next tick₀ highest i until end busy₀ memory
+    tasks job tick busy =
     (busy ≡ true → tick < limit) × (busy ≡ true → (task after : ℕ) → comingBy ready place next tick ≡ Due task after → ⊥) × (tick₀ ≤ tick)
     × (busy ≡ false → tick₀ < tick)
     × ((u : FlatMachine)
     → Ends sheet program bounds limit
     (flat (shared memory) (map own tasks) (set jobs p job) (leftBy (busy || unfinished? (job .phase)) mask p) waiting
-    (readyBy (busy || unfinished? (job .phase)) (getD waiting p 0) p ready) place tick dropped) u
-    → Ends sheet program bounds limit (flat (shared memory₀) (map own tasks₀) (set jobs p job₀) mask waiting ready place tick₀ dropped) u)
+    (readyBy (busy || unfinished? (job .phase)) (getD waiting p 0) p ready) place tick) u
+    → Ends sheet program bounds limit (flat (shared memory₀) (map own tasks₀) (set jobs p job₀) mask waiting ready place tick₀) u)
 
 abbrev μ-loop2 : tie.MeasureT-loop2
-μ-loop2 sheet bounds memory₀ tasks₀ limit program jobs p job₀ mask waiting ready place next tick₀ dropped highest i until end busy₀ memory tasks job
-    tick busy =
+μ-loop2 sheet bounds memory₀ tasks₀ limit program jobs p job₀ mask waiting ready place next tick₀ highest i until end busy₀ memory
+    tasks job tick busy =
     limit - tick
 
 abbrev Inv-loop : tie.InvT-loop
-Inv-loop sheet bounds memory₀ tasks₀ limit program jobs₀ p₀ job₀ mask₀ waiting₀ ready₀ place₀ next₀ tick₀ dropped₀ memory tasks jobs p job mask
-    waiting ready place next tick dropped =
+Inv-loop sheet bounds memory₀ tasks₀ limit program jobs₀ p₀ job₀ mask₀ waiting₀ ready₀ place₀ next₀ tick₀ memory tasks jobs p job mask
+    waiting ready place next tick =
     (p < 8) × (length jobs ≡ 8) × (length waiting ≡ 8) × (next ≡ pendingAt (commandAt sheet place))
     × ((u : FlatMachine)
-    → Ends sheet program bounds limit (flat (shared memory) (map own tasks) (set jobs p job) mask waiting ready place tick dropped) u
+    → Ends sheet program bounds limit (flat (shared memory) (map own tasks) (set jobs p job) mask waiting ready place tick) u
     → Ends sheet program bounds limit
-    (flat (shared memory₀) (map own tasks₀) (set jobs₀ p₀ job₀) mask₀ waiting₀ ready₀ place₀ tick₀ dropped₀) u)
+    (flat (shared memory₀) (map own tasks₀) (set jobs₀ p₀ job₀) mask₀ waiting₀ ready₀ place₀ tick₀) u)
 
 abbrev μ-loop : tie.MeasureT-loop
-μ-loop sheet bounds memory₀ tasks₀ limit program jobs₀ p₀ job₀ mask₀ waiting₀ ready₀ place₀ next₀ tick₀ dropped₀ memory tasks jobs p job mask
-    waiting ready place next tick dropped =
+μ-loop sheet bounds memory₀ tasks₀ limit program jobs₀ p₀ job₀ mask₀ waiting₀ ready₀ place₀ next₀ tick₀ memory tasks jobs p job mask
+    waiting ready place next tick =
     4 * (limit - tick) + 2 * toCome sheet place ready + apart (eqb (topOf 8 mask) p)
 
 array-copy-out-job : tie.Need-array-copy-out-job Inv-loop2 μ-loop2 Inv-loop μ-loop
@@ -106,27 +106,33 @@ array-copy-out-found c = omega (arith, c .task-number .ensures .1)
 array-read-behind : tie.Need-array-read-behind Inv-loop2 μ-loop2 Inv-loop μ-loop
 array-read-behind c = omega (arith, c .before .task-number .ensures .1, c .before .before .before .before .before .before .before .loop .inv .2)
 
-drop-by-requires : tie.Need-drop-by-requires Inv-loop2 μ-loop2 Inv-loop μ-loop
-drop-by-requires c κs = search needs
-
 wait-by-requires : tie.Need-wait-by-requires Inv-loop2 μ-loop2 Inv-loop μ-loop
 wait-by-requires c κs = search needs
 
 array-write-waiting : tie.Need-array-write-waiting Inv-loop2 μ-loop2 Inv-loop μ-loop
 array-write-waiting c = omega (
   arith,
-  c .before .before .before .task-number .ensures .1,
-  c .before .before .before .before .before .before .before .before .before .loop .inv .2,
+  c .before .before .task-number .ensures .1,
+  c .before .before .before .before .before .before .before .before .loop .inv .2,
 )
 
 begun-requires : tie.Need-begun-requires Inv-loop2 μ-loop2 Inv-loop μ-loop
 begun-requires c κs = search needs
 
+mul-drop-by : tie.Need-mul-drop-by Inv-loop2 μ-loop2 Inv-loop μ-loop
+mul-drop-by c = omega (arith, c .before .before .before .task-number .ensures .1)
+
+index-1-drop-by : tie.Need-index-1-drop-by Inv-loop2 μ-loop2 Inv-loop μ-loop
+index-1-drop-by c = omega (arith, c .before .before .before .task-number .ensures .1)
+
+drop-by-requires : tie.Need-drop-by-requires Inv-loop2 μ-loop2 Inv-loop μ-loop
+drop-by-requires c κs = search needs
+
 mul-zero-by : tie.Need-mul-zero-by Inv-loop2 μ-loop2 Inv-loop μ-loop
-mul-zero-by c = omega (arith, c .before .before .before .before .task-number .ensures .1)
+mul-zero-by c = omega (arith, c .before .before .before .before .before .task-number .ensures .1)
 
 index-1-zero-by : tie.Need-index-1-zero-by Inv-loop2 μ-loop2 Inv-loop μ-loop
-index-1-zero-by c = omega (arith, c .before .before .before .before .task-number .ensures .1)
+index-1-zero-by c = omega (arith, c .before .before .before .before .before .task-number .ensures .1)
 
 zero-by-requires : tie.Need-zero-by-requires Inv-loop2 μ-loop2 Inv-loop μ-loop
 zero-by-requires c κs = search needs
@@ -142,38 +148,27 @@ pending-at-requires-2 c κs = search needs
 
 loop-less : tie.Need-loop-less Inv-loop2 μ-loop2 Inv-loop μ-loop
 loop-less c =
-    let l = c .before .before .before .before .before .before .before .before .before .before .before .before .before .before .before .loop in
-    let d = due-less _ (l .ready) (l .place) (l .tick) _ _ (l .next) (l .inv .3)
-    (c .before .before .before .before .before .before .before .before .before .before .before .before .before .coming-at .ensures)
-    (c .before .before .before .before .before .before .before .before .before .before .before .release .given .1) in
-    omega (
-      arith,
-      d,
-      c .before .before .before .before .before .before .before .before .before .before .before .before .before .before .loop-test,
-      apart-most (eqb (topOf 8 (c .before .before .before .before .before .begun .result))
-          (c .before .before .before .before .before .before .before .before .before .task-number .result)),
-    )
+    let b = c .before .before .before .before .before .before .before in let f = b .before .before .before in
+    let l = f .before .before .before .before .before .before .loop in
+    let less = due-less _ (l .ready) (l .place) (l .tick) _ _ (l .next) (l .inv .3) (f .before .before .before .before .coming-at .ensures)
+    (f .before .before .release .given .1) in
+    omega
+    (arith, less, f .before .before .before .before .before .loop-test, apart-most (eqb (topOf 8 (b .begun .result)) (f .task-number .result)))
 
 loop-again : tie.Need-loop-again Inv-loop2 μ-loop2 Inv-loop μ-loop
-loop-again c = let l =
-    c .before .before .before .before .before .before .before .before .before .before .before .before .before .before .before .loop in (
-      c .before .before .before .before .before .before .before .before .before .task-number .ensures .1,
+loop-again c =
+    let z = c .before .before .before in let d = z .before .before in let b = d .before .before in let f = b .before .before .before in
+    let l = f .before .before .before .before .before .before .loop in (
+      f .task-number .ensures .1,
       length-set (l .jobs) (l .p) (l .job) ∙ l .inv .1,
-      length-set (l .waiting) (c .before .before .before .before .before .before .before .before .before .task-number .result)
-          (c .before .before .before .before .before .before .wait-by .result) ∙ l .inv .2,
+      length-set (l .waiting) (f .task-number .result) (b .before .wait-by .result) ∙ l .inv .2,
       c .pending-at2 .ensures,
       λ u e. l .inv .4 u
-          (after-release _ _ _ _ _ (l .next) (l .inv .3) _ _ _
-          (c .before .before .before .before .before .before .before .before .before .before .before .before .before .before .loop-test .taken)
-          (c .before .before .before .before .before .before .before .before .before .before .before .before .before .coming-at .ensures)
-          (c .before .before .before .before .before .before .before .before .before .before .before .release .given .1)
-          (release-turn _ _ (l .tasks) (l .jobs) (l .job) _ (l .waiting) _ _ _ _ _ _ (l .p)
-          (c .before .before .before .before .before .before .before .before .before .task-number .result)
-          (c .before .before .before .zero-by .last .0)
-          (c .before .before .before .before .before .before .before .before .before .task-number .ensures .0)
-          (c .before .before .before .before .before .before .before .drop-by .ensures)
-          (c .before .before .before .before .before .before .wait-by .ensures) (c .before .before .before .before .before .begun .ensures)
-          (c .before .before .before .zero-by .ensures) (c .before .before .bound .ensures) (c .before .started .ensures)) u e),
+          (after-release _ _ _ _ _ (l .next) (l .inv .3) _ _ _ (f .before .before .before .before .before .loop-test .taken)
+          (f .before .before .before .before .coming-at .ensures) (f .before .before .release .given .1)
+          (release-turn _ _ (l .tasks) (l .jobs) (l .job) _ (l .waiting) _ _ _ _ _ (l .p) (f .task-number .result) (d .drop-by .last .0)
+          (z .zero-by .last .0) (f .task-number .ensures .0) (b .before .wait-by .ensures) (b .begun .ensures) (d .drop-by .ensures)
+          (z .zero-by .ensures) (c .before .before .bound .ensures) (c .before .started .ensures)) u e),
     )
 
 stops-requires : tie.Need-stops-requires Inv-loop2 μ-loop2 Inv-loop μ-loop
@@ -191,7 +186,7 @@ array-set-from-jobs-2 c = omega
 
 returns : tie.Need-returns Inv-loop2 μ-loop2 Inv-loop μ-loop
 returns c = let l = c .before .before .before .before .before .loop in (
-  resumed _ _ _ _ _ _ _ _ _ _ _ _ _ _
+  resumed _ _ _ _ _ _ _ _ _ _ _ _ _
       (l .inv .4 _ (after-stop _ _ _ _ _ (l .next) (l .inv .3) (c .before .before .before .coming-at .ensures)
       (sym (c .before .stops .ensures) ∙ c .if1 .taken))),
   length-set (l .jobs) (l .p) (l .job) ∙ l .inv .1,
@@ -212,8 +207,8 @@ loop-again-2 c = let l = c .before .before .before .before .before .before .befo
   l .inv .2,
   l .inv .3,
   λ u e. l .inv .4 u
-      (idled-ticks _ _ _ _ _ _ (set (l .jobs) (l .p) (l .job)) _ _ (l .ready) (l .place) _ (l .next) (l .inv .3) (c .before .if2 .taken) u (l .tick)
-      (c .before .before .before .before .before .before .loop-test .taken) (c .before .before .before .before .before .coming-at .ensures)
+      (idled-ticks _ _ _ _ _ _ (set (l .jobs) (l .p) (l .job)) _ _ (l .ready) (l .place) (l .next) (l .inv .3) (c .before .if2 .taken) u
+      (l .tick) (c .before .before .before .before .before .before .loop-test .taken) (c .before .before .before .before .before .coming-at .ensures)
       (not-due _ (c .before .before .before .before .match .keys2)) (sym (c .before .before .before .stops .ensures) ∙ c .before .before .if1 .left)
       (c .idled .ensures) e),
 )
@@ -253,7 +248,7 @@ loop-again-3 c = let l = c .before .before .before .before .before .before .befo
   length-set (l .jobs) (l .p) (l .job) ∙ l .inv .1,
   l .inv .2,
   l .inv .3,
-  λ u e. l .inv .4 u (same-machine _ _ _ _ _ _ (switched _ _ (l .jobs) (l .job) _ _ _ _ _ _ _ _) u e),
+  λ u e. l .inv .4 u (same-machine _ _ _ _ _ _ (switched _ _ (l .jobs) (l .job) _ _ _ _ _ _ _) u e),
 )
 
 cast-i-2 : tie.Need-cast-i-2 Inv-loop2 μ-loop2 Inv-loop μ-loop
@@ -344,7 +339,7 @@ loop2-again c = let l =
       omega (arith, g .inv .2),
       λ h. omega (arith, g .inv .2),
       λ u e. either
-          (λ x. on u (stretch _ _ _ _ _ (g .tasks) (l .jobs) (g .job) _ (l .waiting) (l .ready) _ _ _ (l .p) (l .next) (x .5 .last .1 .0)
+          (λ x. on u (stretch _ _ _ _ _ (g .tasks) (l .jobs) (g .job) _ (l .waiting) (l .ready) _ _ (l .p) (l .next) (x .5 .last .1 .0)
           (c .before .before .before .before .before .before .until .result)
           (c .before .before .before .before .before .before .before .before .before .if2 .left)
           (sym (c .before .before .before .before .before .before .before .if3 .left)
@@ -354,7 +349,7 @@ loop2-again c = let l =
           (came _ (x .5 .last .1 .0) (x .8) (x .6) (x .5 .ensures)
           (begin-statement _ _ _ _ (g .job) (sym (c .before .before .starting .ensures) ∙ x .0 .taken) (x .1 .ensures .0) refl))
           (c .goes-on .ensures) u e))
-          (λ y. on u (stretch _ _ _ _ _ (g .tasks) (l .jobs) (g .job) _ (l .waiting) (l .ready) _ _ _ (l .p) (l .next) (y .3 .last .1 .0)
+          (λ y. on u (stretch _ _ _ _ _ (g .tasks) (l .jobs) (g .job) _ (l .waiting) (l .ready) _ _ (l .p) (l .next) (y .3 .last .1 .0)
           (c .before .before .before .before .before .before .until .result)
           (c .before .before .before .before .before .before .before .before .before .if2 .left)
           (sym (c .before .before .before .before .before .before .before .if3 .left)
@@ -405,7 +400,7 @@ array-set-from-jobs-4 c = omega (arith, c .before .loop .inv .0, c .before .loop
 
 returns-2 : tie.Need-returns-2 Inv-loop2 μ-loop2 Inv-loop μ-loop
 returns-2 c = let l = c .before .loop in (
-  resumed _ _ _ _ _ _ _ _ _ _ _ _ _ _ (l .inv .4 _ (limited (c .loop-test .left))),
+  resumed _ _ _ _ _ _ _ _ _ _ _ _ _ (l .inv .4 _ (limited (c .loop-test .left))),
   length-set (l .jobs) (l .p) (l .job) ∙ l .inv .1,
   l .inv .2,
 )
@@ -413,10 +408,10 @@ returns-2 c = let l = c .before .loop in (
 pub run-spec : {M : Type 1} → statement M
 run-spec = tie.close (tie.spec Inv-loop2 μ-loop2 Inv-loop μ-loop array-copy-out-job pending-at-requires loop-holds coming-at-requires
     enum-known-release cast-jobs mul-jobs array-set-from-jobs task-number-requires cast-i mul-found array-copy-out-found array-read-behind
-    drop-by-requires wait-by-requires array-write-waiting begun-requires mul-zero-by index-1-zero-by zero-by-requires bound-requires
-    started-requires pending-at-requires-2 loop-less loop-again stops-requires cast-jobs-2 mul-jobs-2 array-set-from-jobs-2 returns
-    idled-requires loop-less-2 loop-again-2 top-requires cast-jobs-3 mul-jobs-3 array-set-from-jobs-3 cast-job mul-job
-    array-copy-out-job-2 loop-less-3 loop-again-3 cast-i-2 until-requires add-bound bound-requires-2 loop2-holds starting-requires
+    wait-by-requires array-write-waiting begun-requires mul-drop-by index-1-drop-by drop-by-requires mul-zero-by index-1-zero-by
+    zero-by-requires bound-requires started-requires pending-at-requires-2 loop-less loop-again stops-requires cast-jobs-2 mul-jobs-2
+    array-set-from-jobs-2 returns idled-requires loop-less-2 loop-again-2 top-requires cast-jobs-3 mul-jobs-3 array-set-from-jobs-3 cast-job
+    mul-job array-copy-out-job-2 loop-less-3 loop-again-3 cast-i-2 until-requires add-bound bound-requires-2 loop2-holds starting-requires
     line-requires mul-command array-copy-out-command mul-begin-tick index-1-begin-tick begin-tick-requires mul-step-tick index-1-step-tick
     step-tick-requires add-tick goes-on-requires loop2-less loop2-again leaving-requires array-read-behind-2 ready-by-requires loop-less-4
     loop-again-4 cast-jobs-4 mul-jobs-4 array-set-from-jobs-4 returns-2)
