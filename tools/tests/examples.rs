@@ -5,7 +5,7 @@ mod lines;
 
 use std::fs;
 
-use lines::TaskLine;
+use lines::task_lines;
 use simulator::observer::NoObserver;
 use simulator::{check, run_observed, TOP_LIMIT};
 use tools::decode::decode;
@@ -107,10 +107,10 @@ fn other_reports_show_what_they_are_there_for() {
         assert_figures(name, figures);
     }
     // All four releases of the guard became jobs, and no task's was dropped; the move was rejected twice.
-    let cold_room = printed("cold-room");
-    assert_eq!(TaskLine::of(&cold_room, 4).finished, 4);
-    assert!((0..5).all(|task| TaskLine::of(&cold_room, task).dropped == 0));
-    assert_eq!(TaskLine::of(&printed("contended-transaction"), 0).rejected, 2);
+    let cold_room = task_lines(&printed("cold-room"));
+    assert_eq!(cold_room[4].finished, 4);
+    assert!(cold_room.iter().all(|task| task.dropped == 0));
+    assert_eq!(task_lines(&printed("contended-transaction"))[0].rejected, 2);
 }
 
 #[test]

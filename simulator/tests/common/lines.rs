@@ -1,5 +1,5 @@
-//! The T and E lines of a report by the names of their fields. Only this file of the tests knows the
-//! fields and their order; the tests of tools/ and linked/ take it in too.
+//! The T and E lines of a report by the names of their fields. Of all tests only this file knows the
+//! fields and their order; those of tools/ and linked/ include it.
 #![allow(dead_code)]
 
 /// A T line but for its task.
@@ -39,6 +39,12 @@ impl TaskLine {
         };
         TaskLine { finished, spent, rejected, ticks, dropped }
     }
+}
+
+/// The T lines of all tasks, in order.
+pub fn task_lines(report: &str) -> Vec<TaskLine> {
+    let tasks = report.lines().filter(|line| line.starts_with("T ")).count();
+    (0..tasks).map(|task| TaskLine::of(report, task as u8)).collect()
 }
 
 pub fn end_line(ticks: u32) -> String {
