@@ -80,19 +80,19 @@ fn a_release_as_the_job_ends_and_in_the_next_tick() {
     // The one that waited starts first, so the other waits for it: 12 + 11 + 11 ticks.
     assert_eq!(starts(&[11, 12]), [Some(0), Some(12), Some(23)]);
     let three = report(&sheet_a_with(&[11, 12]));
-    assert_eq!(TaskLine::of(&three, 0), TaskLine::finished(3, 34));
+    assert_eq!(three, report_of_sheet_a(TaskLine::finished(3, 34), ANSWER_NO));
 }
 
 /// With four waiting, a release before tick 11 is dropped; before tick 12 a place has come free.
 #[test]
 fn the_place_of_the_one_that_starts_is_free() {
     let full = report(&sheet_a_with(&[1, 2, 3, 4, 11]));
-    assert_eq!(TaskLine::of(&full, 0), TaskLine::finished(5, 56).dropping(1));
+    assert_eq!(full, report_of_sheet_a(TaskLine::finished(5, 56).dropping(1), ANSWER_NO));
     let freed = report(&sheet_a_with(&[1, 2, 3, 4, 12]));
-    assert_eq!(TaskLine::of(&freed, 0), TaskLine::finished(6, 67));
+    assert_eq!(freed, report_of_sheet_a(TaskLine::finished(6, 67), ANSWER_NO));
     // One place has come free, not two.
     let once = report(&sheet_a_with(&[1, 2, 3, 4, 12, 13]));
-    assert_eq!(TaskLine::of(&once, 0), TaskLine::finished(6, 67).dropping(1));
+    assert_eq!(once, report_of_sheet_a(TaskLine::finished(6, 67).dropping(1), ANSWER_NO));
 }
 
 #[test]
