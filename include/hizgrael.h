@@ -3,7 +3,7 @@
  * A run sheet is a string of commands that declares words, blocks of eight words, tasks and their releases (docs/SHEETS.md;
  * sheet-text of tools/ makes sheets from text). The engine runs it one statement a tick, always the highest task with work, and
  * writes a report. A release to a task whose job is unfinished waits behind it, up to four for a task; one more is dropped, and
- * the report counts it.
+ * the report counts it for its task.
  *
  * What is proved, for every sheet, limit and buffer: both entries return; number, place and every byte of the report buffer
  * are those of the definitions in crates/model/specs (Answer.antt); an accepted run is a sequence of whole operations
@@ -37,7 +37,7 @@ enum {
 };
 
 /* No report is longer, so a buffer of this length is always enough. */
-#define HIZGRAEL_LONGEST_REPORT 3848
+#define HIZGRAEL_LONGEST_REPORT 3925
 
 /* The first bytes of a longer input decide its answer, so a reader may stop there: a good sheet has 4,857 bytes at most, so a faulty
  * command starts at 4,856 at the latest, and none has more than 37 bytes. */

@@ -2,12 +2,13 @@
 //!
 //! `COMPARE_SEED` and `COMPARE_CASES` run another or a larger corpus.
 
-use simulator::builder::{end, load, pair, release, sheet, swap, task, word};
+#[path = "../../simulator/tests/common/mod.rs"]
+mod common;
+
+use common::{report, report_of_sheet_a, sheet_a_with, task_lines, TaskLine};
 use simulator::contention::Style;
 use simulator::generator::{case, valid_sheet, SEED};
-use simulator::observer::NoObserver;
 use simulator::random::Random;
-use simulator::{run_observed, TOP_LIMIT};
 
 const CASES: u64 = 24_000;
 
@@ -52,7 +53,7 @@ fn library_and_simulator_agree() {
     }
 }
 
-/// Every small limit of one contended sheet, and of one with releases that wait and are dropped.
+/// Every small limit of one contended sheet, and of one with releases that wait and are dropped, of two tasks.
 #[test]
 fn every_limit_agrees() {
     let contended = (0..)
@@ -61,7 +62,7 @@ fn every_limit_agrees() {
         .expect("the corpus has valid sheets");
     let bursts = (0..)
         .map(|index| valid_sheet(&mut Random::new(SEED, index), Style::Bursts))
-        .find(|sheet| drops_a_release(sheet))
+        .find(|sheet| two_tasks_drop(sheet))
         .expect("the generator has sheets with drops");
     for (sheet, limit) in
         [contended, bursts].iter().flat_map(|sheet| (0..600).map(move |limit| (sheet, limit)))
@@ -79,30 +80,47 @@ fn every_limit_agrees() {
     }
 }
 
-fn drops_a_release(sheet: &[u8]) -> bool {
-    let report = run_observed(sheet, TOP_LIMIT, &mut NoObserver).expect("a good sheet");
-    !report.ends_with(" 0\n")
+/// And not the same number.
+fn two_tasks_drop(sheet: &[u8]) -> bool {
+    let dropped = task_lines(&report(sheet)).into_iter().map(|task| task.dropped);
+    let mut dropped: Vec<u32> = dropped.filter(|&number| number > 0).collect();
+    dropped.sort_unstable();
+    dropped.dedup();
+    dropped.len() > 1
 }
 
 /// Sheet A released at ticks 0 and 3, limits just before and after the waiting job's start, worked out by hand: the first job ends in
 /// tick 11, and the second does its first LOAD in tick 12.
 #[test]
 fn a_limit_around_the_start_of_a_waiting_job() {
-    let releases = sheet(&[release(0, 0), release(3, 0)]);
-    let body = sheet(&[task(), load(1, 12), load(2, 5), pair(0, 1, 2), swap(0)]);
-    let sheet = sheet(&[word(12), body, releases, end()]);
-    let reports = [
-        (12, "W 0 5\nT 0 1 0 0 12\nR 0 1 12 5 0 0 0 0 0\nE 12 0\n"),
-        (13, "W 0 5\nT 0 1 0 0 13\nR 0 0 12 0 0 0 0 0 0\nE 13 0\n"),
-        (22, "W 0 5\nT 0 1 0 0 22\nR 0 0 12 5 0 0 0 0 0\nE 22 0\n"),
-        (23, "W 0 5\nT 0 2 0 0 23\nR 0 0 12 5 0 0 0 0 0\nE 23 0\n"),
-    ];
-    for (limit, report) in reports {
-        let mut found = [0x2E; 128];
+    let sheet = sheet_a_with(&[3]);
+    assert_report(&sheet, 12, TaskLine::finished(1, 12), [1, 12, 5]);
+    assert_report(&sheet, 13, TaskLine::finished(1, 13), [0, 12, 0]);
+    assert_report(&sheet, 22, TaskLine::finished(1, 22), [0, 12, 5]);
+    assert_report(&sheet, 23, TaskLine::finished(2, 23), [0, 12, 5]);
+}
+
+/// Sheet A released at ticks 0 to 5: the release at 5 finds four waiting. With limit 5 it has not arrived.
+#[test]
+fn a_limit_around_a_drop() {
+    let sheet = sheet_a_with(&[1, 2, 3, 4, 5]);
+    assert_report(&sheet, 12, TaskLine::finished(1, 12).dropping(1), [1, 12, 5]);
+    assert_report(&sheet, 56, TaskLine::finished(5, 56).dropping(1), [0, 12, 5]);
+    let dropped = |limit| {
+        let mut found = [0; 128];
         let length = hizgrael::run(&sheet, limit, &mut found).accepted().expect("a good sheet");
-        assert_eq!(String::from_utf8_lossy(&found[..length]), report, "limit {limit}");
-        assert!(found[length..].iter().all(|&byte| byte == 0x2E), "limit {limit}");
-    }
+        TaskLine::of(&String::from_utf8_lossy(&found[..length]), 0).dropped
+    };
+    assert_eq!((dropped(5), dropped(6)), (0, 1));
+}
+
+/// The library's report of sheet A's task, and not a byte past it.
+fn assert_report(sheet: &[u8], limit: u64, task: TaskLine, registers: [u32; 3]) {
+    let mut found = [0x2E; 128];
+    let length = hizgrael::run(sheet, limit, &mut found).accepted().expect("a good sheet");
+    let expected = report_of_sheet_a(task, registers);
+    assert_eq!(String::from_utf8_lossy(&found[..length]), expected, "limit {limit}");
+    assert!(found[length..].iter().all(|&byte| byte == 0x2E), "limit {limit}");
 }
 
 /// Noise of every small length, and ten megabytes of it.

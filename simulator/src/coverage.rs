@@ -1,7 +1,9 @@
-//! What a corpus of cases covers: refusals, statements, outcomes and waiting releases, each counted.
+//! What a corpus of cases covers: refusals, statements, outcomes, releases that wait or are dropped,
+//! each counted.
 
 use std::fmt;
 
+use crate::drop_coverage::DropCoverage;
 use crate::generator::Case;
 use crate::history::{History, Kind, Operation};
 use crate::machine::Machine;
@@ -97,6 +99,7 @@ pub struct Coverage {
     in_transactions: [u64; STATEMENTS],
     outcomes: [u64; OUTCOMES.len()],
     waiting: WaitingCoverage,
+    drops: DropCoverage,
 }
 
 impl Coverage {
@@ -109,6 +112,7 @@ impl Coverage {
             in_transactions: [0; STATEMENTS],
             outcomes: [0; OUTCOMES.len()],
             waiting: WaitingCoverage::default(),
+            drops: DropCoverage::default(),
         }
     }
 
@@ -119,6 +123,7 @@ impl Coverage {
         let Ok(sheet) = sheet::parse(&case.sheet) else { return };
         let limit = case.limit.min(TOP_LIMIT) as u32;
         self.waiting.take(&sheet, limit);
+        self.drops.take(&sheet, limit);
         let mut machine = Machine::new(&sheet);
         let mut observers =
             (Counter { coverage: self, in_transaction: [false; MAX_TASKS] }, History::new());
@@ -183,6 +188,7 @@ impl Coverage {
             rows.push((format!("outcome {outcome:?}"), self.outcomes[outcome as usize]));
         }
         rows.extend(self.waiting.rows());
+        rows.extend(self.drops.rows());
         rows
     }
 }

@@ -1,8 +1,8 @@
 //! The history of a run: its releases, and its operations with their arguments, ticks and answers.
 
-use crate::machine::Pair;
+use crate::machine::{Machine, Pair};
 use crate::observer::{Event, Fate, Observer, Statement};
-use crate::sheet::{MAX_TASKS, REGISTERS};
+use crate::sheet::{Sheet, MAX_TASKS, REGISTERS};
 
 /// A READ, a SWAP or a transaction with its arguments as recorded.
 #[derive(Clone, Debug)]
@@ -162,6 +162,14 @@ impl History {
             });
         }
     }
+}
+
+/// Runs the sheet: the machine at the end, and the history.
+pub fn run_with_history(sheet: &Sheet, limit: u32) -> (Machine<'_>, History) {
+    let mut machine = Machine::new(sheet);
+    let mut history = History::new();
+    machine.run(limit, &mut history);
+    (machine, history)
 }
 
 impl Observer for History {

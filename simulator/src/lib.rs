@@ -1,16 +1,19 @@
-//! The second simulator of the exchange engine: document 01 and change 1 of document 02 in plain
-//! Rust, with no part shared.
+//! The second simulator of the exchange engine: document 01 and changes 1 and 2 of document 02 in
+//! plain Rust, with no part shared.
 //!
 //! `sheet` reads a sheet, `machine` runs it with `releases`, `reading`, `exchange` and
-//! `transaction`, `report` prints the end. `history` observes a run and `plain` checks it as whole
-//! operations. `generator` makes cases from `contention` (good sheets, with `bursts` of releases)
-//! and `damage` (bad ones); `coverage` and `waiting_coverage` count them.
+//! `transaction`, `report` prints the end. `history` observes a run; `plain` checks it as whole
+//! operations, `drops` checks the counts of dropped releases. `generator` makes cases from
+//! `contention` (good sheets, with `bursts` of releases) and `damage` (bad ones); `coverage`,
+//! `waiting_coverage` and `drop_coverage` count them.
 
 pub mod builder;
 pub mod bursts;
 pub mod contention;
 pub mod coverage;
 pub mod damage;
+pub mod drop_coverage;
+pub mod drops;
 pub mod exchange;
 pub mod generator;
 pub mod history;

@@ -91,12 +91,14 @@ pub struct Job {
     pub transaction: Transaction,
 }
 
+/// The counts of a task: the numbers of its T line.
 #[derive(Clone, Copy, Debug, Default, PartialEq, Eq)]
 pub struct Counts {
     pub finished: u32,
     pub spent: u32,
     pub rejected: u32,
     pub ticks: u32,
+    pub dropped: u32,
 }
 
 pub struct Machine<'a> {
@@ -112,7 +114,6 @@ pub struct Machine<'a> {
     pub unfinished: u8,
     pub to_come: ToCome<'a>,
     pub waiting: Waiting,
-    pub dropped: u32,
     pub tick: u32,
 }
 
@@ -130,7 +131,6 @@ impl<'a> Machine<'a> {
             unfinished: 0,
             to_come: ToCome::new(&sheet.releases),
             waiting: Waiting::default(),
-            dropped: 0,
             tick: 0,
         };
         for (word, &value) in machine.words.iter_mut().zip(&sheet.words) {

@@ -105,7 +105,7 @@ impl Machine<'_> {
             self.waiting.add(release);
         } else {
             observer.release(self.tick, task, Fate::Dropped);
-            self.dropped += 1;
+            self.counts[task].dropped += 1;
         }
     }
 

@@ -2,21 +2,19 @@
 
 use std::fmt::{Display, Write};
 
-use crate::machine::Machine;
+use crate::machine::{Counts, Machine};
 use crate::sheet::Block;
 use crate::transaction::{bank_word, store_of, version_of};
 use crate::Answer;
 
-/// The whole report as document 01 prints it.
+/// The whole report as document 01 prints it, with each task's drops as change 2 has them.
 pub fn render(machine: &Machine) -> String {
     let mut report = contents(&words(machine), &blocks(machine));
     for task in 0..machine.sheet.bodies.len() {
-        let counts = machine.counts[task];
-        let numbers = [counts.finished, counts.spent, counts.rejected, counts.ticks];
-        line(&mut report, "T", task, &numbers);
+        task_line(&mut report, task, machine.counts[task]);
         line(&mut report, "R", task, &machine.jobs[task].registers);
     }
-    line(&mut report, "E", machine.tick, &[machine.dropped]);
+    line(&mut report, "E", machine.tick, &[]);
     report
 }
 
@@ -46,6 +44,11 @@ fn blocks(machine: &Machine) -> Vec<Block> {
         Block { version: version_of(bank), values }
     };
     (0..machine.sheet.blocks.len()).map(block).collect()
+}
+
+fn task_line(report: &mut String, task: usize, counts: Counts) {
+    let Counts { finished, spent, rejected, ticks, dropped } = counts;
+    line(report, "T", task, &[finished, spent, rejected, ticks, dropped]);
 }
 
 fn line(report: &mut String, letter: &str, first: impl Display, numbers: &[u32]) {

@@ -1,15 +1,18 @@
-//! Slips of this trade: a copy of the simulator with one wrong edit must fail demand 3.
+//! Slips of this trade: a copy of the simulator with one wrong edit must fail demand 3 or the counts
+//! of dropped releases.
 
 use std::fs;
 use std::path::{Path, PathBuf};
 use std::process::{Command, Output};
 
-/// Runs the whole-operations check over the corpus; a failure ends it with code 1.
+/// Runs both checks over the corpus; a failure ends it with code 1.
 const MAIN: &str = r#"
 fn main() {
     for index in 0..generator::CASES {
         let case = generator::case(generator::SEED, index);
-        if let Err(fault) = plain::whole_operations(&case.sheet, case.limit) {
+        let checked = plain::whole_operations(&case.sheet, case.limit)
+            .and_then(|()| drops::drops_counted(&case.sheet, case.limit));
+        if let Err(fault) = checked {
             println!("case {index}: {fault}");
             std::process::exit(1);
         }
@@ -105,6 +108,12 @@ slips! {
         "word.valid || self.status[usize::from(word.task)] == COMMITTED" => "word.valid";
     waiting_release_starts_over_the_unfinished_job: "releases.rs",
         "let ready = self.tasks & !unfinished;" => "let ready = self.tasks; let _ = unfinished;";
+    drop_counted_for_the_running_task: "releases.rs",
+        "self.counts[task].dropped += 1;" => "self.counts[self.unfinished.ilog2() as usize].dropped += 1;";
+    waiting_release_counted_as_dropped: "releases.rs",
+        "self.waiting.add(release);" => "self.waiting.add(release); self.counts[task].dropped += 1;";
+    drop_not_counted: "releases.rs",
+        "self.counts[task].dropped += 1;" => "";
     restart_keeps_the_registers_of_the_lost_pass: "transaction.rs",
         "job.registers = job.transaction.kept;" => "";
 }

@@ -61,10 +61,12 @@ fn a_recording_has_the_figures_of_the_report() {
                 done.restarts && in_exchange
             });
             assert_eq!(rejected.count(), counts.rejected as usize);
+            assert_eq!(recording.dropped[task], counts.dropped);
+            let tasks = recording.ticks.iter().flat_map(|tick| tick.tasks_with(Fate::Dropped));
+            let dropped = tasks.filter(|dropped| *dropped == task).count();
+            assert_eq!(dropped, counts.dropped as usize);
+            drops += dropped;
         }
-        let dropped = with_fate(&recording, Fate::Dropped);
-        assert_eq!(dropped, machine.dropped as usize);
-        drops += dropped;
         // With the limit at 65,535 none of these runs ends while one waits.
         let waited = with_fate(&recording, Fate::Waits);
         assert_eq!(waited, with_fate(&recording, Fate::StartsAfterWaiting));
@@ -207,6 +209,23 @@ fn waiting_releases_are_drawn() {
     assert_eq!(middles, [142.0, 156.0, 165.0, 184.0]);
     assert!(ends[1].1 < ends[2].1);
     assert_eq!(bars(&picture("worked/p5")), []);
+}
+
+/// Each task's row has its own number, and none if it is 0; a part of the run shows the whole run's.
+#[test]
+fn dropped_releases_are_told_by_task() {
+    let numbers = |name: &str, options: &Options| -> Vec<String> {
+        let picture = draw(&example(name), options).unwrap();
+        let texts = picture.split("</text>").filter_map(|text| text.rsplit('>').next());
+        texts.filter(|text| text.ends_with("dropped in all")).map(str::to_string).collect()
+    };
+    let in_one_band = Options { ticks_in_band: 100, ..Options::default() };
+    let of_two = ["2 dropped in all", "1 dropped in all"];
+    assert_eq!(numbers("worked/drops-of-two-tasks", &in_one_band), of_two);
+    let part = Options { first: 40, last: 50, ..Options::default() };
+    assert_eq!(numbers("worked/drops-of-two-tasks", &part), of_two);
+    assert_eq!(numbers("worked/release-dropped", &in_one_band), ["1 dropped in all"]);
+    assert!(numbers("worked/release-waits", &in_one_band).is_empty());
 }
 
 #[test]

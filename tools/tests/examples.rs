@@ -1,7 +1,11 @@
 //! The stored examples: made from their texts, the round trip, document 01's figures, their page.
 
+#[path = "../../simulator/tests/common/lines.rs"]
+mod lines;
+
 use std::fs;
 
+use lines::task_lines;
 use simulator::observer::NoObserver;
 use simulator::{check, run_observed, TOP_LIMIT};
 use tools::decode::decode;
@@ -25,7 +29,7 @@ fn printed(name: &str) -> String {
 #[test]
 fn every_stored_file_is_made_from_its_text() {
     let names = names().unwrap();
-    assert_eq!(names.len(), 36);
+    assert_eq!(names.len(), 37);
     for name in names {
         for (path, bytes) in made_files(&name).unwrap() {
             let stored = fs::read(&path).unwrap();
@@ -79,15 +83,12 @@ fn hexadecimal(bytes: &[u8]) -> String {
 /// A figure of a report: the start of its line, the place of the number after it, the number.
 type Figure = (&'static str, usize, u32);
 
-/// What the other examples are there to show. R lines begin with the answer; T lines: jobs 0, rejected 2; B lines: values from 1.
+/// What the other examples are there to show. R lines begin with the answer; B lines: values from 1.
 const OWN: [(&str, &[Figure]); 2] = [
-    // The defrost has begun and compressor 2 runs; the guard's picture is one; all its four releases became jobs.
-    (
-        "cold-room",
-        &[("W 1", 0, 2), ("W 2", 0, 1), ("W 3", 0, 0), ("R 4", 0, 1), ("T 4", 0, 4), ("E", 1, 0)],
-    ),
-    // Every update is there, and the move was rejected twice.
-    ("contended-transaction", &[("B 0", 1, 464), ("B 1", 1, 1350), ("T 0", 2, 2)]),
+    // The defrost has begun and compressor 2 runs; the guard's picture is one.
+    ("cold-room", &[("W 1", 0, 2), ("W 2", 0, 1), ("W 3", 0, 0), ("R 4", 0, 1)]),
+    // Every update is there.
+    ("contended-transaction", &[("B 0", 1, 464), ("B 1", 1, 1350)]),
 ];
 
 fn assert_figures(name: &str, figures: &[Figure]) {
@@ -105,6 +106,11 @@ fn other_reports_show_what_they_are_there_for() {
     for (name, figures) in OWN {
         assert_figures(name, figures);
     }
+    // All four releases of the guard became jobs, and no task's was dropped; the move was rejected twice.
+    let cold_room = task_lines(&printed("cold-room"));
+    assert_eq!(cold_room[4].finished, 4);
+    assert!(cold_room.iter().all(|task| task.dropped == 0));
+    assert_eq!(task_lines(&printed("contended-transaction"))[0].rejected, 2);
 }
 
 #[test]

@@ -1,4 +1,4 @@
-//! Prints what the corpus covers, checks whole operations over it, or exports small cases.
+//! Prints what the corpus covers, checks whole operations and drops over it, or exports small cases.
 //!
 //! corpus                        the default corpus
 //! corpus SEED COUNT             another one
@@ -8,6 +8,7 @@
 use std::process::ExitCode;
 
 use simulator::coverage::Coverage;
+use simulator::drops::drops_counted;
 use simulator::generator::{case, Case, CASES, SEED};
 use simulator::machine::Machine;
 use simulator::observer::NoObserver;
@@ -44,7 +45,9 @@ fn cover(seed: u64, count: u64) -> ExitCode {
     for index in 0..count {
         let case = case(seed, index);
         coverage.take(&case);
-        if let Err(fault) = whole_operations(&case.sheet, case.limit) {
+        let checked = whole_operations(&case.sheet, case.limit)
+            .and_then(|()| drops_counted(&case.sheet, case.limit));
+        if let Err(fault) = checked {
             println!("case {index} of seed {seed}: {fault}");
             return ExitCode::FAILURE;
         }

@@ -1,6 +1,9 @@
 //! What several test files use: runs with a report as text, and the tasks of document 01's cases.
 #![allow(dead_code)]
 
+mod lines;
+
+pub use lines::*;
 use simulator::builder::*;
 use simulator::{run, Answer};
 
@@ -22,29 +25,12 @@ pub fn report(sheet: &[u8]) -> String {
     report_with_limit(sheet, LIMIT)
 }
 
-/// The numbers of the report line that starts with these words, after them.
-pub fn numbers(report: &str, start: &str) -> Vec<u32> {
-    let start = format!("{start} ");
-    let line = report.lines().find(|line| line.starts_with(&start)).expect("no such line");
-    line[start.len()..].split(' ').map(|number| number.parse().unwrap()).collect()
-}
-
 pub fn word_value(report: &str, word: u8) -> u32 {
     numbers(report, &format!("W {word}"))[0]
 }
 
 pub fn registers(report: &str, task: u8) -> Vec<u32> {
     numbers(report, &format!("R {task}"))
-}
-
-/// Jobs finished, jobs spent, rejected commits, ticks used.
-pub fn counts(report: &str, task: u8) -> Vec<u32> {
-    numbers(report, &format!("T {task}"))
-}
-
-/// Ticks done, releases dropped.
-pub fn ending(report: &str) -> Vec<u32> {
-    numbers(report, "E")
 }
 
 /// Task 0 of the P cases: 12 becomes 5 in word 0.
@@ -61,6 +47,13 @@ pub fn rival() -> Bytes {
 pub fn task_u() -> Bytes {
     let body = [begin(), get(0, 0, 0), load(1, 1), add(0, 1), put(0, 0, 0), commit()];
     sheet(&[task(), sheet(&body)])
+}
+
+/// The report of sheet A's task in a run without an idle tick, when the word is 5.
+pub fn report_of_sheet_a(task: TaskLine, registers: [u32; 3]) -> String {
+    let [r0, r1, r2] = registers;
+    let registers = format!("R 0 {r0} {r1} {r2} 0 0 0 0 0\n");
+    format!("W 0 5\n{}{registers}{}", task.written(0), end_line(task.ticks))
 }
 
 /// Sheet A with these releases beside the one at tick 0.

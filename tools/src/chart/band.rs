@@ -128,9 +128,7 @@ impl Band<'_> {
         let bottom = top + self.cells_height(task) + BELOW;
         let middle = top + self.cells_height(task) / 2.0;
         svg.line("row-line", (0.0, bottom), (self.x(self.ticks.end), bottom));
-        // The name is in bold, so it takes more room than its width says.
-        let name = shortened(&self.names.of(Subject::Task(task)), LEFT - 24.0);
-        svg.text("task", 4.0, middle + 3.0, &name);
+        self.draw_name(svg, task, middle);
         let preempted = |tick: usize| self.recording.ticks[tick].preempted.contains(&task);
         for run in runs(self.ticks.clone(), preempted) {
             marks::preempted(svg, self.x(run.start), self.x(run.end), middle);
@@ -144,6 +142,19 @@ impl Band<'_> {
             for (number, (_, fate)) in releases.enumerate() {
                 let x = self.x(tick) + BESIDE * number as f32;
                 marks::release(svg, *fate, x, top - 1.0);
+            }
+        }
+    }
+
+    /// The task's name, and below it how many of its releases are dropped in the whole run.
+    fn draw_name(&self, svg: &mut Svg, task: usize, middle: f32) {
+        // The name is in bold, so it takes more room than its width says.
+        let name = shortened(&self.names.of(Subject::Task(task)), LEFT - 24.0);
+        match self.recording.dropped[task] {
+            0 => svg.text("task", 4.0, middle + 3.0, &name),
+            dropped => {
+                svg.text("task", 4.0, middle - 2.0, &name);
+                svg.text("margin", 4.0, middle + 8.0, &format!("{dropped} dropped in all"));
             }
         }
     }

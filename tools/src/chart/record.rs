@@ -56,8 +56,9 @@ pub struct Recording {
     pub first: u32,
     pub before: Contents,
     pub ticks: Vec<Tick>,
-    /// The ticks of the whole run with limit 65,535.
+    /// The ticks of the whole run with limit 65,535, and for each task the releases dropped in it.
     pub run_ticks: u32,
+    pub dropped: Vec<u32>,
 }
 
 impl Recording {
@@ -75,7 +76,9 @@ impl Recording {
             }
         }
         machine.run(limit, &mut NoObserver);
-        Recording { tasks: sheet.bodies.len(), first, before, ticks, run_ticks: machine.tick }
+        let tasks = sheet.bodies.len();
+        let dropped = machine.counts[..tasks].iter().map(|counts| counts.dropped).collect();
+        Recording { tasks, first, before, ticks, run_ticks: machine.tick, dropped }
     }
 }
 
