@@ -13,6 +13,7 @@ use Rattle.model.specs.Answer.{Checked, checkAnswer, runAnswer, answeredBy, lim
 use Rattle.model.proofs.Demand3.Theorem.{demand-3}
 use Rattle.model.proofs.Rates.Theorem.{rates}
 use Rattle.model.proofs.Waiting.{waits}
+use Rattle.model.proofs.Drops.Theorem.{drops}
 use Rattle.commands.specs.View.{viewRefusal}
 use Rattle.sheet.specs.View.{viewVerdict, checkedOf}
 use Rattle.commands.specs.declared.Fault.{Fault}
@@ -62,6 +63,7 @@ module _ (s : List ℕ) (limit : ℕ) (b : List ℕ) where
         whole = demand-3 s limit;
         rates = rates s limit;
         waits = waits s limit;
+        drops = drops s limit;
       }
 
   pub run-refused : (f : Fault) → viewVerdict (TurnedDown f) ≡ verdict s → RunsFor s limit b b (answerOf f .number) (answerOf f .place)

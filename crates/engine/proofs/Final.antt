@@ -54,7 +54,6 @@ module _ {s : List ℕ} (small : (i : ℕ) → getD s i 0 < 256) (good : verdict
         registers = ended .registers;
         counts = ended .counts;
         now = ended .now;
-        dropped = ended .dropped;
       }
 
   within : Within (sheetOf s)

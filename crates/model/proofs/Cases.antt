@@ -14,7 +14,7 @@ use Rattle.model.specs.Start.{startMachine}
 use Rattle.model.specs.Sheet.{sheetOf}
 use Rattle.model.specs.Answer.{Checked, checkAnswer, Answer, runAnswer, finalOf}
 use Rattle.model.proofs.WholeCases.{sameNumbers}
-use Rattle.model.proofs.Sheets.{body₁, bodyTwoWords, bodyRead, sheetA, sheetAAt, against, sheetU, sheetUAt, sheetUU}
+use Rattle.model.proofs.Sheets.{body₁, bodyTwoWords, bodyRead, sheetA, sheetAAt, against, sheetU, sheetUAt, sheetUU, sheetTwoDrop}
 use Rattle.model.proofs.Bytes.{join, word, block, task, release, end, load, add, pair, begin, get}
 
 -- FIGURES of the machine when the run has stopped
@@ -247,6 +247,12 @@ table =
     ∷ figuresBy 20 (sheetUAt 16777215 (0 ∷ 5 ∷ [])) (registerIs 0 0 42 ∷ registerIs 0 1 1 ∷ spentAre 0 1 ∷ waitingAre 0 1 ∷ [])
     ∷ figuresBy 21 (sheetUAt 16777215 (0 ∷ 5 ∷ [])) (registerIs 0 0 0 ∷ registerIs 0 1 0 ∷ spentAre 0 1 ∷ waitingAre 0 0 ∷ [])
     ∷ figures (sheetUAt 16777215 (0 ∷ 5 ∷ [])) (spentAre 0 2 ∷ finishedAre 0 0 ∷ ticksDone 40 ∷ droppedAre 0 0 ∷ versionIs 0 16777215 ∷ [])
+    -- CHANGE 2, drops by task: of t0's releases those at 5 and 6 find four waiting, of t1's that at 6, while t1 runs. t0 does tick 0; t1's jobs take
+    -- 12 ticks and four times 11; then t0 does the rest of its first job and four more of 2 ticks each. None counts before its tick is done.
+    ∷ figures sheetTwoDrop (finishedAre 0 5 ∷ finishedAre 1 5 ∷ ticksUsed 0 10 ∷ ticksUsed 1 56 ∷ ticksDone 66 ∷ droppedAre 0 2 ∷ droppedAre 1 1 ∷ [])
+    ∷ figuresBy 5 sheetTwoDrop (waitingAre 0 4 ∷ waitingAre 1 3 ∷ droppedAre 0 0 ∷ droppedAre 1 0 ∷ [])
+    ∷ figuresBy 6 sheetTwoDrop (waitingAre 0 4 ∷ waitingAre 1 4 ∷ droppedAre 0 1 ∷ droppedAre 1 0 ∷ [])
+    ∷ figuresBy 7 sheetTwoDrop (waitingAre 0 4 ∷ waitingAre 1 4 ∷ droppedAre 0 2 ∷ droppedAre 1 1 ∷ [])
     ∷ []
 
 -- every sheet of the table is refused or accepted as it says, with these answers and figures

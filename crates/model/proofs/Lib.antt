@@ -3,12 +3,13 @@ pub mod Lists
 pub mod Sums
 -- the decimal numbers of a report
 pub mod Decimal
--- by computation: demand 3 on small runs, document 01's figures, runs in which the bounds of the rates are reached
+-- by computation: demand 3 on small runs, document 01's figures, those of arrivals, runs in which the bounds of the rates are reached
 pub mod Bytes
 pub mod Sheets
 pub mod WholeCases
 pub mod ClaimCases
 pub mod Cases
+pub mod ArrivalCases
 pub mod Bounds
 -- well formed machines
 pub mod Fit
@@ -21,4 +22,5 @@ pub mod Demand3
 pub mod Rates
 -- releases that wait (`waits` in Waiting.antt)
 pub mod Waiting
+-- drops by task (`drops` in Drops/Theorem.antt)
 pub mod Drops

@@ -34,6 +34,17 @@ releasesAt (t ∷ l) = release t 0 ++ releasesAt l
 abbrev pub sheetAAt : List ℕ → List ℕ
 sheetAAt ts = word 12 ++ body₀ ++ releasesAt ts
 
+-- two tasks released too often: t0, of two commands, at 0 to 6, and sheet A's above it at 1 to 6
+abbrev pub bodyAdd : List ℕ
+bodyAdd = task ++ load 0 5 ++ add 0 0
+
+abbrev pub bothAt : ℕ → List ℕ
+bothAt t = release t 0 ++ release t 1
+
+abbrev pub sheetTwoDrop : List ℕ
+sheetTwoDrop =
+    word 12 ++ bodyAdd ++ body₀ ++ release 0 0 ++ bothAt 1 ++ bothAt 2 ++ bothAt 3 ++ bothAt 4 ++ bothAt 5 ++ bothAt 6 ++ end
+
 -- the words, task 0 and task 1, which is released at tick t
 abbrev pub against : List ℕ → List ℕ → ℕ → List ℕ
 against words body t = words ++ body₀ ++ body ++ release 0 0 ++ release t 1 ++ end

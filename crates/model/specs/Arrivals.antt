@@ -1,5 +1,5 @@
 -- The arrivals of a run: every release that arrived, in order, with its fate, read off the run by an observer, as its history is.
-use Prim.Native.Nat.{ℕ, zero, suc, _+_}
+use Prim.Native.Nat.{ℕ, zero, suc}
 use mathlib.Core.Bool.{Bool, true, false, _&&_}
 use mathlib.Core.List.{List, [], _∷_, _++_}
 use lib.Dec.{eqb}

@@ -31,12 +31,11 @@ use Rattle.exchanges.specs.declared.read.Reading.the-variants.{Load}
 use Rattle.exchanges.specs.declared.read.Read.{Read}
 use Rattle.exchanges.specs.declared.read.Read.the-variants.{Reads, Gives}
 use Rattle.jobs.specs.declared.Job.{Job}
-use Rattle.refinement.proofs.View.{readOf, touchedOf, transactionOf}
+use Rattle.refinement.proofs.View.{readOf, touchedOf, countsOf, transactionOf}
 use Rattle.state.specs.Sized.{SharedSized, OwnSized}
 use Rattle.refinement.proofs.Shape.{InsideShape, Refines}
 use Rattle.refinement.proofs.Sized.{registers-sized, blocks-sized}
 use Rattle.refinement.proofs.Lines.{next-line, lines-next}
-use Rattle.refinement.proofs.Done.{countsOf}
 use Rattle.state.proofs.Held.{rows-at}
 use Rattle.refinement.proofs.Memory.{rows-written}
 use Rattle.refinement.proofs.Reading.{read-tick}

@@ -21,14 +21,14 @@ use Rattle.jobs.specs.Jobs.{afterDone, readBy, swapBy}
 use Rattle.jobs.specs.declared.Job.{Job}
 use Rattle.machine.specs.Flat.{closed}
 use Rattle.program.specs.Program.{commandsIn}
-use Rattle.refinement.proofs.View.{entriesOf, pairsOf, readOf}
+use Rattle.refinement.proofs.View.{entriesOf, pairsOf, readOf, countsOf}
 use Rattle.state.specs.Sized.{SharedSized, OwnSized}
 use Rattle.refinement.proofs.Shape.{Unloaded, Refines}
 use Rattle.refinement.proofs.Sized.{register-sized}
 use Rattle.refinement.proofs.Entered.{no-pairs, none-unloaded}
 use Rattle.refinement.proofs.Exchange.{exchangedOf}
 use Rattle.refinement.proofs.ExchangeKept.{loadedIn, loading, loading-sized}
-use Rattle.refinement.proofs.Done.{countsOf, done-refines}
+use Rattle.refinement.proofs.Done.{done-refines}
 
 -- a job and its record once the command may be done
 abbrev pub closing : ℕ → Noted Job → Noted Job

@@ -32,7 +32,7 @@ use Rattle.state.specs.Sized.{SharedSized, OwnSized}
 use Rattle.refinement.proofs.Shape.{leaves, Refines}
 use Rattle.refinement.proofs.Sized.{entriesSized, copies-sized, entries-sized, counted-sized}
 use Rattle.refinement.proofs.Copied.{restored-all, cleared-blocks, restoring-sized, clearing-sized}
-use Rattle.refinement.proofs.Counted.{counted-same, counted-other}
+use Rattle.refinement.proofs.Counted.{counted-counts}
 use Rattle.refinement.proofs.Entered.{no-pairs, none-unloaded}
 use Rattle.refinement.proofs.Blocks.{nothing-touched, some-spent}
 use Rattle.refinement.proofs.Gather.{taken-all, taken-size, gathered-same, gathered-sized}
@@ -97,10 +97,7 @@ module _ (program : List BodyCommand) (size : length program ≡ 512) (end : ℕ
         record {
           same = rw (
             no-pairs (t .entries),
-            counted-same t 1 (own .counts) (omega arith) (few 1 (omega arith)),
-            counted-other t 1 0 (λ z. omega arith),
-            counted-other t 1 2 (λ z. omega arith),
-            counted-other t 1 3 (λ z. omega arith),
+            counted-counts t (own .counts) J.spent (few 1 (omega arith)),
           );
           sharedSized = shared;
           ownSized = counted-sized own spent;
@@ -140,10 +137,7 @@ module _ (program : List BodyCommand) (size : length program ≡ 512) (end : ℕ
         same = rw (
           restored-all (counted (loading t l o) rejected) sized,
           cleared-blocks (counted (loading t l o) rejected) sized,
-          counted-same t 2 (own .counts) (omega arith) (few 2 (omega arith)),
-          counted-other t 2 0 (λ z. omega arith),
-          counted-other t 2 1 (λ z. omega arith),
-          counted-other t 2 3 (λ z. omega arith),
+          counted-counts t (own .counts) J.rejected (few 2 (omega arith)),
         );
         sharedSized = s;
         ownSized = clearing-sized _ (restoring-sized _ sized 8) 16;

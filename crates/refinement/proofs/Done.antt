@@ -20,16 +20,12 @@ use Rattle.jobs.specs.Jobs.{nextLine, finished, counted, afterDone}
 use Rattle.jobs.specs.declared.Job.{Job}
 use Rattle.machine.specs.Flat.{closed, closedBy}
 use Rattle.program.specs.Program.{commandsIn}
-use Rattle.refinement.proofs.View.{pairsOf, taskOf}
+use Rattle.refinement.proofs.View.{pairsOf, countsOf, taskOf}
 use Rattle.state.specs.Sized.{SharedSized, OwnSized}
 use Rattle.refinement.proofs.Shape.{Unloaded, JobShape, leaves, Refines}
 use Rattle.refinement.proofs.Lines.{next-line, lines-none, lines-more, lines-next}
 use Rattle.refinement.proofs.Sized.{counted-sized}
-use Rattle.refinement.proofs.Counted.{counted-same, counted-other}
-
--- the counts of a task in its record
-abbrev pub countsOf : Own → J.Counts
-countsOf t = J.counts (at 0 (t .counts) 0) (at 0 (t .counts) 1) (at 0 (t .counts) 2) (at 0 (t .counts) 3)
+use Rattle.refinement.proofs.Counted.{counted-counts}
 
 module _ (program : List BodyCommand) (size : length program ≡ 512) (end : ℕ) (bound : end ≤ 512) (body : List C.BodyCommand)
     (j : Job) (inBody : j .at < end) (t : Own) (pairs : ℕ) (sized : OwnSized t) where
@@ -51,13 +47,7 @@ module _ (program : List BodyCommand) (size : length program ≡ 512) (end : ℕ
     over : nextLine j ≡ end → Same true
     unfolding J.doneBy counted
     over e =
-        rw (
-          lines-none program size end bound (nextLine j) (omega arith),
-          counted-same t 0 (sized .counts) (omega arith) few,
-          counted-other t 0 1 (λ z. omega arith),
-          counted-other t 0 2 (λ z. omega arith),
-          counted-other t 0 3 (λ z. omega arith),
-        )
+        rw (lines-none program size end bound (nextLine j) (omega arith), counted-counts t (sized .counts) J.finished few)
 
     on : nextLine j < end → Same false
     unfolding J.doneBy

@@ -30,18 +30,18 @@ use Rattle.refinement.proofs.Start.{noQueues, start-same, start-sound}
 pub record Holds (s : Sheet) (f : Machine) (m : Shared) (ts : List Own) (q : Paused) : Type 0 where
   pub memory : f .memory ≡ memoryOf m
   pub registers : (p : ℕ) → p < length (s .bodies) → taskAt (f .tasks) p .job .registers ≡ getD ts p (own []) .registers
-  pub counts : (p : ℕ) → p < length (s .bodies) → countList (taskAt (f .tasks) p .counts) ≡ take 4 (getD ts p (own []) .counts)
+  pub counts : (p : ℕ) → p < length (s .bodies) → countList (taskAt (f .tasks) p .counts) ≡ take 5 (getD ts p (own []) .counts)
   pub now : f .now ≡ q .ticks
-  pub dropped : f .dropped ≡ q .dropped
 
--- the first four of a list
-four : (l : List ℕ) → 4 ≤ length l → at 0 l 0 ∷ at 0 l 1 ∷ at 0 l 2 ∷ at 0 l 3 ∷ [] ≡ take 4 l
+-- the first five of a list
+five : (l : List ℕ) → 5 ≤ length l → at 0 l 0 ∷ at 0 l 1 ∷ at 0 l 2 ∷ at 0 l 3 ∷ at 0 l 4 ∷ [] ≡ take 5 l
 unfolding at
-four (a ∷ b ∷ c ∷ d ∷ l) h = refl
-four [] h = absurd (omega arith)
-four (a ∷ []) h = absurd (omega arith)
-four (a ∷ b ∷ []) h = absurd (omega arith)
-four (a ∷ b ∷ c ∷ []) h = absurd (omega arith)
+five (a ∷ b ∷ c ∷ d ∷ e ∷ l) h = refl
+five [] h = absurd (omega arith)
+five (a ∷ []) h = absurd (omega arith)
+five (a ∷ b ∷ []) h = absurd (omega arith)
+five (a ∷ b ∷ c ∷ []) h = absurd (omega arith)
+five (a ∷ b ∷ c ∷ d ∷ []) h = absurd (omega arith)
 
 module _ (sheet : List ℕ) (small : (i : ℕ) → getD sheet i 0 < 256) (good : verdict sheet ≡ accepted) (limit : ℕ)
     (most : limit ≤ 65535) (program : List BodyCommand) (bounds : List ℕ) (held : Programmed sheet program bounds) (place : ℕ)
@@ -68,7 +68,6 @@ module _ (sheet : List ℕ) (small : (i : ℕ) → getD sheet i 0 < 256) (good :
         counts = λ p h.
             ap (λ (f : Machine). countList (taskAt (f .tasks) p .counts)) last
             ∙ ap (λ (t : Task). countList (t .counts)) (task-at sheet program bounds (c .bodies) ts′ (q .jobs) p h)
-            ∙ four (getD ts′ p (own []) .counts) (omega (arith, r .sound .each .sized p (omega (arith, c .bodies)) .counts));
+            ∙ five (getD ts′ p (own []) .counts) (omega (arith, r .sound .each .sized p (omega (arith, c .bodies)) .counts));
         now = ap (λ (f : Machine). f .now) last;
-        dropped = ap (λ (f : Machine). f .dropped) last;
       }

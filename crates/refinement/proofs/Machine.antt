@@ -58,7 +58,7 @@ module _ (sheet : List ℕ) (program : List BodyCommand) (bounds : List ℕ) whe
   -- the code keeps how many wait, the model the releases ws themselves
   abbrev pub machineOf : List (List Release) → FlatMachine → M.Machine
   machineOf ws w =
-      M.machine (memoryOf (w .memory)) (tasksOf (w .tasks) (w .jobs)) ws (releasesFrom sheet (w .place)) (w .ticks) (w .dropped)
+      M.machine (memoryOf (w .memory)) (tasksOf (w .tasks) (w .jobs)) ws (releasesFrom sheet (w .place)) (w .ticks)
 
   -- the records and jobs of eight tasks
   pub record TasksSound (ts : List Own) (js : List Job) : Type 0 where

@@ -21,15 +21,16 @@ use Rattle.model.proofs.Fit.Sheet.{BodyFit, SheetFit}
 use Rattle.commands.specs.declared.BodyCommand.{BodyCommand}
 use Rattle.state.specs.State.{Own, own}
 use Rattle.state.specs.Held.{memoryOf}
-use Rattle.jobs.specs.Jobs.{jobAt}
-use Rattle.machine.specs.Flat.{unfinished?, nobody, FlatMachine, flat, noJob, jobOf, ownOf, droppedBy, waitingBy, begunBy, zeroing}
-use Rattle.machine.specs.Flat.{zeroedBy, startedBy, released}
+use Rattle.jobs.specs.Jobs.{jobAt, dropped, counted}
+use Rattle.machine.specs.Flat.{unfinished?, nobody, FlatMachine, flat, noJob, jobOf, ownOf, waitingBy, begunBy, zeroing}
+use Rattle.machine.specs.Flat.{recordBy, startedBy, released}
 use Rattle.jobs.specs.declared.Phase.the-variants as Phase
 use Rattle.jobs.specs.declared.Job.{Job}
-use Rattle.program.specs.Program.{Programmed}
+use Rattle.program.specs.Program.{Programmed, bodyIn}
 use Rattle.state.specs.Sized.{OwnSized}
 use Rattle.refinement.proofs.Shape.{OutsideShape}
-use Rattle.refinement.proofs.Sized.{registers-sized}
+use Rattle.refinement.proofs.Sized.{registers-sized, counted-sized}
+use Rattle.refinement.proofs.Counted.{shape-counted, counted-task}
 use Rattle.refinement.proofs.Lines.{lines-none}
 use Rattle.refinement.proofs.Entered.{no-pairs, none-unloaded}
 use Rattle.refinement.proofs.Copied.{zeroed-size, zeroed-all}
@@ -53,7 +54,7 @@ begun-mask : (m k b : ℕ) → k + 0 ≡ m + b → k < 256 → (m + b) % 4294967
 begun-mask m k b e h = omega arith
 
 module _ (sheet : List ℕ) (program : List BodyCommand) (bounds : List ℕ) (most : length (sheetOf sheet .bodies) ≤ 8) (ws : List (List C.Release))
-    (w : FlatMachine) (f : Sound sheet program bounds ws w) (few : w .dropped < 4294967295) (p next : ℕ)
+    (w : FlatMachine) (f : Sound sheet program bounds ws w) (p next : ℕ) (few : at 0 (ownOf w p .counts) dropped < 4294967295)
     (below : p < length (sheetOf sheet .bodies)) (inside : at 0 bounds p < at 0 bounds (suc p)) where
   abbrev m : M.Machine
   m = machineOf sheet program bounds ws w
@@ -69,14 +70,13 @@ module _ (sheet : List ℕ) (program : List BodyCommand) (bounds : List ℕ) (mo
   abbrev releasedIf : Bool → ℕ → FlatMachine
   releasedIf b k =
       flat (w .memory)
-      (set (w .tasks) p (zeroedBy b (ownOf w p)))
+      (set (w .tasks) p (recordBy b k (ownOf w p)))
       (set (w .jobs) p (startedBy b (jobOf w p) (at 0 bounds p)))
       (begunBy b (w .mask) p)
       (set (w .waiting) p (waitingBy b k))
       nobody
       next
       (w .ticks)
-      (droppedBy b k (w .dropped))
 
   -- it stands for the model's machine m′, in which the releases ws′ wait
   pub record ReleasedFits (m′ : M.Machine) (v : FlatMachine) : Type 0 where
@@ -93,25 +93,40 @@ module _ (sheet : List ℕ) (program : List BodyCommand) (bounds : List ℕ) (mo
   unfolding at replace
   queue-same = set-getD ws p []
 
-  -- THE JOB IS UNFINISHED: records and jobs stay
+  sized : OwnSized (ownOf w p)
+  sized = f .each .sized p (omega arith)
+
+  -- THE JOB IS UNFINISHED: jobs stay, and so do the records but for the count of a drop
   same-tasks : set (w .tasks) p (ownOf w p) ≡ w .tasks
   same-tasks = set-getD (w .tasks) p (own [])
 
   same-jobs : set (w .jobs) p (jobOf w p) ≡ w .jobs
   same-jobs = set-getD (w .jobs) p noJob
 
-  dropped-release : busy (w .jobs) p ≡ true → ltb (length queue) maxWaiting ≡ false → Settled (M.toCome (M.dropping m) coming)
-      → ReleasedFits (M.toCome (M.dropping m) coming) (releasedIf true (length queue))
+  abbrev droppedOne : Own
+  droppedOne = counted (ownOf w p) dropped
+
+  drop-counted : tasksOf sheet program bounds (set (w .tasks) p droppedOne) (set (w .jobs) p (jobOf w p)) ≡ M.dropping p m .tasks
+  drop-counted =
+      tasks-changed sheet program bounds most (w .tasks) (w .jobs) (f .each) p droppedOne (jobOf w p) below
+      ∙ ap (replace (m .tasks) p)
+      (counted-task J.dropped program (at 0 bounds (suc p)) (bodyIn program bounds p) (jobOf w p) (ownOf w p) (sized .counts) few
+      ∙ ap (J.counting J.dropped) (sym (task-at sheet program bounds most (w .tasks) (w .jobs) p below)))
+
+  dropped-release : busy (w .jobs) p ≡ true → ltb (length queue) maxWaiting ≡ false → Settled (M.toCome (M.dropping p m) coming)
+      → ReleasedFits (M.toCome (M.dropping p m) coming) (releasedIf true (length queue))
   dropped-release e room settled =
-      let more : (w .dropped + 1) % 4294967296 ≡ suc (w .dropped) = omega arith in
-      let is : machineOf sheet program bounds ws (releasedIf true (length queue)) ≡ M.toCome (M.dropping m) coming =
-      rw (same-tasks, same-jobs, room, more) in
+      let is : machineOf sheet program bounds ws (releasedIf true (length queue)) ≡ M.toCome (M.dropping p m) coming =
+      rw room (ap (λ (ts : List J.Task). M.machine (memoryOf (w .memory)) ts ws coming (w .ticks)) drop-counted) in
       record {
         queues = ws;
         same = is;
         sound = record {
           memory = f .memory;
-          each = rw (same-tasks, same-jobs) (f .each);
+          each =
+              rw room (sound-changed sheet program bounds most (w .tasks) (w .jobs) (f .each) p droppedOne (jobOf w p) below
+              (counted-sized sized dropped)
+              (shape-counted (ownOf w p) dropped (at 0 bounds (suc p)) (jobOf w p) (jobOf w p .phase) (f .each .shape p below)));
           mask = rw same-jobs (f .mask);
           waiting = rw room (queue-changed queue refl ∙ ap (map length) queue-same);
           ready = noneReady (omega arith) (subst Settled (sym is) settled);
@@ -125,13 +140,13 @@ module _ (sheet : List ℕ) (program : List BodyCommand) (bounds : List ℕ) (mo
   waiting-release e room r settled =
       let l = queue ++ (r ∷ []) in
       let is : machineOf sheet program bounds (replace ws p l) (releasedIf true (length queue)) ≡ M.toCome (M.behind p l m) coming =
-      rw (same-tasks, same-jobs, room) in
+      rw (room, same-tasks, same-jobs) in
       record {
         queues = replace ws p l;
         same = is;
         sound = record {
           memory = f .memory;
-          each = rw (same-tasks, same-jobs) (f .each);
+          each = rw (room, same-tasks, same-jobs) (f .each);
           mask = rw same-jobs (f .mask);
           waiting = rw room (queue-changed l (sym (length-append queue (r ∷ []))));
           ready = noneReady (omega arith) (subst Settled (sym is) settled);
@@ -145,9 +160,6 @@ module _ (sheet : List ℕ) (program : List BodyCommand) (bounds : List ℕ) (mo
 
   abbrev t : Own
   t = zeroing 8 (ownOf w p)
-
-  sized : OwnSized (ownOf w p)
-  sized = f .each .sized p (omega arith)
 
   job-starts : taskWith sheet program bounds p j t ≡ J.started (M.taskAt (tasksOf sheet program bounds (w .tasks) (w .jobs)) p)
   job-starts =
@@ -171,7 +183,7 @@ module _ (sheet : List ℕ) (program : List BodyCommand) (bounds : List ℕ) (mo
       let sum : maskOf 8 (set (w .jobs) p j) + 0 ≡ maskOf 8 (w .jobs) + 2 ^ p = rw e at mask in
       let small = mask-below 8 (set (w .jobs) p j) in
       let is : machineOf sheet program bounds (replace ws p l) (releasedIf false (length queue)) ≡ M.toCome (M.starting p (M.behind p l m)) coming =
-      ap (λ (ts : List J.Task). M.machine (memoryOf (w .memory)) ts (replace ws p l) coming (w .ticks) (w .dropped))
+      ap (λ (ts : List J.Task). M.machine (memoryOf (w .memory)) ts (replace ws p l) coming (w .ticks))
       (tasks-changed sheet program bounds most (w .tasks) (w .jobs) (f .each) p t j below
       ∙ ap (replace (tasksOf sheet program bounds (w .tasks) (w .jobs)) p) job-starts) in
       record {
@@ -197,10 +209,13 @@ module _ (sheet : List ℕ) (program : List BodyCommand) (bounds : List ℕ) (mo
       let is : M.toCome (M.behind p (queue ++ (r ∷ [])) m) coming ≡ M.toCome (M.releaseBy true true r m) coming =
       ap (λ (q : ℕ). M.toCome (M.behind q (M.waitingAt ws q ++ (r ∷ [])) m) coming) (sym to) in
       subst (λ (z : M.Machine). ReleasedFits z (releasedIf true (length queue))) is (waiting-release e k r (subst Settled (sym is) after))
-  sheet-release r settled true false e k to after = dropped-release e k after
+  sheet-release r settled true false e k to after =
+      let is : M.toCome (M.dropping p m) coming ≡ M.toCome (M.releaseBy true false r m) coming =
+      ap (λ (q : ℕ). M.toCome (M.dropping q m) coming) (sym to) in
+      subst (λ (z : M.Machine). ReleasedFits z (releasedIf true (length queue))) is (dropped-release e k (subst Settled (sym is) after))
   sheet-release r settled false room e k to after =
       let none : queue ≡ [] = settled p (task-busy sheet program bounds most (w .tasks) (w .jobs) p below ∙ e) in
-      let stays : M.behind p [] m ≡ m = ap (λ (l : List (List C.Release)). M.machine (m .memory) (m .tasks) l (m .releases) (m .now) (m .dropped))
+      let stays : M.behind p [] m ≡ m = ap (λ (l : List (List C.Release)). M.machine (m .memory) (m .tasks) l (m .releases) (m .now))
       (ap (replace ws p) (sym none) ∙ queue-same) in
       let is : M.toCome (M.starting p (M.behind p [] m)) coming ≡ M.toCome (M.starting (r .task) m) coming =
       rw to (ap (λ (z : M.Machine). M.toCome (M.starting p z) coming) stays) in

@@ -11,11 +11,14 @@ use borrow.Author.Tests.{eqb-true, eqb-false, lt-ltb, le-ltb}
 use Rattle.model.specs.Ceilings.{maxTasks}
 use Rattle.model.specs.Command.{Release, commandAt}
 use Rattle.model.specs.Sheet.{Sheet, sheetOf}
+use Rattle.model.specs.Lists.{at}
+use Rattle.model.specs.Job as J
 use Rattle.model.specs.Machine as M
 use Rattle.model.proofs.Fit.Elements.{and-false}
 use Rattle.model.proofs.Fit.Sheet.{SheetFit}
 use Rattle.model.proofs.Fit.Machine.{Fit}
 use Rattle.model.proofs.Fit.Running.{nobody-none}
+use Rattle.model.proofs.Fit.Enter as Enter
 use Rattle.model.proofs.Fit.Enter.{Entering, oldest, release-enters, NoneDue}
 use Rattle.model.proofs.Fit.Waiting.{SettledAt, Settled, entering-settled, one-settled, release-entered, none-entered, oldest-entered}
 use Rattle.model.proofs.Fit.Waiting.{none-waits, some-waits}
@@ -25,14 +28,15 @@ use Rattle.model.proofs.Fit.Ranges.{Ranges}
 use Rattle.model.proofs.Fit.RangesStatement.{entering-range, tick-range}
 use Rattle.commands.specs.declared.BodyCommand.{BodyCommand}
 use Rattle.exchanges.specs.Places.{if}
-use Rattle.machine.specs.Flat.{nobody, pendingAt, comingOf, stopsBy, topOf, FlatMachine, tickedFor, passed, comingIn, released, ticked}
+use Rattle.jobs.specs.Jobs.{dropped}
+use Rattle.machine.specs.Flat.{nobody, pendingAt, comingOf, stopsBy, topOf, FlatMachine, ownOf, tickedFor, passed, comingIn, released, ticked}
 use Rattle.machine.specs.Flat.{Ends, limited, stopped, arrives, moves}
 use Rattle.machine.specs.declared.releases.Coming.{Coming}
 use Rattle.machine.specs.declared.releases.Coming.the-variants.{Nothing, Later, Due}
 use Rattle.program.specs.Program.{Programmed}
 use Rattle.refinement.proofs.Releases.{releasesFrom, DueAt, ComingAt, coming-at}
 use Rattle.refinement.proofs.Unfinished.{busy, Top, none, some, top}
-use Rattle.refinement.proofs.Machine.{machineOf, ReadySound, noneReady, oneReady, Sound, task-busy, nobody-runs, top-runs}
+use Rattle.refinement.proofs.Machine.{machineOf, ReadySound, noneReady, oneReady, Sound, task-at, task-busy, nobody-runs, top-runs}
 use Rattle.refinement.proofs.Released.{starts-inside, ReleasedFits, released-fits, waited-fits}
 use Rattle.refinement.proofs.Ticked.{ticked-fits}
 
@@ -139,12 +143,14 @@ module _ (sheet : List ℕ) (program : List BodyCommand) (bounds : List ℕ) (he
     abbrev m : M.Machine
     m = viewed ws w
 
-    few : w .dropped < 4294967295
-    few = omega (arith, fit .dropped)
+    few : (p : ℕ) → p < length (s .bodies) → at 0 (ownOf w p .counts) dropped < 4294967295
+    few p h =
+        let drops = ap (λ (t : J.Task). t .counts .dropped) (task-at sheet program bounds (c .bodies) (w .tasks) (w .jobs) p h) in
+        omega (arith, fit .dropped p, drops)
 
     -- one thing has come, and the same is still to come
     come : (m′ : M.Machine) (p next : ℕ) (below : p < length (s .bodies)) (v : FlatMachine) → Entering m m′ → M.enter m′ ≡ M.enter m → M.over m ≡ false
-        → ReleasedFits sheet program bounds (c .bodies) ws w g few p next below (starts-inside sheet program bounds held c p below) m′ v
+        → ReleasedFits sheet program bounds (c .bodies) ws w g p next (few p below) below (starts-inside sheet program bounds held c p below) m′ v
         → Onward (suc k) (suc k) ws w v
     unfolding M.tick
     come m′ p next below v step entered on f =
@@ -165,13 +171,14 @@ module _ (sheet : List ℕ) (program : List BodyCommand) (bounds : List ℕ) (he
     release-step settled task next d =
         let r = d .release in
         let l = releasesFrom sheet next in
-        let h : r .task < length (s .bodies) = declared-release c fit (d .releases) in
+        let due : Enter.Due m r l = record { next = d .releases; now = d .now } in
+        let h : r .task < length (s .bodies) = declared-release c fit due in
         let eight : task % 8 ≡ r .task = omega (arith, d .to, c .bodies) in
-        let step = release-enters {m = m} r l (d .releases) in
+        let step = release-enters due in
         let after = entering-settled step (record { size = fit .tasks; settled = settled }) .settled in
         come (M.toCome (M.released r m) l) (r .task) next h (released bounds w task next) step
         (release-entered m settled r l (d .releases) (d .now) after) (release-on ws w g r l (d .releases))
-        (released-fits sheet program bounds (c .bodies) ws w g few (r .task) next h (starts-inside sheet program bounds held c (r .task) h) r settled task
+        (released-fits sheet program bounds (c .bodies) ws w g (r .task) next (few (r .task) h) h (starts-inside sheet program bounds held c (r .task) h) r settled task
         eight refl after)
 
     -- one that waited
@@ -185,7 +192,7 @@ module _ (sheet : List ℕ) (program : List BodyCommand) (bounds : List ℕ) (he
         let is : M.startOldest p m ≡ M.starting p (M.behind p l m) = rw (u, queue) in
         come (M.starting p (M.behind p l m)) p (w .place) h (released bounds w p (w .place)) (oldest p r l eight u queue)
         (ap M.enter (sym is) ∙ oldest-entered m p eight (fit .tasks) others) (waiting-on ws w g (some-waits ws p queue))
-        (waited-fits sheet program bounds (c .bodies) ws w g few p (w .place) h (starts-inside sheet program bounds held c p h) l idle
+        (waited-fits sheet program bounds (c .bodies) ws w g p (w .place) (few p h) h (starts-inside sheet program bounds held c p h) l idle
         (rw queue (omega arith)) (subst Settled is (one-settled m p (fit .tasks) others eight)))
 
     tick-step : maxTasks ≤ w .ready → Settled m → w .ticks < 4294967295 → ((task next : ℕ) → comingIn sheet w ≡ Due task next → ⊥)

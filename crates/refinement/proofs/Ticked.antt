@@ -27,70 +27,19 @@ use Rattle.exchanges.specs.Places.{Noted, Left}
 use Rattle.jobs.specs.Jobs.{counted}
 use Rattle.statements.specs.Statements.{statement}
 use Rattle.machine.specs.Flat.{unfinished?, topOf, leftBy, readyBy, FlatMachine, jobOf, ownOf, closed, tickedWith, tickedFor, passed, ticked}
-use Rattle.jobs.specs.declared.Phase.{Phase}
 use Rattle.jobs.specs.declared.Phase.the-variants as Phase
-use Rattle.jobs.specs.declared.Inner.{Inner}
 use Rattle.jobs.specs.declared.Inner.the-variants as Inner
 use Rattle.jobs.specs.declared.Job.{Job}
 use Rattle.program.specs.Program.{bodyIn, Programmed}
-use Rattle.refinement.proofs.View.{transactionOf, innerOf, phaseOf, waitingOf, taskOf}
-use Rattle.state.specs.Sized.{OwnSized}
-use Rattle.refinement.proofs.Shape.{JobShape, Leaves, leaves, Refines}
+use Rattle.refinement.proofs.View.{taskOf}
+use Rattle.refinement.proofs.Shape.{Leaves, leaves, Refines}
 use Rattle.refinement.proofs.Sized.{counted-sized}
-use Rattle.refinement.proofs.Counted.{counted-same, counted-other}
+use Rattle.refinement.proofs.Counted.{shape-counted, counted-task}
 use Rattle.refinement.proofs.Statements.{statement-tick}
 use Rattle.refinement.proofs.Releases.{releasesFrom}
 use Rattle.refinement.proofs.Unfinished.{busy, bitOf, mask-set, TopTask, Top, none, some, top}
 use Rattle.refinement.proofs.Machine.{taskIn, tasksOf, machineOf, ReadySound, noneReady, oneReady, Sound, waiting-count, task-at, task-busy, job-set}
 use Rattle.refinement.proofs.Machine.{tasks-changed, sound-changed, nobody-runs, top-runs}
-
--- A COUNT does not show in a job's shape
-module _ (t : Own) (i : ℕ) where
-  shape-counted : (end : ℕ) (j : Job) (f : Phase) → JobShape end j t f → JobShape end j (counted t i) f
-  unfolding counted
-  shape-counted end j Phase.Idle h = h
-  shape-counted end j Phase.Plain h = record { inBody = h .inBody; unloaded = h .unloaded }
-  shape-counted end j (Phase.Read r w s) h = record { inBody = h .inBody; unloaded = h .unloaded }
-  shape-counted end j (Phase.Exchange r s) h = h
-  shape-counted end j (Phase.Transaction s) h = h
-
-  -- nor in its phase and waiting PAIRs
-  phase-counted : (program : List BodyCommand) (end : ℕ) (j : Job) (f : Phase) → phaseOf program end j (counted t i) f ≡ phaseOf program end j t f
-  unfolding counted
-  phase-counted program end j Phase.Idle = refl
-  phase-counted program end j Phase.Plain = refl
-  phase-counted program end j (Phase.Read r w s) = refl
-  phase-counted program end j (Phase.Exchange r s) = refl
-  phase-counted program end j (Phase.Transaction s) = ap (J.transacting (transactionOf program end j t)) (inner s)
-    where
-      inner : (s : Inner) → innerOf j (counted t i) s ≡ innerOf j t s
-      inner Inner.Between = refl
-      inner (Inner.First a z) = refl
-      inner (Inner.Copying a k) = refl
-      inner (Inner.Again a v z) = refl
-      inner (Inner.Committing z) = refl
-
-  waiting-counted : (j : Job) (f : Phase) → waitingOf j (counted t i) f ≡ waitingOf j t f
-  unfolding counted
-  waiting-counted j Phase.Idle = refl
-  waiting-counted j Phase.Plain = refl
-  waiting-counted j (Phase.Read r w s) = refl
-  waiting-counted j (Phase.Exchange r s) = refl
-  waiting-counted j (Phase.Transaction s) = refl
-
--- a tick is counted
-ticked-task : (program : List BodyCommand) (end : ℕ) (body : List C.BodyCommand) (j : Job) (t : Own) → OwnSized t → at 0 (t .counts) 3 < 4294967295
-    → taskOf program end body j (counted t 3) ≡ J.counting J.ticks (taskOf program end body j t)
-unfolding counted
-ticked-task program end body j t z few =
-    rw (
-      phase-counted t 3 program end j (j .phase),
-      waiting-counted t 3 j (j .phase),
-      counted-other t 3 0 (λ e. omega arith),
-      counted-other t 3 1 (λ e. omega arith),
-      counted-other t 3 2 (λ e. omega arith),
-      counted-same t 3 (z .counts) (omega arith) few,
-    )
 
 -- the mask without a task that has finished
 left-mask : (b : Bool) (m k p : ℕ) → k + 2 ^ p ≡ m + bitOf b (2 ^ p) → leftBy b m p ≡ k
@@ -176,8 +125,8 @@ module _ (sheet : List ℕ) (program : List BodyCommand) (bounds : List ℕ) (he
     counted-ticks =
         let turned = statement-fit (c .blocks) (fit .memory) t (task-fit .registers) (task-fit .copies) p (task-fit .phase) in
         let ticks = ap (λ (z : Leaves). z .task .counts .ticks) (refined .same) in
-        let few : at 0 (o .task .counts) 3 < 4294967295 = omega (arith, turned .ticks, ticks, small 3 (omega arith)) in
-        ticked-task program end body (o .next) (o .task) (refined .ownSized) few
+        let few : at 0 (o .task .counts) 3 < 4294967295 = omega (arith, turned .counts .ticks, ticks, small 3 (omega arith)) in
+        counted-task J.ticks program end body (o .next) (o .task) (refined .ownSized .counts) few
 
     abbrev afterLeaves : Leaves → M.Machine
     afterLeaves z = M.afterTurn m p (J.turn (z .memory) (z .task) J.nothingDone)
@@ -235,10 +184,9 @@ module _ (sheet : List ℕ) (program : List BodyCommand) (bounds : List ℕ) (he
         record {
           same =
               ap
-              (λ (k : ℕ). M.machine (memoryOf (u .memory)) (tasksOf sheet program bounds (v .tasks) (v .jobs)) ws (releasesFrom sheet (w .place)) k
-              (w .dropped))
+              (λ (k : ℕ). M.machine (memoryOf (u .memory)) (tasksOf sheet program bounds (v .tasks) (v .jobs)) ws (releasesFrom sheet (w .place)) k)
               more
-              ∙ ap (λ (ts : List J.Task). M.machine (memoryOf (u .memory)) ts ws (releasesFrom sheet (w .place)) (suc (w .ticks)) (w .dropped)) tasks-are
+              ∙ ap (λ (ts : List J.Task). M.machine (memoryOf (u .memory)) ts ws (releasesFrom sheet (w .place)) (suc (w .ticks))) tasks-are
               ∙ sym moved;
           sound = record {
             memory = refined .sharedSized;

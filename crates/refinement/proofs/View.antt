@@ -110,6 +110,11 @@ waitingOf j t (Phase.Exchange r s) = pairsOf (j .pairs) (t .entries)
 waitingOf j t (Phase.Transaction s) = []
 
 -- OF A TASK whose body ends before a line of the program
+-- the counts, in the order of the T line
+abbrev pub countsOf : Own → J.Counts
+countsOf t =
+    J.counts (at 0 (t .counts) 0) (at 0 (t .counts) 1) (at 0 (t .counts) 2) (at 0 (t .counts) 3) (at 0 (t .counts) 4)
+
 module _ (program : List BodyCommand) (end : ℕ) where
   abbrev pub transactionOf : Job → Own → J.Transaction
   transactionOf j t = record { kept = t .kept; commands = commandsIn program (j .begin) end; blocks = blocksOf (t .blocks); used = j .used }
@@ -132,5 +137,5 @@ module _ (program : List BodyCommand) (end : ℕ) where
   -- the task with that body
   abbrev pub taskOf : List C.BodyCommand → Job → Own → J.Task
   taskOf body j t =
-      J.task body (t .copies) (J.counts (at 0 (t .counts) 0) (at 0 (t .counts) 1) (at 0 (t .counts) 2) (at 0 (t .counts) 3))
+      J.task body (t .copies) (countsOf t)
       (J.job (phaseOf j t (j .phase)) (commandsOf j (j .phase)) (t .registers) (waitingOf j t (j .phase)))

@@ -1,5 +1,5 @@
 -- The fates of arrivals: one more arrival, and the first of a task that waits starts a job.
-use Prim.Native.Nat.{ℕ, suc, _+_}
+use Prim.Native.Nat.{ℕ, _+_}
 use mathlib.Core.Path.{_≡_, refl, sym, _∙_, ap}
 use mathlib.Core.Bool.{Bool, true, false, _&&_}
 use mathlib.Core.Logic.{_≢_}
@@ -7,7 +7,7 @@ use mathlib.Core.List.{List, [], _∷_, _++_, map, append-nil}
 use native.Mathlib.Omega.{arith}
 use lib.Dec.{eqb}
 use lib.ListN.{length, length-append}
-use borrow.Author.Tests.{eq-eqb, ne-eqb, eqb-true}
+use borrow.Author.Tests.{ne-eqb, eqb-true}
 use Rattle.model.specs.Command.{Release}
 use Rattle.model.specs.Arrivals.{Fate, startedJob, waits, neither, waits?, Arrival, arrival, waitsFor, firstStartsBy, firstStarts, keptBy, withFate}
 use Rattle.model.specs.Rates.{oneIf}

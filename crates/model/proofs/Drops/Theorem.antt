@@ -2,20 +2,16 @@
 -- wait; the arrivals are all releases of the ticks done, those that started are the jobs, and those that wait are those that the machine keeps.
 use Prim.Native.Nat.{ℕ, suc, _≤_, _<_}
 use mathlib.Core.Path.{_≡_, refl}
-use mathlib.Core.Bool.{Bool, not, _&&_}
 use mathlib.Core.Logic.{inl, inr}
 use mathlib.Core.List.{List, [], _∷_}
 use native.Mathlib.Omega.{arith}
 use lib.ListN.{length}
-use lib.Dec.{ltb}
 use Rattle.model.specs.Lists.{at, In}
 use Rattle.model.specs.Command.{Release}
-use Rattle.model.specs.Sheet.{Sheet, sheetOf, verdict, accepted}
-use Rattle.model.specs.Job.{Task}
-use Rattle.model.specs.Machine.{Machine, unfinishedAt, beside, run}
+use Rattle.model.specs.Sheet.{Sheet, verdict, accepted}
+use Rattle.model.specs.Machine.{Machine, run}
 use Rattle.model.specs.Start.{startMachine}
 use Rattle.model.specs.Arrivals.{seenEnter, arrivalsOf}
-use Rattle.model.specs.Rates.{oneIf, onlyIf, inTick}
 use Rattle.model.specs.Drops.{jobStarts, RunDrops, Drops}
 use Rattle.model.proofs.Fit.Sheet.{SheetFit, releaseAt}
 use Rattle.model.proofs.Fit.Accepted.{accepted-fit}

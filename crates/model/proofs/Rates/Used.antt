@@ -1,15 +1,12 @@
 -- The ticks that a task has used, as the T line gives them, are its own ticks of the whole run.
 use Prim.Native.Nat.{ℕ, zero, suc, _-_}
 use mathlib.Core.Path.{_≡_, refl, sym, _∙_, ap}
-use mathlib.Core.List.{List, [], _∷_, _++_}
 use native.Mathlib.Omega.{arith}
-use lib.ListN.{length, replicate}
 use Rattle.model.specs.Lists.{at}
-use Rattle.model.specs.Command.{BodyCommand}
 use Rattle.model.specs.Sheet.{Sheet}
 use Rattle.model.specs.Job.{Counts, counting, ticks}
 use Rattle.model.specs.Machine.{noTask, taskAt, Running, nobody, running, move, statement}
-use Rattle.model.specs.Start.{filled, tasksFrom, startMachine}
+use Rattle.model.specs.Start.{startMachine}
 use Rattle.model.specs.Rates.{ownBefore}
 use Rattle.model.proofs.Lists.{same?, replace-same, replace-other}
 use Rattle.model.proofs.Fit.Sheet.{SheetFit}
