@@ -6,7 +6,8 @@ use mathlib.Core.List.{List, [], _∷_}
 use lib.Dec.{eqb}
 use Rattle.model.specs.Sheet.{sheetOf}
 use Rattle.model.specs.Start.{startMachine}
-use Rattle.model.specs.Arrivals.{Fate, startedJob, waits, neither, Arrival, arrival, arrivalsOf}
+use Rattle.model.specs.Machine.{Fate, startedJob, waits, neither}
+use Rattle.model.specs.Arrivals.{Arrival, arrival, arrivalsOf}
 use Rattle.model.proofs.Sheets.{sheetAAt, sheetUAt, sheetTwoDrop}
 
 pub record Case : Type 0 where

@@ -43,10 +43,15 @@ run-on n (suc a) m =
     let e : suc (a + n) ≡ suc a + n = omega arith in
     ap (run n) (sym (run-first a m)) ∙ run-on n a (run 1 m) ∙ run-first (a + n) m ∙ ap (λ (k : ℕ). run k m) e
 
+sum-later : (h k a b : ℕ) → k ≡ a + b → h + k ≡ h + a + b
+sum-later h k a b e = omega arith
+
 own-last : (p n : ℕ) (m : Machine) → ownNext p (suc n) m ≡ ownNext p n m + oneIf (isTask p (runningOf (enter (run n m))))
 unfolding ownNext run
 own-last p zero m = omega arith
-own-last p (suc n) m = rw (own-last p n (run 1 m), run-first n m) (omega arith)
+own-last p (suc n) m =
+    sum-later _ _ _ _ (own-last p n (run 1 m)
+    ∙ ap (λ (x : Machine). ownNext p n (run 1 m) + oneIf (isTask p (runningOf (enter x)))) (run-first n m))
 
 own-walk : (m : Machine) (p a n : ℕ) → ownBefore (runningIn m) p a (a + n) ≡ ownNext p n (run a m)
 unfolding ownNext ownBefore inTick

@@ -5,13 +5,8 @@ use mathlib.Core.List.{List, [], _∷_, _++_}
 use lib.Dec.{eqb}
 use Rattle.model.specs.Ceilings.{maxTasks}
 use Rattle.model.specs.Command.{Release}
-use Rattle.model.specs.Machine.{Machine, waitingAt, unfinishedAt, roomAt, releaseBy, released, startBy, startOldest, startWaiting, beside}
-
--- it started a job, in that tick; it waits; or neither
-pub data Fate : Type 0 where
-  startedJob : ℕ → Fate
-  waits : Fate
-  neither : Fate
+use Rattle.model.specs.Machine.{Machine, waitingAt, unfinishedAt, Fate, startedJob, waits, neither, fateOf, releasedTo, released, due}
+use Rattle.model.specs.Machine.{oldestBy, startOldest, startWaiting, beside}
 
 pub record Arrival : Type 0 where
   pub release : Release
@@ -38,32 +33,19 @@ unfoldable pub firstStarts : ℕ → ℕ → List Arrival → List Arrival
 firstStarts p t [] = []
 firstStarts p t (a ∷ l) = firstStartsBy (waitsFor p a) t a l (firstStarts p t l)
 
--- by the tests of `startBy`
-unfoldable pub seenStartBy : Bool → List Release → ℕ → ℕ → List Arrival → List Arrival
-unfolding firstStarts
-seenStartBy true l p t xs = xs
-seenStartBy false [] p t xs = xs
-seenStartBy false (r ∷ l) p t xs = firstStarts p t xs
+abbrev pub seenStartBy : Bool → List Release → ℕ → ℕ → List Arrival → List Arrival
+seenStartBy b l p t xs = oldestBy b l xs (λ others. firstStarts p t xs)
 
 -- so for all tasks below n
 unfoldable pub seenStarts : ℕ → Machine → List Arrival → List Arrival
-unfolding seenStartBy startBy
+unfolding oldestBy firstStarts
 seenStarts zero m xs = xs
 seenStarts (suc p) m xs =
     seenStarts p (startOldest p m) (seenStartBy (unfinishedAt m p) (waitingAt (m .waiting) p) p (m .now) xs)
 
 -- THIS TICK'S RELEASES ARRIVE
--- by the tests of `releaseBy`, in tick t
-abbrev pub fateBy : Bool → Bool → ℕ → Fate
-fateBy false room t = startedJob t
-fateBy true true t = waits
-fateBy true false t = neither
-
-abbrev pub fateOf : Release → Machine → Fate
-fateOf r m = fateBy (unfinishedAt m (r .task)) (roomAt m (r .task)) (m .now)
-
 unfoldable pub seenArriveBy : Bool → (Machine → List Arrival → List Arrival) → Release → Machine → List Arrival → List Arrival
-unfolding releaseBy
+unfolding releasedTo
 seenArriveBy true go r m xs = go (released r m) (xs ++ (arrival r (fateOf r m) ∷ []))
 seenArriveBy false go r m xs = xs
 
@@ -72,7 +54,7 @@ unfolding seenArriveBy
 seenArrive [] m xs = xs
 seenArrive (r ∷ l) m xs =
     let go : Machine → List Arrival → List Arrival = seenArrive l in
-    seenArriveBy (eqb (r .tick) (m .now)) go r m xs
+    seenArriveBy (due r m) go r m xs
 
 -- THE ARRIVALS OF A RUN
 -- what comes before a tick's statement

@@ -13,7 +13,8 @@ use Rattle.model.specs.Job.{Task}
 use Rattle.model.specs.Machine.{Machine, taskAt, waitingAt, unfinished, unfinishedAt, run}
 use Rattle.model.specs.Start.{startMachine}
 use Rattle.model.specs.Rates.{oneIf, onlyIf, inTick}
-use Rattle.model.specs.Arrivals.{Fate, waits?, started?, startedIn?, neither?, Arrival, arrivalsOf, withFate}
+use Rattle.model.specs.Machine.{Fate}
+use Rattle.model.specs.Arrivals.{waits?, started?, startedIn?, neither?, Arrival, arrivalsOf, withFate}
 
 abbrev pub releaseOf : Arrival → Release
 releaseOf a = a .release

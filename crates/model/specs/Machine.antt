@@ -159,25 +159,43 @@ behind p l m = machine (m .memory) (m .tasks) (replace (m .waiting) p l) (m .rel
 abbrev pub dropping : ℕ → Machine → Machine
 dropping p m = withTask p (counting dropped (taskAt (m .tasks) p)) m
 
+-- THE FATE of a release: it started a job, in that tick; it waits; or neither
+pub data Fate : Type 0 where
+  startedJob : ℕ → Fate
+  waits : Fate
+  neither : Fate
+
 -- By: the task's job is unfinished, and there is room behind it. A release to a task whose job is unfinished waits behind it,
 -- or is dropped where there is no room; else a job starts.
-unfoldable pub releaseBy : Bool → Bool → Release → Machine → Machine
-unfolding at replace
-releaseBy false room r m = starting (r .task) m
-releaseBy true true r m = behind (r .task) (waitingAt (m .waiting) (r .task) ++ (r ∷ [])) m
-releaseBy true false r m = dropping (r .task) m
+abbrev pub fateBy : Bool → Bool → ℕ → Fate
+fateBy false room t = startedJob t
+fateBy true true t = waits
+fateBy true false t = neither
 
 abbrev pub roomAt : Machine → ℕ → Bool
 roomAt m p = ltb (length (waitingAt (m .waiting) p)) maxWaiting
 
+-- at its arrival
+abbrev pub fateOf : Release → Machine → Fate
+fateOf r m = fateBy (unfinishedAt m (r .task)) (roomAt m (r .task)) (m .now)
+
+unfoldable pub releasedTo : Fate → Release → Machine → Machine
+unfolding at replace
+releasedTo (startedJob t) r m = starting (r .task) m
+releasedTo waits r m = behind (r .task) (waitingAt (m .waiting) (r .task) ++ (r ∷ [])) m
+releasedTo neither r m = dropping (r .task) m
+
 abbrev pub released : Release → Machine → Machine
-released r m = releaseBy (unfinishedAt m (r .task)) (roomAt m (r .task)) r m
+released r m = releasedTo (fateOf r m) r m
 
 abbrev pub toCome : Machine → List Release → Machine
 toCome m rs = machine (m .memory) (m .tasks) (m .waiting) rs (m .now)
 
+abbrev pub due : Release → Machine → Bool
+due r m = eqb (r .tick) (m .now)
+
 unfoldable pub arriveBy : Bool → (Machine → Machine) → Release → List Release → Machine → Machine
-unfolding at releaseBy
+unfolding at releasedTo
 arriveBy true go r l m = go (released r m)
 arriveBy false go r l m = toCome m (r ∷ l)
 
@@ -187,21 +205,23 @@ unfolding arriveBy
 arrive [] m = toCome m []
 arrive (r ∷ l) m =
     let go : Machine → Machine = arrive l in
-    arriveBy (eqb (r .tick) (m .now)) go r l m
+    arriveBy (due r m) go r l m
 
--- By: the job of task p is unfinished. Where it has ended, the oldest of those that wait behind it starts.
-unfoldable pub startBy : Bool → List Release → ℕ → Machine → Machine
-unfolding at replace
-startBy true l p m = m
-startBy false [] p m = m
-startBy false (r ∷ l) p m = starting p (behind p l m)
+-- By: the job is unfinished. Where it has ended and some wait behind it, the oldest starts, and those after it go on waiting.
+unfoldable pub oldestBy : {A : Type 0} → Bool → List Release → A → (List Release → A) → A
+oldestBy true l stays starts = stays
+oldestBy false [] stays starts = stays
+oldestBy false (r ∷ l) stays starts = starts l
+
+abbrev pub startBy : Bool → List Release → ℕ → Machine → Machine
+startBy b l p m = oldestBy b l m (λ others. starting p (behind p others m))
 
 abbrev pub startOldest : ℕ → Machine → Machine
 startOldest p m = startBy (unfinishedAt m p) (waitingAt (m .waiting) p) p m
 
 -- so for all tasks below n
 unfoldable pub startWaiting : ℕ → Machine → Machine
-unfolding at startBy
+unfolding at replace oldestBy
 startWaiting zero m = m
 startWaiting (suc p) m = startWaiting p (startOldest p m)
 

@@ -203,14 +203,14 @@ module _ (sheet : List ℕ) (program : List BodyCommand) (bounds : List ℕ) (mo
 
   -- A RELEASE OF THE SHEET, to a machine in which none waits behind a job that has ended
   sheet-release : (r : C.Release) → Settled m → (b room : Bool) → busy (w .jobs) p ≡ b → ltb (length queue) maxWaiting ≡ room → r .task ≡ p
-      → Settled (M.toCome (M.releaseBy b room r m) coming) → ReleasedFits (M.toCome (M.releaseBy b room r m) coming) (releasedIf b (length queue))
-  unfolding M.releaseBy
+      → Settled (M.toCome (M.releasedTo (M.fateBy b room (m .now)) r m) coming) → ReleasedFits (M.toCome (M.releasedTo (M.fateBy b room (m .now)) r m) coming) (releasedIf b (length queue))
+  unfolding M.releasedTo
   sheet-release r settled true true e k to after =
-      let is : M.toCome (M.behind p (queue ++ (r ∷ [])) m) coming ≡ M.toCome (M.releaseBy true true r m) coming =
+      let is : M.toCome (M.behind p (queue ++ (r ∷ [])) m) coming ≡ M.toCome (M.releasedTo M.waits r m) coming =
       ap (λ (q : ℕ). M.toCome (M.behind q (M.waitingAt ws q ++ (r ∷ [])) m) coming) (sym to) in
       subst (λ (z : M.Machine). ReleasedFits z (releasedIf true (length queue))) is (waiting-release e k r (subst Settled (sym is) after))
   sheet-release r settled true false e k to after =
-      let is : M.toCome (M.dropping p m) coming ≡ M.toCome (M.releaseBy true false r m) coming =
+      let is : M.toCome (M.dropping p m) coming ≡ M.toCome (M.releasedTo M.neither r m) coming =
       ap (λ (q : ℕ). M.toCome (M.dropping q m) coming) (sym to) in
       subst (λ (z : M.Machine). ReleasedFits z (releasedIf true (length queue))) is (dropped-release e k (subst Settled (sym is) after))
   sheet-release r settled false room e k to after =

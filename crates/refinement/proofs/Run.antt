@@ -184,7 +184,7 @@ module _ (sheet : List ℕ) (program : List BodyCommand) (bounds : List ℕ) (he
     -- one that waited
     waiting-step : (r : Release) (l : List Release) → w .ready < length (s .bodies) → busy (w .jobs) (w .ready) ≡ false → M.waitingAt ws (w .ready) ≡ r ∷ l
         → ((q : ℕ) → q ≢ w .ready → SettledAt m q) → Onward (suc k) (suc k) ws w (released bounds w (w .ready) (w .place))
-    unfolding M.startBy
+    unfolding M.oldestBy
     waiting-step r l h idle queue others =
         let p = w .ready in
         let eight : p < maxTasks = omega (arith, c .bodies) in

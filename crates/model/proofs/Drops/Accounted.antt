@@ -15,8 +15,9 @@ use Rattle.model.specs.Job.{Task, started}
 use Rattle.model.specs.Machine.{Machine, noTask, taskAt, waitingAt, unfinishedAt, starting}
 use Rattle.model.specs.Machine.{Running, nobody, running, runningOf, move, moveAny, tick, enter}
 use Rattle.model.specs.Start.{startMachine}
-use Rattle.model.specs.Arrivals as A
-use Rattle.model.specs.Arrivals.{Fate, startedJob, neither, waits?, started?, neither?, Arrival, arrival, seenEnter, withFate}
+use Rattle.model.specs.Machine as M
+use Rattle.model.specs.Machine.{Fate, startedJob, neither}
+use Rattle.model.specs.Arrivals.{waits?, started?, neither?, Arrival, arrival, seenEnter, withFate}
 use Rattle.model.specs.Rates.{oneIf}
 use Rattle.model.specs.Drops.{releaseOf, number, jobsOf}
 use Rattle.model.proofs.Lists.{same?, replace-same, replace-other, at-default}
@@ -126,11 +127,11 @@ module _ {s : Sheet} (c : SheetFit s) where
       let ws = waitingAt (m .waiting) (r .task) ++ (r ∷ []) in
       record {
         fit = entering-fit c m n (waits r l d u k) (a .fit);
-        complete = seen-complete a d A.waits;
-        arrived = seen-arrived a d A.waits;
-        dropped = λ q. a .dropped q ∙ sym (ap length (append-not neither? q xs r A.waits refl));
-        started = λ q. ap length (append-not started? q xs r A.waits refl) ∙ a .started q;
-        waiting = λ q. append-is waits? q xs r A.waits refl ∙ same? q (r .task)
+        complete = seen-complete a d M.waits;
+        arrived = seen-arrived a d M.waits;
+        dropped = λ q. a .dropped q ∙ sym (ap length (append-not neither? q xs r M.waits refl));
+        started = λ q. ap length (append-not started? q xs r M.waits refl) ∙ a .started q;
+        waiting = λ q. append-is waits? q xs r M.waits refl ∙ same? q (r .task)
             (λ z. rw (z, eq-eqb (r .task) (r .task) refl, replace-same [] (m .waiting) (r .task) ws (omega (arith, a .fit .waiting .size, c .bodies)))
             (ap (λ (l : List Release). l ++ (r ∷ [])) (a .waiting (r .task))))
             (λ o. rw (ne-eqb (r .task) q (λ z. o (sym z)), replace-other [] (m .waiting) (r .task) q ws o)

@@ -9,7 +9,8 @@ use lib.Dec.{eqb}
 use lib.ListN.{length, length-append}
 use borrow.Author.Tests.{ne-eqb, eqb-true}
 use Rattle.model.specs.Command.{Release}
-use Rattle.model.specs.Arrivals.{Fate, startedJob, waits, neither, waits?, Arrival, arrival, waitsFor, firstStartsBy, firstStarts, keptBy, withFate}
+use Rattle.model.specs.Machine.{Fate, startedJob, waits, neither}
+use Rattle.model.specs.Arrivals.{waits?, Arrival, arrival, waitsFor, firstStartsBy, firstStarts, keptBy, withFate}
 use Rattle.model.specs.Rates.{oneIf}
 use Rattle.model.specs.Drops.{releaseOf, number}
 use Rattle.model.proofs.Lists.{test?}

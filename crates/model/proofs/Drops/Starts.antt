@@ -11,8 +11,9 @@ use borrow.Author.Tests.{eq-eqb, ne-eqb, lt-ltb, le-ltb}
 use Rattle.model.specs.Sheet.{Sheet}
 use Rattle.model.specs.Machine.{Machine, unfinishedAt, starting, enter}
 use Rattle.model.specs.Start.{startMachine}
-use Rattle.model.specs.Arrivals as A
-use Rattle.model.specs.Arrivals.{startedJob, neither, startedIn?, Arrival, seenEnter, withFate}
+use Rattle.model.specs.Machine as M
+use Rattle.model.specs.Machine.{startedJob, neither}
+use Rattle.model.specs.Arrivals.{startedIn?, Arrival, seenEnter, withFate}
 use Rattle.model.specs.Rates.{oneIf, onlyIf}
 use Rattle.model.specs.Drops.{number}
 use Rattle.model.proofs.Lists.{same?, test?}
@@ -87,8 +88,8 @@ module _ {s : Sheet} (c : SheetFit s) (m₀ : Machine) (xs₀ : List Arrival) wh
     accounted = entering-accounted c m n xs (waits r l d u f) (k .accounted);
     now = k .now;
     unfinished = k .unfinished;
-    before = λ q v o. ap length (append-not (startedIn? v) q xs r A.waits refl) ∙ k .before q v o;
-    here = λ q. ap length (append-not (startedIn? (m₀ .now)) q xs r A.waits refl) ∙ k .here q;
+    before = λ q v o. ap length (append-not (startedIn? v) q xs r M.waits refl) ∙ k .before q v o;
+    here = λ q. ap length (append-not (startedIn? (m₀ .now)) q xs r M.waits refl) ∙ k .here q;
   }
   entering-since m n xs (drops r l d u f) k = record {
     accounted = entering-accounted c m n xs (drops r l d u f) (k .accounted);

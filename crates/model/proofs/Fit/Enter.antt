@@ -10,10 +10,11 @@ use lib.Dec.{eqb}
 use borrow.Author.Tests.{ltb-true, ltb-false, eq-eqb, eqb-true}
 use Rattle.model.specs.Ceilings.{maxTasks, maxWaiting}
 use Rattle.model.specs.Command.{Release}
-use Rattle.model.specs.Machine.{Machine, waitingAt, unfinishedAt, starting, behind, dropping, releaseBy, roomAt, released, toCome}
-use Rattle.model.specs.Machine.{arriveBy, arrive, startBy, startOldest, startWaiting, enter}
-use Rattle.model.specs.Arrivals as A
-use Rattle.model.specs.Arrivals.{Arrival, arrival, startedJob, neither, fateBy, fateOf, firstStarts, seenStartBy, seenStarts}
+use Rattle.model.specs.Machine.{Machine, waitingAt, unfinishedAt, starting, behind, dropping, toCome}
+use Rattle.model.specs.Machine as M
+use Rattle.model.specs.Machine.{Fate, startedJob, neither, fateBy, roomAt, fateOf, releasedTo, released, due}
+use Rattle.model.specs.Machine.{arriveBy, arrive, oldestBy, startBy, startOldest, startWaiting, enter}
+use Rattle.model.specs.Arrivals.{Arrival, arrival, firstStarts, seenStartBy, seenStarts}
 use Rattle.model.specs.Arrivals.{seenArriveBy, seenArrive, seenEnter}
 use Rattle.model.proofs.Lists.{test?}
 
@@ -38,7 +39,7 @@ pub data Entering (m : Machine) : Machine → Type 0 where
 abbrev pub notes : {m n : Machine} → Entering m n → List Arrival → List Arrival
 notes {m} (oldest p r l h u w) xs = firstStarts p (m .now) xs
 notes {m} (starts r l d u) xs = xs ++ (arrival r (startedJob (m .now)) ∷ [])
-notes (waits r l d u k) xs = xs ++ (arrival r A.waits ∷ [])
+notes (waits r l d u k) xs = xs ++ (arrival r M.waits ∷ [])
 notes (drops r l d u k) xs = xs ++ (arrival r neither ∷ [])
 
 pub data Entered : Machine → List Arrival → Machine → List Arrival → Type 0 where
@@ -61,8 +62,8 @@ entered-then (then s r) b = then s (entered-then r b)
 
 -- RELEASES
 module _ {m : Machine} {r : Release} {l : List Release} (d : Due m r l) where
-  release-by : (a : Bool) → unfinishedAt m (r .task) ≡ a → (b : Bool) → roomAt m (r .task) ≡ b → Entering m (toCome (releaseBy a b r m) l)
-  unfolding releaseBy
+  release-by : (a : Bool) → unfinishedAt m (r .task) ≡ a → (b : Bool) → roomAt m (r .task) ≡ b → Entering m (toCome (releasedTo (fateBy a b (m .now)) r m) l)
+  unfolding releasedTo
   release-by false u b k = starts r l d u
   release-by true u true k = waits r l d u (ltb-true _ _ k)
   release-by true u false k = drops r l d u (ltb-false _ _ k)
@@ -72,7 +73,7 @@ module _ {m : Machine} {r : Release} {l : List Release} (d : Due m r l) where
 
   release-notes : (xs : List Arrival) (a : Bool) (u : unfinishedAt m (r .task) ≡ a) (b : Bool) (k : roomAt m (r .task) ≡ b)
       → notes (release-by a u b k) xs ≡ xs ++ (arrival r (fateBy a b (m .now)) ∷ [])
-  unfolding releaseBy release-by
+  unfolding releasedTo release-by
   release-notes xs false u b k = refl
   release-notes xs true u true k = refl
   release-notes xs true u false k = refl
@@ -84,11 +85,11 @@ module _ {m : Machine} {r : Release} {l : List Release} (d : Due m r l) where
       then release-enters (subst (λ (z : List Arrival). Entered (toCome (released r m) l) z n ys) (sym e) rest)
 
 -- the releases still to come do not count in what arrives
-release-any : (a b : Bool) (r : Release) (m : Machine) (rs : List Release) → releaseBy a b r (toCome m rs) ≡ toCome (releaseBy a b r m) rs
-unfolding releaseBy
-release-any false b r m rs = refl
-release-any true true r m rs = refl
-release-any true false r m rs = refl
+release-any : (f : Fate) (r : Release) (m : Machine) (rs : List Release) → releasedTo f r (toCome m rs) ≡ toCome (releasedTo f r m) rs
+unfolding releasedTo
+release-any (startedJob t) r m rs = refl
+release-any M.waits r m rs = refl
+release-any neither r m rs = refl
 
 arrive-any : (l : List Release) (m : Machine) (rs : List Release) → arrive l (toCome m rs) ≡ arrive l m
 unfolding arrive arriveBy
@@ -97,7 +98,7 @@ arrive-any (r ∷ l) m rs = go (eqb (r .tick) (m .now)) (arrive-any l)
   where
     go : (b : Bool) → ((m : Machine) (rs : List Release) → arrive l (toCome m rs) ≡ arrive l m)
         → arriveBy b (arrive l) r l (toCome m rs) ≡ arriveBy b (arrive l) r l m
-    go true on = ap (arrive l) (release-any (unfinishedAt m (r .task)) (roomAt m (r .task)) r m rs) ∙ on (released r m) rs
+    go true on = ap (arrive l) (release-any (fateOf r m) r m rs) ∙ on (released r m) rs
     go false on = refl
 
 -- a release that is due has arrived; none is due
@@ -127,7 +128,7 @@ noted-any (r ∷ l) m rs xs = go (eqb (r .tick) (m .now)) (noted-any l)
         → seenArriveBy b (seenArrive l) r (toCome m rs) xs ≡ seenArriveBy b (seenArrive l) r m xs
     go true on =
         let noted = xs ++ (arrival r (fateOf r m) ∷ []) in
-        ap (λ (n : Machine). seenArrive l n noted) (release-any (unfinishedAt m (r .task)) (roomAt m (r .task)) r m rs) ∙ on (released r m) rs noted
+        ap (λ (n : Machine). seenArrive l n noted) (release-any (fateOf r m) r m rs) ∙ on (released r m) rs noted
     go false on = refl
 
 pub arrive-enters : (l : List Release) (m : Machine) (xs : List Arrival) → m .releases ≡ l → Entered m xs (arrive l m) (seenArrive l m xs)
@@ -162,7 +163,7 @@ arrive-all (r ∷ l) m = test? (eqb (r .tick) (m .now)) (λ d. rw d (arrive-all 
 -- THOSE THAT WAIT
 oldest-then : (p : ℕ) (m : Machine) {k : Machine} (xs : List Arrival) {ys : List Arrival} → p < maxTasks
     → Entered (startOldest p m) (seenStartBy (unfinishedAt m p) (waitingAt (m .waiting) p) p (m .now) xs) k ys → Entered m xs k ys
-unfolding startBy seenStartBy
+unfolding oldestBy
 oldest-then p m {k} xs {ys} h = go (unfinishedAt m p) refl (waitingAt (m .waiting) p) refl
   where
     go : (b : Bool) → unfinishedAt m p ≡ b → (l : List Release) → waitingAt (m .waiting) p ≡ l
@@ -177,7 +178,7 @@ start-all zero m xs h = nothing
 start-all (suc p) m xs h = oldest-then p m xs h (start-all p (startOldest p m) _ (omega arith))
 
 pub oldest-releases : (p : ℕ) (m : Machine) → startOldest p m .releases ≡ m .releases
-unfolding startBy
+unfolding oldestBy
 oldest-releases p m = go (unfinishedAt m p) (waitingAt (m .waiting) p)
   where
     go : (b : Bool) (l : List Release) → startBy b l p m .releases ≡ m .releases

@@ -11,7 +11,7 @@ use Rattle.model.specs.Lists.{at}
 use Rattle.model.specs.Command.{Release}
 use Rattle.model.specs.Job.{Task}
 use Rattle.model.specs.Machine.{Machine, noTask, waitingAt, unfinished, unfinishedAt, starting, behind, dropping, released, toCome}
-use Rattle.model.specs.Machine.{startBy, startOldest, startWaiting, arrive, enter, none?, noneWaits}
+use Rattle.model.specs.Machine.{oldestBy, startBy, startOldest, startWaiting, arrive, enter, none?, noneWaits}
 use Rattle.model.proofs.Lists.{same?, replace-same, replace-other, length-replace, at-past}
 use Rattle.model.proofs.Fit.Elements.{and-false, replace-part}
 use Rattle.model.proofs.Fit.Enter.{Entering, oldest, starts, waits, drops, along, arrive-enters, NoneDue, none-arrives, due-arrives}
@@ -69,7 +69,7 @@ arrive-settled {l} {m} e f = along SettledFit (λ m n. entering-settled) (arrive
 
 -- THOSE THAT WAIT START
 oldest-settled : {p : ℕ} (m : Machine) → p < length (m .tasks) → SettledAt (startOldest p m) p
-unfolding startBy
+unfolding oldestBy
 oldest-settled {p} m h = go (unfinishedAt m p) refl (waitingAt (m .waiting) p) refl
   where
     go : (b : Bool) → unfinishedAt m p ≡ b → (l : List Release) → waitingAt (m .waiting) p ≡ l → SettledAt (startBy b l p m) p
@@ -79,7 +79,7 @@ oldest-settled {p} m h = go (unfinishedAt m p) refl (waitingAt (m .waiting) p) r
 
 module _ (m : Machine) {p q : ℕ} (d : q ≢ p) where
   oldest-other : SettledAt m q → SettledAt (startOldest p m) q
-  unfolding startBy
+  unfolding oldestBy
   oldest-other f = go (unfinishedAt m p) (waitingAt (m .waiting) p)
     where
       go : (b : Bool) (l : List Release) → SettledAt (startBy b l p m) q
@@ -88,7 +88,7 @@ module _ (m : Machine) {p q : ℕ} (d : q ≢ p) where
       go false (r ∷ l) = λ i. behind-other m d l ∙ f (sym (started-other (behind p l m) d) ∙ i)
 
 oldest-size : (p : ℕ) (m : Machine) → length (startOldest p m .tasks) ≡ length (m .tasks)
-unfolding startBy
+unfolding oldestBy
 oldest-size p m = go (unfinishedAt m p) (waitingAt (m .waiting) p)
   where
     go : (b : Bool) (l : List Release) → length (startBy b l p m .tasks) ≡ length (m .tasks)
@@ -109,7 +109,7 @@ start-settled m z w = start-on maxTasks m (omega arith) z (λ q l i. at-past [] 
 
 -- nobody starts in a machine that is settled
 pub none-starts : (n : ℕ) {m : Machine} → Settled m → startWaiting n m ≡ m
-unfolding startWaiting startBy
+unfolding startWaiting oldestBy
 none-starts zero f = refl
 none-starts (suc p) {m} f = ap (startWaiting p) here ∙ none-starts p f
   where
@@ -123,7 +123,7 @@ none-starts (suc p) {m} f = ap (startWaiting p) here ∙ none-starts p f
 -- only task p can have one to start
 module _ (m : Machine) (p : ℕ) (z : length (m .tasks) ≡ maxTasks) (others : (q : ℕ) → q ≢ p → SettledAt m q) where
   oldest-none : (k : ℕ) → k ≢ p → startOldest k m ≡ m
-  unfolding startBy
+  unfolding oldestBy
   oldest-none k d = go (unfinishedAt m k) refl
     where
       go : (b : Bool) → unfinishedAt m k ≡ b → startBy b (waitingAt (m .waiting) k) k m ≡ m

@@ -175,7 +175,14 @@ unfolding inTick arrivedAt
 in-tick m u = go (after m u)
   where
     go : After m u → InTick m u
-    go (inl e) = record { memory = rw e refl; tasks = rw e refl; waiting = rw e refl; runs = rw e refl }
+    go (inl e) =
+        let same : enter (run u m) ≡ enter (stateAfter m u) = ap enter e in
+        record {
+          memory = ap (λ (n : Machine). n .memory) same;
+          tasks = ap (λ (n : Machine). n .tasks) same;
+          waiting = ap (λ (n : Machine). n .waiting) same;
+          runs = ap runningOf same;
+        }
     go (inr k) =
         let over : over (stateAfter m u) ≡ true = sym (over-alike (k .1)) ∙ k .0 in
         let a = over-arrives (run u m) (k .0) in
