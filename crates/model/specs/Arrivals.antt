@@ -5,8 +5,8 @@ use mathlib.Core.List.{List, [], _∷_, _++_}
 use lib.Dec.{eqb}
 use Rattle.model.specs.Ceilings.{maxTasks}
 use Rattle.model.specs.Command.{Release}
-use Rattle.model.specs.Machine.{Machine, waitingAt, unfinishedAt, Fate, startedJob, waits, neither, fateOf, releasedTo, released, due}
-use Rattle.model.specs.Machine.{oldestBy, startOldest, startWaiting, beside}
+use Rattle.model.specs.Machine.{Machine, waitingAt, unfinishedAt, oldestBy, startOldest, startWaiting, beside}
+use Rattle.model.specs.Machine.{Fate, startedJob, waits, neither, fateOf, releasedTo, released, due}
 
 pub record Arrival : Type 0 where
   pub release : Release

@@ -45,7 +45,8 @@ pub record RunDrops (limit : ℕ) (m : Machine) : Type 0 where
   pub toCome : (r : Release) → In r (run limit m .releases) → run limit m .now ≤ r .tick
   -- those that started are as many as the task's jobs, and in each tick done as many as the jobs that start in it
   pub started : (p : ℕ) → number started? p (arrivalsOf limit m) ≡ jobsOf (taskAt (run limit m .tasks) p)
-  pub startedIn : (p u : ℕ) → number (startedIn? u) p (arrivalsOf limit m) ≡ onlyIf (ltb u (run limit m .now)) (oneIf (jobStarts m p u))
+  pub startedIn : (p u : ℕ) → number (startedIn? u) p (arrivalsOf limit m)
+      ≡ onlyIf (ltb u (run limit m .now)) (oneIf (jobStarts m p u))
   -- those that wait are those that the machine keeps
   pub waiting : (p : ℕ) → withFate waits? p (arrivalsOf limit m) ≡ waitingAt (run limit m .waiting) p
 
