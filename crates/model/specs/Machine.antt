@@ -165,8 +165,9 @@ pub data Fate : Type 0 where
   waits : Fate
   neither : Fate
 
--- By: the task's job is unfinished, and there is room behind it. A release to a task whose job is unfinished waits behind it,
--- or is dropped where there is no room; else a job starts.
+-- By: the task's job is unfinished, and there is room behind it.
+-- A release to a task whose job is unfinished waits behind it, or is dropped where there is no room;
+-- else a job starts, in tick t.
 abbrev pub fateBy : Bool → Bool → ℕ → Fate
 fateBy false room t = startedJob t
 fateBy true true t = waits
