@@ -45,8 +45,8 @@ pub fn made_files(name: &str) -> io::Result<Vec<(PathBuf, Vec<u8>)>> {
 fn chart_options(name: &str) -> Option<Options> {
     let (title, names): (&str, &[&str]) = match name {
         "worked/p5" => ("P5: t1 Marks t0 and then fails itself, so both answer no", &[]),
-        "worked/release-dropped" => {
-            ("Six releases of sheet A's task: four wait, the last is dropped", &[])
+        "worked/drops-of-two-tasks" => {
+            ("Two tasks released too often: four wait for each, t0 drops two, t1 one", &[])
         }
         "cold-room" => (
             "The cold room: five tasks, the guard above them",
