@@ -57,7 +57,8 @@ table =
     (came 0 0 (startedJob 0) ∷ came 1 0 (startedJob 12) ∷ came 2 0 (startedJob 23)
     ∷ came 3 0 (startedJob 34) ∷ came 4 0 (startedJob 45) ∷ came 5 0 neither ∷ [])
     -- before tick 5, which is not done, the sixth has not arrived; in the last tick that the limit allows it has
-    ∷ seenBy 5 (sheetAAt (0 ∷ 1 ∷ 2 ∷ 3 ∷ 4 ∷ 5 ∷ [])) (came 0 0 (startedJob 0) ∷ came 1 0 waits ∷ came 2 0 waits ∷ came 3 0 waits ∷ came 4 0 waits ∷ [])
+    ∷ seenBy 5 (sheetAAt (0 ∷ 1 ∷ 2 ∷ 3 ∷ 4 ∷ 5 ∷ []))
+    (came 0 0 (startedJob 0) ∷ came 1 0 waits ∷ came 2 0 waits ∷ came 3 0 waits ∷ came 4 0 waits ∷ [])
     ∷ seenBy 6 (sheetAAt (0 ∷ 1 ∷ 2 ∷ 3 ∷ 4 ∷ 5 ∷ []))
     (came 0 0 (startedJob 0) ∷ came 1 0 waits ∷ came 2 0 waits ∷ came 3 0 waits ∷ came 4 0 waits ∷ came 5 0 neither ∷ [])
     -- at limit 12 the oldest still waits, at 13 it has started, and the release of tick 12 waits for it

@@ -1,10 +1,12 @@
 -- A count of a task rises by one.
 use Prim.Native.Nat.{ℕ, suc, _+_, _%_, _<_}
 use mathlib.Core.Path.{_≡_, refl, ap, _∙_}
-use mathlib.Core.Logic.{_≢_}
+use mathlib.Core.Bool.{true, false}
 use mathlib.Core.List.{List}
 use native.Mathlib.Omega.{arith}
+use lib.Dec.{eqb, ltb}
 use lib.ListN.{length}
+use borrow.Author.Tests.{ltb-true, eqb-false}
 use Rattle.model.specs.Lists.{at}
 use Rattle.model.specs.Command as C
 use Rattle.model.specs.Job as J
@@ -31,27 +33,22 @@ countNumber J.dropped = count.dropped
 
 -- IN THE RECORD
 module _ (t : Own) (size : length (t .counts) ≡ 8) where
-  same : (n : ℕ) → n < 8 → at 0 (t .counts) n < 4294967295 → at 0 (counted t n .counts) n ≡ suc (at 0 (t .counts) n)
+  same : (n : ℕ) → ltb n 8 ≡ true → at 0 (t .counts) n < 4294967295 → at 0 (counted t n .counts) n ≡ suc (at 0 (t .counts) n)
   unfolding counted
   same n eight few =
       let once : (at 0 (t .counts) n + 1) % 4294967296 ≡ suc (at 0 (t .counts) n) = omega arith in
-      replace-same 0 (t .counts) n _ (omega arith) ∙ once
+      replace-same 0 (t .counts) n _ (omega (arith, ltb-true n 8 eight)) ∙ once
 
-  other : (n m : ℕ) → m ≢ n → at 0 (counted t n .counts) m ≡ at 0 (t .counts) m
+  other : (n m : ℕ) → eqb m n ≡ false → at 0 (counted t n .counts) m ≡ at 0 (t .counts) m
   unfolding counted
-  other n m d = replace-other 0 (t .counts) n m _ d
+  other n m e = replace-other 0 (t .counts) n m _ (eqb-false m n e)
 
   pub counted-counts : (c : J.Count) → at 0 (t .counts) (countNumber c) < 4294967295 → countsOf (counted t (countNumber c)) ≡ J.raised c (countsOf t)
-  counted-counts J.finished few =
-      rw (same 0 (omega arith) few, other 0 1 (λ z. omega arith), other 0 2 (λ z. omega arith), other 0 3 (λ z. omega arith), other 0 4 (λ z. omega arith))
-  counted-counts J.spent few =
-      rw (other 1 0 (λ z. omega arith), same 1 (omega arith) few, other 1 2 (λ z. omega arith), other 1 3 (λ z. omega arith), other 1 4 (λ z. omega arith))
-  counted-counts J.rejected few =
-      rw (other 2 0 (λ z. omega arith), other 2 1 (λ z. omega arith), same 2 (omega arith) few, other 2 3 (λ z. omega arith), other 2 4 (λ z. omega arith))
-  counted-counts J.ticks few =
-      rw (other 3 0 (λ z. omega arith), other 3 1 (λ z. omega arith), other 3 2 (λ z. omega arith), same 3 (omega arith) few, other 3 4 (λ z. omega arith))
-  counted-counts J.dropped few =
-      rw (other 4 0 (λ z. omega arith), other 4 1 (λ z. omega arith), other 4 2 (λ z. omega arith), other 4 3 (λ z. omega arith), same 4 (omega arith) few)
+  counted-counts J.finished few = rw (same 0 refl few, other 0 1 refl, other 0 2 refl, other 0 3 refl, other 0 4 refl)
+  counted-counts J.spent few = rw (other 1 0 refl, same 1 refl few, other 1 2 refl, other 1 3 refl, other 1 4 refl)
+  counted-counts J.rejected few = rw (other 2 0 refl, other 2 1 refl, same 2 refl few, other 2 3 refl, other 2 4 refl)
+  counted-counts J.ticks few = rw (other 3 0 refl, other 3 1 refl, other 3 2 refl, same 3 refl few, other 3 4 refl)
+  counted-counts J.dropped few = rw (other 4 0 refl, other 4 1 refl, other 4 2 refl, other 4 3 refl, same 4 refl few)
 
 -- IT DOES NOT SHOW in a job's shape
 module _ (t : Own) (i : ℕ) where

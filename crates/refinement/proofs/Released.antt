@@ -203,7 +203,8 @@ module _ (sheet : List ℕ) (program : List BodyCommand) (bounds : List ℕ) (mo
 
   -- A RELEASE OF THE SHEET, to a machine in which none waits behind a job that has ended
   sheet-release : (r : C.Release) → Settled m → (b room : Bool) → busy (w .jobs) p ≡ b → ltb (length queue) maxWaiting ≡ room → r .task ≡ p
-      → Settled (M.toCome (M.releasedTo (M.fateBy b room (m .now)) r m) coming) → ReleasedFits (M.toCome (M.releasedTo (M.fateBy b room (m .now)) r m) coming) (releasedIf b (length queue))
+      → Settled (M.toCome (M.releasedTo (M.fateBy b room (m .now)) r m) coming)
+      → ReleasedFits (M.toCome (M.releasedTo (M.fateBy b room (m .now)) r m) coming) (releasedIf b (length queue))
   unfolding M.releasedTo
   sheet-release r settled true true e k to after =
       let is : M.toCome (M.behind p (queue ++ (r ∷ [])) m) coming ≡ M.toCome (M.releasedTo M.waits r m) coming =

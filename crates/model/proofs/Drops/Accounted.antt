@@ -51,7 +51,8 @@ in-append r (y ∷ l) x (inr i) = go (in-append r l x i)
     go (inl i) = inl (inr i)
     go (inr e) = inr e
 
-module _ {s : Sheet} {m : Machine} {xs : List Arrival} (a : Accounted s (suc (m .now)) m xs) {r : Release} {l : List Release} (d : Due m r l) (f : Fate) where
+module _ {s : Sheet} {m : Machine} {xs : List Arrival} (a : Accounted s (suc (m .now)) m xs) {r : Release} {l : List Release} (d : Due m r l)
+    (f : Fate) where
   abbrev seen : List Arrival
   seen = xs ++ (arrival r f ∷ [])
 
@@ -85,7 +86,8 @@ module _ {s : Sheet} (c : SheetFit s) where
       → jobsOf (taskAt (starting p m .tasks) q) ≡ jobsOf (taskAt (m .tasks) q) + oneIf (eqb p q)
   starting-jobs m p h u = raised-at jobsOf (m .tasks) p (started (taskAt (m .tasks) p)) h (rw u (omega arith))
 
-  pub entering-accounted : (m n : Machine) (xs : List Arrival) (e : Entering m n) → Accounted s (suc (m .now)) m xs → Accounted s (suc (n .now)) n (notes e xs)
+  pub entering-accounted : (m n : Machine) (xs : List Arrival) (e : Entering m n) → Accounted s (suc (m .now)) m xs
+      → Accounted s (suc (n .now)) n (notes e xs)
   entering-accounted m n xs (oldest p r l h u w) a =
       let t = m .now in
       let some : withFate waits? p xs ≡ r ∷ l = a .waiting p ∙ w in

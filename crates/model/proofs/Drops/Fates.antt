@@ -114,7 +114,8 @@ module _ (p t : ℕ) where
       same true e = omega arith
       same false e = e
 
-  module _ (is? : Fate → Bool) (out : is? waits ≡ false) (q : ℕ) (xs : List Arrival) {r : Release} {l : List Release} (w : withFate waits? p xs ≡ r ∷ l) where
+  module _ (is? : Fate → Bool) (out : is? waits ≡ false) (q : ℕ) (xs : List Arrival) {r : Release} {l : List Release}
+      (w : withFate waits? p xs ≡ r ∷ l) where
     pub first-number : is? (startedJob t) ≡ true → number is? q (firstStarts p t xs) ≡ number is? q xs + oneIf (eqb p q)
     first-number e = first-both is? out q xs w ∙ rw (e, and-yes (eqb p q)) refl
 

@@ -121,8 +121,12 @@ module _ {s : Sheet} (c : SheetFit s) where
   abbrev m : Machine
   m = startMachine s
 
+  -- how many jobs of task p start in tick u
+  abbrev startsIn : ℕ → ℕ → ℕ
+  startsIn p u = oneIf (startsBetween (stateAfter m u) (arrivedAt m u) p)
+
   abbrev StartsSeen : ℕ → ℕ → ℕ → Type 0
-  StartsSeen t p u = number (startedIn? u) p (seenAfter seenEnter [] m t) ≡ onlyIf (ltb u t) (oneIf (startsBetween (stateAfter m u) (arrivedAt m u) p))
+  StartsSeen t p u = number (startedIn? u) p (seenAfter seenEnter [] m t) ≡ onlyIf (ltb u t) (startsIn p u)
 
   -- none in a tick that is not done
   none-later : (t p u : ℕ) → t ≤ u → StartsSeen t p u → number (startedIn? u) p (seenAfter seenEnter [] m t) ≡ 0
@@ -142,7 +146,7 @@ module _ {s : Sheet} (c : SheetFit s) where
       let k = in-tick t seen in
       same? u t
       (λ z. rw (z, lt-ltb t (suc t) (omega arith)) (rw now at (k .here p)))
-      (λ d. k .before p u (λ e. d (e ∙ now)) ∙ seen p u ∙ ap (λ (b : Bool). onlyIf b (oneIf (startsBetween (stateAfter m u) (arrivedAt m u) p))) (earlier d))
+      (λ d. k .before p u (λ e. d (e ∙ now)) ∙ seen p u ∙ ap (λ (b : Bool). onlyIf b (startsIn p u)) (earlier d))
     where
       earlier : u ≢ t → ltb u t ≡ ltb u (suc t)
       earlier d = below? u t

@@ -62,7 +62,8 @@ entered-then (then s r) b = then s (entered-then r b)
 
 -- RELEASES
 module _ {m : Machine} {r : Release} {l : List Release} (d : Due m r l) where
-  release-by : (a : Bool) → unfinishedAt m (r .task) ≡ a → (b : Bool) → roomAt m (r .task) ≡ b → Entering m (toCome (releasedTo (fateBy a b (m .now)) r m) l)
+  release-by : (a : Bool) → unfinishedAt m (r .task) ≡ a → (b : Bool) → roomAt m (r .task) ≡ b
+      → Entering m (toCome (releasedTo (fateBy a b (m .now)) r m) l)
   unfolding releasedTo
   release-by false u b k = starts r l d u
   release-by true u true k = waits r l d u (ltb-true _ _ k)
@@ -78,7 +79,8 @@ module _ {m : Machine} {r : Release} {l : List Release} (d : Due m r l) where
   release-notes xs true u true k = refl
   release-notes xs true u false k = refl
 
-  release-then : {n : Machine} {xs ys : List Arrival} → Entered (toCome (released r m) l) (xs ++ (arrival r (fateOf r m) ∷ [])) n ys → Entered m xs n ys
+  release-then : {n : Machine} {xs ys : List Arrival} → Entered (toCome (released r m) l) (xs ++ (arrival r (fateOf r m) ∷ [])) n ys
+      → Entered m xs n ys
   unfolding release-enters
   release-then {n} {xs} {ys} rest =
       let e = release-notes xs (unfinishedAt m (r .task)) refl (roomAt m (r .task)) refl in

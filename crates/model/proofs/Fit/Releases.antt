@@ -55,7 +55,8 @@ started-fit {words} {blocks} {t = t} b f =
     }
 
 -- a release to it is dropped
-dropped-fit : {words blocks now : ℕ} {text : List BodyCommand} {t : Task} → TaskFit words blocks text now t → TaskFit words blocks text now (counting dropped t)
+dropped-fit : {words blocks now : ℕ} {text : List BodyCommand} {t : Task} → TaskFit words blocks text now t
+    → TaskFit words blocks text now (counting dropped t)
 dropped-fit f =
     record { body = f .body; registers = f .registers; copies = f .copies; counts = f .counts; ticks = f .ticks; phase = f .phase }
 
