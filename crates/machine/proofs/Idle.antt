@@ -10,23 +10,11 @@ use Rattle.model.specs.Command.{commandAt}
 use Rattle.commands.specs.declared.BodyCommand.{BodyCommand}
 use Rattle.state.specs.State.{Shared, Own}
 use Rattle.jobs.specs.declared.Job.{Job}
-use Rattle.machine.specs.Flat.{
-  pendingAt,
-  dueBy,
-  nobody,
-  comingFor,
-  comingBy,
-  stopsBy,
-  untilOf,
-  idledBy,
-  FlatMachine,
-  flat,
-  ticked,
-  Ends,
-}
-use Rattle.machine.specs.declared.releases.Pending.{Pending}
-use Rattle.machine.specs.declared.releases.Coming.{Coming}
-use Rattle.machine.specs.declared.releases.Coming.the-variants.{Due}
+use Rattle.arrivals.specs.Arrivals.{pendingAt, dueBy, nobody, comingFor, comingBy, stopsBy, untilOf, idledBy}
+use Rattle.arrivals.specs.declared.releases.Pending.{Pending}
+use Rattle.arrivals.specs.declared.releases.Coming.{Coming}
+use Rattle.arrivals.specs.declared.releases.Coming.the-variants.{Due}
+use Rattle.machine.specs.Flat.{FlatMachine, flat, ticked, Ends}
 use Rattle.machine.proofs.Runs.{after-tick, until-limit, until-due, none-ready}
 
 -- the tick after idle ones is a later one

@@ -1,7 +1,6 @@
--- The highest set bit of a mask of eight, by its leading zeros; the powers of two that are the tasks' bits.
+-- The highest set bit of a mask of eight, by its leading zeros.
 use mathlib.Core.Path.{_≡_, refl, sym, _∙_, subst}
 use mathlib.Core.Logic.{_⊎_, inl, inr}
-use mathlib.Core.List.{[], _∷_}
 use Prim.Native.Nat.{ℕ, zero, suc, _+_, _-_, _/_, _^_, _≤_, _<_}
 use native.Mathlib.Nat.{le-trans, lt-of-not-le, not-le-of-lt, pow-le-pow-right, pow-suc, div-eq-of-lt-le}
 use native.Mathlib.Nat.{div-eq-of-lt, lt-of-lt-of-le, eq-or-lt-of-le, le-of-suc-le-suc, not-suc-le-zero}
@@ -9,19 +8,7 @@ use native.Mathlib.Omega.{arith}
 use borrow.Author.Tests.{ne-eqb}
 use lib.Count.{leadingZeros, leading-top}
 use lib.Dec.{lit<, lit≤}
-use lib.ListN.{getD}
 use Rattle.machine.specs.Flat.{topOf}
-
-pub power-at : (i : ℕ) → i < 8 → getD (1 ∷ 2 ∷ 4 ∷ 8 ∷ 16 ∷ 32 ∷ 64 ∷ 128 ∷ []) i 0 ≡ 2 ^ i
-power-at zero h = refl
-power-at (suc zero) h = refl
-power-at (suc (suc zero)) h = refl
-power-at (suc (suc (suc zero))) h = refl
-power-at (suc (suc (suc (suc zero)))) h = refl
-power-at (suc (suc (suc (suc (suc zero))))) h = refl
-power-at (suc (suc (suc (suc (suc (suc zero)))))) h = refl
-power-at (suc (suc (suc (suc (suc (suc (suc zero))))))) h = refl
-power-at (suc (suc (suc (suc (suc (suc (suc (suc i)))))))) h = absurd (omega arith)
 
 -- the highest of the tasks that a mask has is the one whose bit is the mask's highest
 top-is : (k m r : ℕ) → r < k → m / 2 ^ r ≡ 1 → m < 2 ^ suc r → topOf k m ≡ r

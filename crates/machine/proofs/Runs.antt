@@ -19,41 +19,13 @@ use Rattle.exchanges.specs.Places.{Noted, noted, Left, left}
 use Rattle.jobs.specs.declared.Phase.{Phase}
 use Rattle.jobs.specs.declared.Job.{Job}
 use Rattle.statements.specs.Statements.{beginTick, stepTick, starting?, lineOf, statement}
-use Rattle.machine.specs.Flat.{
-  unfinished?,
-  stopsBy,
-  topOf,
-  droppedBy,
-  waitingBy,
-  begunBy,
-  zeroedBy,
-  startedBy,
-  finished,
-  tickOf,
-  leftBy,
-  readyBy,
-  FlatMachine,
-  flat,
-  noJob,
-}
-use Rattle.machine.specs.Flat.{
-  pendingAt,
-  nobody,
-  comingFor,
-  comingBy,
-  untilBy,
-  untilOf,
-  released,
-  ticked,
-  comingIn,
-  Ends,
-  stopped,
-  arrives,
-  moves,
-}
-use Rattle.machine.specs.declared.releases.Pending.{Pending}
-use Rattle.machine.specs.declared.releases.Coming.{Coming}
-use Rattle.machine.specs.declared.releases.Coming.the-variants.{Nothing, Later, Due}
+use Rattle.arrivals.specs.Arrivals.{unfinished?, pendingAt, nobody, comingFor, comingBy, stopsBy, untilBy, untilOf}
+use Rattle.arrivals.specs.Arrivals.{droppedBy, waitingBy, begunBy, zeroedBy, startedBy}
+use Rattle.arrivals.specs.declared.releases.Pending.{Pending}
+use Rattle.arrivals.specs.declared.releases.Coming.{Coming}
+use Rattle.arrivals.specs.declared.releases.Coming.the-variants.{Nothing, Later, Due}
+use Rattle.machine.specs.Flat.{topOf, FlatMachine, flat, noJob, released, finished, tickOf, leftBy, readyBy, ticked}
+use Rattle.machine.specs.Flat.{comingIn, Ends, stopped, arrives, moves}
 
 -- one turn more of the loop while the highest task is not the one at hand
 abbrev pub apart : Bool → ℕ

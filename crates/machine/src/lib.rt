@@ -1,4 +1,2 @@
-// The machine: the releases, what one does to its task, and the run.
-pub mod arrivals;
-pub mod releases;
+// The machine: who runs, and the run, which can be paused.
 pub mod run;

@@ -22,8 +22,8 @@ use Rattle.commands.specs.declared.BodyCommand.{BodyCommand}
 use Rattle.state.specs.State.{Own, own}
 use Rattle.state.specs.Held.{memoryOf}
 use Rattle.jobs.specs.Jobs.{jobAt, dropped, counted}
-use Rattle.machine.specs.Flat.{unfinished?, nobody, FlatMachine, flat, noJob, jobOf, ownOf, waitingBy, begunBy, zeroing}
-use Rattle.machine.specs.Flat.{recordBy, startedBy, released}
+use Rattle.arrivals.specs.Arrivals.{unfinished?, nobody, waitingBy, begunBy, zeroing, startedBy, recordBy}
+use Rattle.machine.specs.Flat.{FlatMachine, flat, noJob, jobOf, ownOf, released}
 use Rattle.jobs.specs.declared.Phase.the-variants as Phase
 use Rattle.jobs.specs.declared.Job.{Job}
 use Rattle.program.specs.Program.{Programmed, bodyIn}

@@ -11,9 +11,9 @@ use Rattle.model.specs.Refusal.{Refusal}
 use Rattle.model.specs.Command.{Release, Command, WORD, BLOCK, TASK, RELEASE, END, body, Found, found, refused, foundByte, commandAt}
 use Rattle.model.specs.Sheet.{listed, commandsFrom}
 use Rattle.model.proofs.Fit.Reading.{found-at}
-use Rattle.machine.specs.Flat.{pendingAt, dueBy, comingOf}
-use Rattle.machine.specs.declared.releases.Coming.{Coming}
-use Rattle.machine.specs.declared.releases.Coming.the-variants.{Nothing, Later, Due}
+use Rattle.arrivals.specs.Arrivals.{pendingAt, dueBy, comingOf}
+use Rattle.arrivals.specs.declared.releases.Coming.{Coming}
+use Rattle.arrivals.specs.declared.releases.Coming.the-variants.{Nothing, Later, Due}
 
 -- nothing is found past the end
 none-past : (sheet : List ℕ) (n place : ℕ) → length sheet ≤ place → commandsFrom n sheet place ≡ []

@@ -29,10 +29,11 @@ use Rattle.model.proofs.Fit.RangesStatement.{entering-range, tick-range}
 use Rattle.commands.specs.declared.BodyCommand.{BodyCommand}
 use Rattle.exchanges.specs.Places.{if}
 use Rattle.jobs.specs.Jobs.{dropped}
-use Rattle.machine.specs.Flat.{nobody, pendingAt, comingOf, stopsBy, topOf, FlatMachine, ownOf, tickedFor, passed, comingIn, released, ticked}
+use Rattle.arrivals.specs.Arrivals.{pendingAt, comingOf, nobody, stopsBy}
+use Rattle.arrivals.specs.declared.releases.Coming.{Coming}
+use Rattle.arrivals.specs.declared.releases.Coming.the-variants.{Nothing, Later, Due}
+use Rattle.machine.specs.Flat.{topOf, FlatMachine, ownOf, tickedFor, passed, comingIn, released, ticked}
 use Rattle.machine.specs.Flat.{Ends, limited, stopped, arrives, moves}
-use Rattle.machine.specs.declared.releases.Coming.{Coming}
-use Rattle.machine.specs.declared.releases.Coming.the-variants.{Nothing, Later, Due}
 use Rattle.program.specs.Program.{Programmed}
 use Rattle.refinement.proofs.Releases.{releasesFrom, DueAt, ComingAt, coming-at}
 use Rattle.refinement.proofs.Unfinished.{busy, Top, none, some, top}

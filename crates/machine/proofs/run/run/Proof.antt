@@ -8,11 +8,12 @@ use lib.Dec.{eqb, ltb}
 use lib.ListN.{length, getD, set, length-set}
 use Rattle.model.specs.Command.{commandAt}
 use Rattle.state.specs.State.{shared, own}
-use Rattle.machine.specs.Flat.{unfinished?, topOf, pendingAt, nobody, comingBy, leftBy, readyBy, FlatMachine, flat, Ends, limited}
-use Rattle.machine.specs.declared.releases.Coming.{Coming}
-use Rattle.machine.specs.declared.releases.Coming.the-variants.{Nothing, Later, Due}
-use Rattle.machine.proofs.releases.Coming.{the-type}
-use Rattle.machine.proofs.Pending.{waits-most, toCome, due-less}
+use Rattle.arrivals.specs.Arrivals.{unfinished?, pendingAt, nobody, comingBy}
+use Rattle.arrivals.specs.declared.releases.Coming.{Coming}
+use Rattle.arrivals.specs.declared.releases.Coming.the-variants.{Nothing, Later, Due}
+use Rattle.arrivals.proofs.releases.Coming.{the-type}
+use Rattle.arrivals.proofs.Pending.{waits-most, toCome, due-less}
+use Rattle.machine.specs.Flat.{topOf, leftBy, readyBy, FlatMachine, flat, Ends, limited}
 use Rattle.machine.proofs.Idle.{idled-later, idled-ticks}
 use Rattle.machine.proofs.Runs.{apart, apart-most, same-machine, switched, resumed, release-turn, after-release, after-stop}
 use Rattle.machine.proofs.Runs.{either, came, begin-statement, step-statement, until-limit, until-due, none-ready, goes-before, stretch}
