@@ -247,9 +247,9 @@ pub fn run(
             let found = jobs[i];
             let phase = found.phase;
             let behind = waiting[i];
+            arrivals::drop_by(&mut tasks[i], behind, phase);
             waiting[i] = arrivals::wait_by(behind, phase);
             mask = arrivals::begun(mask, i, phase);
-            arrivals::drop_by(&mut tasks[i], behind, phase);
             arrivals::zero_by(&mut tasks[i], phase);
             job = arrivals::started(found, bound(bounds, i));
             ready = releases::NOBODY;

@@ -107,27 +107,24 @@ array-copy-out-found c = omega (arith, c .task-number .ensures .1)
 array-read-behind : tie.Need-array-read-behind Inv-loop2 μ-loop2 Inv-loop μ-loop
 array-read-behind c = omega (arith, c .before .task-number .ensures .1, c .before .before .before .before .before .before .before .loop .inv .2)
 
+mul-drop-by : tie.Need-mul-drop-by Inv-loop2 μ-loop2 Inv-loop μ-loop
+mul-drop-by c = omega (arith, c .before .task-number .ensures .1)
+
+index-1-drop-by : tie.Need-index-1-drop-by Inv-loop2 μ-loop2 Inv-loop μ-loop
+index-1-drop-by c = omega (arith, c .before .task-number .ensures .1)
+
+drop-by-requires : tie.Need-drop-by-requires Inv-loop2 μ-loop2 Inv-loop μ-loop
+drop-by-requires c κs = search needs
+
 wait-by-requires : tie.Need-wait-by-requires Inv-loop2 μ-loop2 Inv-loop μ-loop
 wait-by-requires c κs = search needs
 
 array-write-waiting : tie.Need-array-write-waiting Inv-loop2 μ-loop2 Inv-loop μ-loop
-array-write-waiting c = omega (
-  arith,
-  c .before .before .task-number .ensures .1,
-  c .before .before .before .before .before .before .before .before .loop .inv .2,
-)
+array-write-waiting c = let f = c .before .before .before .before in omega
+    (arith, f .task-number .ensures .1, f .before .before .before .before .before .before .loop .inv .2)
 
 begun-requires : tie.Need-begun-requires Inv-loop2 μ-loop2 Inv-loop μ-loop
 begun-requires c κs = search needs
-
-mul-drop-by : tie.Need-mul-drop-by Inv-loop2 μ-loop2 Inv-loop μ-loop
-mul-drop-by c = omega (arith, c .before .before .before .task-number .ensures .1)
-
-index-1-drop-by : tie.Need-index-1-drop-by Inv-loop2 μ-loop2 Inv-loop μ-loop
-index-1-drop-by c = omega (arith, c .before .before .before .task-number .ensures .1)
-
-drop-by-requires : tie.Need-drop-by-requires Inv-loop2 μ-loop2 Inv-loop μ-loop
-drop-by-requires c κs = search needs
 
 mul-zero-by : tie.Need-mul-zero-by Inv-loop2 μ-loop2 Inv-loop μ-loop
 mul-zero-by c = omega (arith, c .before .before .before .before .before .task-number .ensures .1)
@@ -149,7 +146,7 @@ pending-at-requires-2 c κs = search needs
 
 loop-less : tie.Need-loop-less Inv-loop2 μ-loop2 Inv-loop μ-loop
 loop-less c =
-    let b = c .before .before .before .before .before .before .before in let f = b .before .before .before in
+    let b = c .before .before .before .before .before in let f = b .before .before .before .before .before in
     let l = f .before .before .before .before .before .before .loop in
     let less = due-less _ (l .ready) (l .place) (l .tick) _ _ (l .next) (l .inv .3) (f .before .before .before .before .coming-at .ensures)
     (f .before .before .release .given .1) in
@@ -158,7 +155,7 @@ loop-less c =
 
 loop-again : tie.Need-loop-again Inv-loop2 μ-loop2 Inv-loop μ-loop
 loop-again c =
-    let z = c .before .before .before in let d = z .before .before in let b = d .before .before in let f = b .before .before .before in
+    let z = c .before .before .before in let b = z .before .before in let d = b .before .before in let f = d .before .before .before in
     let l = f .before .before .before .before .before .before .loop in (
       f .task-number .ensures .1,
       length-set (l .jobs) (l .p) (l .job) ∙ l .inv .1,
@@ -409,7 +406,7 @@ returns-2 c = let l = c .before .loop in (
 pub run-spec : {M : Type 1} → statement M
 run-spec = tie.close (tie.spec Inv-loop2 μ-loop2 Inv-loop μ-loop array-copy-out-job pending-at-requires loop-holds coming-at-requires
     enum-known-release cast-jobs mul-jobs array-set-from-jobs task-number-requires cast-i mul-found array-copy-out-found array-read-behind
-    wait-by-requires array-write-waiting begun-requires mul-drop-by index-1-drop-by drop-by-requires mul-zero-by index-1-zero-by
+    mul-drop-by index-1-drop-by drop-by-requires wait-by-requires array-write-waiting begun-requires mul-zero-by index-1-zero-by
     zero-by-requires bound-requires started-requires pending-at-requires-2 loop-less loop-again stops-requires cast-jobs-2 mul-jobs-2
     array-set-from-jobs-2 returns idled-requires loop-less-2 loop-again-2 top-requires cast-jobs-3 mul-jobs-3 array-set-from-jobs-3 cast-job
     mul-job array-copy-out-job-2 loop-less-3 loop-again-3 cast-i-2 until-requires add-bound bound-requires-2 loop2-holds starting-requires
