@@ -12,7 +12,7 @@ use Rattle.model.specs.Command as M
 use Rattle.commands.specs.View.{viewCommand}
 use Rattle.commands.specs.declared.Command.{Command}
 use Rattle.commands.specs.declared.Command.the-variants as C
-use Rattle.arrivals.specs.Arrivals.{pendingBy, pendingAt, dueBy, comingOf, nobody, comingBy}
+use Rattle.arrivals.specs.Releases.{pendingBy, pendingAt, dueBy, comingOf, nobody, comingBy}
 use Rattle.arrivals.specs.declared.releases.Pending.{Pending}
 use Rattle.arrivals.specs.declared.releases.Coming.{Coming}
 use Rattle.arrivals.specs.declared.releases.Coming.the-variants.{Nothing, Due}

@@ -6,7 +6,7 @@ use borrow.Author.Tests.{lt-ltb, le-ltb}
 use Rattle.model.specs.Ceilings.{maxWaiting}
 use Rattle.state.specs.State.{Own}
 use Rattle.jobs.specs.Jobs.{dropped, counted}
-use Rattle.arrivals.specs.Arrivals.{droppedBy, waitingBy}
+use Rattle.arrivals.specs.Releases.{droppedBy, waitingBy}
 
 -- w releases wait behind the job, and the answer is whether that is unfinished
 module _ (w : ℕ) {b : Bool} where

@@ -2,7 +2,7 @@
 ghost use mathlib.Core.Path.{_≡_};
 ghost use Prim.Native.Nat.{_^_, _<_};
 ghost use Rattle.state.specs.State.{own};
-ghost use Rattle.arrivals.specs.Arrivals.{unfinished?, droppedBy, waitingBy, begunBy, zeroing, zeroedBy, startedBy};
+ghost use Rattle.arrivals.specs.Releases.{unfinished?, droppedBy, waitingBy, begunBy, zeroing, zeroedBy, startedBy};
 use commands::ceilings::TaskCeilings;
 use jobs::Job;
 use jobs::Phase;

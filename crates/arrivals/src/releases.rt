@@ -2,7 +2,7 @@
 ghost use mathlib.Core.Path.{_≡_};
 ghost use Rattle.model.specs.Command.{commandAt};
 ghost use Prim.Native.Nat.{_<_};
-ghost use Rattle.arrivals.specs.Arrivals.{noRelease, pendingBy, pendingAt, comingBy, stopsBy, untilOf, idledBy};
+ghost use Rattle.arrivals.specs.Releases.{noRelease, pendingBy, pendingAt, comingBy, stopsBy, untilOf, idledBy};
 use commands::Command;
 use commands::Decoded;
 use commands::ceilings::SheetCeilings;

@@ -10,7 +10,7 @@ use Rattle.model.specs.Command.{commandAt}
 use Rattle.commands.specs.declared.BodyCommand.{BodyCommand}
 use Rattle.state.specs.State.{Shared, Own}
 use Rattle.jobs.specs.declared.Job.{Job}
-use Rattle.arrivals.specs.Arrivals.{pendingAt, dueBy, nobody, comingFor, comingBy, stopsBy, untilOf, idledBy}
+use Rattle.arrivals.specs.Releases.{pendingAt, dueBy, nobody, comingFor, comingBy, stopsBy, untilOf, idledBy}
 use Rattle.arrivals.specs.declared.releases.Pending.{Pending}
 use Rattle.arrivals.specs.declared.releases.Coming.{Coming}
 use Rattle.arrivals.specs.declared.releases.Coming.the-variants.{Due}

@@ -19,8 +19,8 @@ use Rattle.exchanges.specs.Places.{Noted, noted, Left, left}
 use Rattle.jobs.specs.declared.Phase.{Phase}
 use Rattle.jobs.specs.declared.Job.{Job}
 use Rattle.statements.specs.Statements.{beginTick, stepTick, starting?, lineOf, statement}
-use Rattle.arrivals.specs.Arrivals.{unfinished?, pendingAt, nobody, comingFor, comingBy, stopsBy, untilBy, untilOf}
-use Rattle.arrivals.specs.Arrivals.{droppedBy, waitingBy, begunBy, zeroedBy, startedBy}
+use Rattle.arrivals.specs.Releases.{unfinished?, pendingAt, nobody, comingFor, comingBy, stopsBy, untilBy, untilOf}
+use Rattle.arrivals.specs.Releases.{droppedBy, waitingBy, begunBy, zeroedBy, startedBy}
 use Rattle.arrivals.specs.declared.releases.Pending.{Pending}
 use Rattle.arrivals.specs.declared.releases.Coming.{Coming}
 use Rattle.arrivals.specs.declared.releases.Coming.the-variants.{Nothing, Later, Due}

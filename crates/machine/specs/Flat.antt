@@ -16,7 +16,7 @@ use Rattle.jobs.specs.Jobs as count
 use Rattle.statements.specs.Statements.{plain?, statement}
 use Rattle.jobs.specs.declared.Phase.the-variants as P
 use Rattle.jobs.specs.declared.Job.{Job}
-use Rattle.arrivals.specs.Arrivals.{unfinished?, pendingAt, nobody, comingBy, stopsBy, waitingBy, begunBy, startedBy, recordBy}
+use Rattle.arrivals.specs.Releases.{unfinished?, pendingAt, nobody, comingBy, stopsBy, waitingBy, begunBy, startedBy, recordBy}
 use Rattle.arrivals.specs.declared.releases.Coming.{Coming}
 use Rattle.arrivals.specs.declared.releases.Coming.the-variants.{Due}
 use Rattle.machine.specs.declared.run.Paused.{Paused}

@@ -9,7 +9,7 @@ ghost use Rattle.model.specs.Lists.{at};
 ghost use Rattle.state.specs.State.{shared, own};
 ghost use Rattle.exchanges.specs.Places.{noted, left};
 ghost use Rattle.statements.specs.Statements.{beginTick, stepTick, starting?, lineOf};
-ghost use Rattle.arrivals.specs.Arrivals.{unfinished?};
+ghost use Rattle.arrivals.specs.Releases.{unfinished?};
 ghost use Rattle.machine.specs.Flat.{topOf, closed, finished, tickOf, leftBy, readyBy, Ends, flatIn, pausedAt};
 use arrivals::releases;
 use arrivals::releases::Coming;

@@ -23,7 +23,7 @@ use Rattle.model.proofs.Fit.Running.{busy as working}
 use Rattle.commands.specs.declared.BodyCommand.{BodyCommand}
 use Rattle.state.specs.State.{Own, own}
 use Rattle.state.specs.Held.{memoryOf}
-use Rattle.arrivals.specs.Arrivals.{unfinished?}
+use Rattle.arrivals.specs.Releases.{unfinished?}
 use Rattle.machine.specs.Flat.{FlatMachine, noJob, waitingCount}
 use Rattle.jobs.specs.declared.Phase.{Phase}
 use Rattle.jobs.specs.declared.Phase.the-variants as Phase

@@ -22,7 +22,7 @@ use Rattle.commands.specs.declared.BodyCommand.{BodyCommand}
 use Rattle.state.specs.State.{Own, own}
 use Rattle.state.specs.Held.{memoryOf}
 use Rattle.jobs.specs.Jobs.{jobAt, dropped, counted}
-use Rattle.arrivals.specs.Arrivals.{unfinished?, nobody, waitingBy, begunBy, zeroing, startedBy, recordBy}
+use Rattle.arrivals.specs.Releases.{unfinished?, nobody, waitingBy, begunBy, zeroing, startedBy, recordBy}
 use Rattle.machine.specs.Flat.{FlatMachine, flat, noJob, jobOf, ownOf, released}
 use Rattle.jobs.specs.declared.Phase.the-variants as Phase
 use Rattle.jobs.specs.declared.Job.{Job}

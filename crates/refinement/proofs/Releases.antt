@@ -11,7 +11,7 @@ use Rattle.model.specs.Refusal.{Refusal}
 use Rattle.model.specs.Command.{Release, Command, WORD, BLOCK, TASK, RELEASE, END, body, Found, found, refused, foundByte, commandAt}
 use Rattle.model.specs.Sheet.{listed, commandsFrom}
 use Rattle.model.proofs.Fit.Reading.{found-at}
-use Rattle.arrivals.specs.Arrivals.{pendingAt, dueBy, comingOf}
+use Rattle.arrivals.specs.Releases.{pendingAt, dueBy, comingOf}
 use Rattle.arrivals.specs.declared.releases.Coming.{Coming}
 use Rattle.arrivals.specs.declared.releases.Coming.the-variants.{Nothing, Later, Due}
 

@@ -29,7 +29,7 @@ use Rattle.model.proofs.Fit.RangesStatement.{entering-range, tick-range}
 use Rattle.commands.specs.declared.BodyCommand.{BodyCommand}
 use Rattle.exchanges.specs.Places.{if}
 use Rattle.jobs.specs.Jobs.{dropped}
-use Rattle.arrivals.specs.Arrivals.{pendingAt, comingOf, nobody, stopsBy}
+use Rattle.arrivals.specs.Releases.{pendingAt, comingOf, nobody, stopsBy}
 use Rattle.arrivals.specs.declared.releases.Coming.{Coming}
 use Rattle.arrivals.specs.declared.releases.Coming.the-variants.{Nothing, Later, Due}
 use Rattle.machine.specs.Flat.{topOf, FlatMachine, ownOf, tickedFor, passed, comingIn, released, ticked}

@@ -26,7 +26,7 @@ use Rattle.state.specs.Held.{memoryOf}
 use Rattle.exchanges.specs.Places.{Noted, Left}
 use Rattle.jobs.specs.Jobs.{counted}
 use Rattle.statements.specs.Statements.{statement}
-use Rattle.arrivals.specs.Arrivals.{unfinished?}
+use Rattle.arrivals.specs.Releases.{unfinished?}
 use Rattle.machine.specs.Flat.{topOf, leftBy, readyBy, FlatMachine, jobOf, ownOf, closed, tickedWith, tickedFor, passed, ticked}
 use Rattle.jobs.specs.declared.Phase.the-variants as Phase
 use Rattle.jobs.specs.declared.Inner.the-variants as Inner

@@ -9,7 +9,7 @@ use native.Mathlib.Omega.{arith}
 use lib.ListN.{length, getD, set}
 use lib.Seq.{getD-set-same, getD-set-other}
 use Rattle.model.proofs.Lists.{same?}
-use Rattle.arrivals.specs.Arrivals.{unfinished?}
+use Rattle.arrivals.specs.Releases.{unfinished?}
 use Rattle.machine.specs.Flat.{topOf, noJob}
 use Rattle.jobs.specs.declared.Job.{Job}
 

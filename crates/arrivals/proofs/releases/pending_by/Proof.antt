@@ -8,7 +8,7 @@ use borrow.Author.Needs.{needs}
 use Rattle.commands.specs.declared.Command.{Command}
 use Rattle.commands.specs.declared.Command.the-variants.{Word, Block, Task, Release, End, Body}
 use Rattle.commands.proofs.Command.{the-type}
-use Rattle.arrivals.specs.Arrivals.{noRelease, pendingBy}
+use Rattle.arrivals.specs.Releases.{noRelease, pendingBy}
 use Rattle.arrivals.proofs.releases.pending_by.Statement.{statement}
 use Rattle.arrivals.proofs.releases.pending_by.Tie as tie
 

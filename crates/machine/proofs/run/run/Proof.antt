@@ -8,7 +8,7 @@ use lib.Dec.{eqb, ltb}
 use lib.ListN.{length, getD, set, length-set}
 use Rattle.model.specs.Command.{commandAt}
 use Rattle.state.specs.State.{shared, own}
-use Rattle.arrivals.specs.Arrivals.{unfinished?, pendingAt, nobody, comingBy}
+use Rattle.arrivals.specs.Releases.{unfinished?, pendingAt, nobody, comingBy}
 use Rattle.arrivals.specs.declared.releases.Coming.{Coming}
 use Rattle.arrivals.specs.declared.releases.Coming.the-variants.{Nothing, Later, Due}
 use Rattle.arrivals.proofs.releases.Coming.{the-type}
