@@ -12,7 +12,7 @@ use Rattle.model.specs.Ceilings.{maxTasks, maxWaiting}
 use Rattle.model.specs.Command.{Release}
 use Rattle.model.specs.Machine.{Machine, waitingAt, unfinishedAt, starting, behind, dropping, toCome}
 use Rattle.model.specs.Machine as M
-use Rattle.model.specs.Machine.{Fate, startedJob, neither, fateBy, roomAt, fateOf, releasedTo, released, due}
+use Rattle.model.specs.Machine.{Fate, startedJob, neither, fateBy, roomAt, fateOf, releasedTo, released}
 use Rattle.model.specs.Machine.{arriveBy, arrive, oldestBy, startBy, startOldest, startWaiting, enter}
 use Rattle.model.specs.Arrivals.{Arrival, arrival, firstStarts, seenStartBy, seenStarts}
 use Rattle.model.specs.Arrivals.{seenArriveBy, seenArrive, seenEnter}
