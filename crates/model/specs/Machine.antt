@@ -180,6 +180,7 @@ roomAt m p = ltb (length (waitingAt (m .waiting) p)) maxWaiting
 abbrev pub fateOf : Release → Machine → Fate
 fateOf r m = fateBy (unfinishedAt m (r .task)) (roomAt m (r .task)) (m .now)
 
+-- it comes to its task with that fate
 unfoldable pub releasedTo : Fate → Release → Machine → Machine
 unfolding at replace
 releasedTo (startedJob t) r m = starting (r .task) m

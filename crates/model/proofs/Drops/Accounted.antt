@@ -32,7 +32,7 @@ use Rattle.model.proofs.Fit.Start.{start-fit, start-counts, start-jobs}
 use Rattle.model.proofs.History.Steps.{stateAfter, seenAfter}
 use Rattle.model.proofs.Drops.Fates.{append-is, append-number, append-not, first-releases, first-waits, others-wait, first-number, first-not}
 
--- before tick n have all arrived
+-- what an observer has, beside the machine; all that have arrived are of ticks before n
 pub record Accounted (s : Sheet) (n : ℕ) (m : Machine) (xs : List Arrival) : Type 0 where
   pub fit : Fit s m
   pub complete : map releaseOf xs ++ m .releases ≡ s .releases

@@ -32,7 +32,7 @@ use Rattle.model.proofs.Drops.Accounted.{Accounted, entering-accounted,
 abbrev pub startsBetween : Machine → Machine → ℕ → Bool
 startsBetween m n p = not (unfinishedAt m p) && unfinishedAt n p
 
--- IN A TICK that finds machine m₀ and the arrivals xs₀
+-- IN A TICK that finds machine m₀ and the arrivals xs₀: of earlier ticks nothing changes, and in this one as many start as jobs have started since
 record Since (s : Sheet) (m₀ : Machine) (xs₀ : List Arrival) (m : Machine) (xs : List Arrival) : Type 0 where
   accounted : Accounted s (suc (m .now)) m xs
   now : m .now ≡ m₀ .now
@@ -132,10 +132,11 @@ module _ {s : Sheet} (c : SheetFit s) where
   none-later : (t p u : ℕ) → t ≤ u → StartsSeen t p u → number (startedIn? u) p (seenAfter seenEnter [] m t) ≡ 0
   none-later t p u h e = e ∙ rw (le-ltb u t h) refl
 
-  in-tick : (t : ℕ) → ((p u : ℕ) → StartsSeen t p u)
+  -- tick t, all that comes before its statement having come
+  since-tick : (t : ℕ) → ((p u : ℕ) → StartsSeen t p u)
       → Since s (stateAfter m t) (seenAfter seenEnter [] m t) (arrivedAt m t) (seenAfter seenEnter [] m (suc t))
   unfolding seenAfter arrivedAt
-  in-tick t seen =
+  since-tick t seen =
       let now = now-is (started c) t in
       tick-since c (stateAfter m t) (seenAfter seenEnter [] m t) (seen-accounted c t)
       (λ p. rw now (none-later t p t (omega arith) (seen p t)))
@@ -143,7 +144,7 @@ module _ {s : Sheet} (c : SheetFit s) where
   next-starts : (t : ℕ) → ((p u : ℕ) → StartsSeen t p u) → (p u : ℕ) → StartsSeen (suc t) p u
   next-starts t seen p u =
       let now = now-is (started c) t in
-      let k = in-tick t seen in
+      let k = since-tick t seen in
       same? u t
       (λ z. rw (z, lt-ltb t (suc t) (omega arith)) (rw now at (k .here p)))
       (λ d. k .before p u (λ e. d (e ∙ now)) ∙ seen p u ∙ ap (λ (b : Bool). onlyIf b (startsIn p u)) (earlier d))

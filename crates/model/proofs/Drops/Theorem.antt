@@ -22,6 +22,7 @@ use Rattle.model.proofs.Rates.Own.{run-alike, in-tick}
 use Rattle.model.proofs.Drops.Accounted.{seen-accounted}
 use Rattle.model.proofs.Drops.Starts.{startsBetween, seen-starts}
 
+-- those to come are of later ticks
 all-later : (now : ℕ) (l : List Release) → ((i : ℕ) → i < length l → now ≤ releaseAt l i .tick) → (r : Release) → In r l → now ≤ r .tick
 unfolding at
 all-later now (x ∷ l) f r (inl e) = rw e (f 0 (omega arith))
