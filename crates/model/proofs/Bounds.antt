@@ -75,7 +75,7 @@ pub sheetP7 : ℕ → List ℕ
 sheetP7 tick = against (word 12) bodyRead tick
 
 abbrev pub readP7 : ℕ → ℕ → Operation
-readP7 l v = record { task = 1; arguments = readOf 0; last = some l; committed = false; spent = false; answers = v ∷ [] }
+readP7 l v = record { task = 1; arguments = readOf 0; last = some l; committed = false; spent = false; answers = v ∷ []; lost = [] }
 
 pub P7-at-9 : Took (sheetP7 9) 9 11 3 mostRead (readP7 11 12)
 unfolding historyOf run startMachine sheetOf sheetP7 at ownNext
@@ -90,7 +90,7 @@ abbrev pub toSeven : ℕ → Pair
 toSeven w = record { word = w; old = 12; new = 7 }
 
 abbrev pub swapNo : ℕ → List Pair → Operation
-swapNo l ps = record { task = 1; arguments = swapOf ps; last = some l; committed = false; spent = false; answers = 0 ∷ [] }
+swapNo l ps = record { task = 1; arguments = swapOf ps; last = some l; committed = false; spent = false; answers = 0 ∷ []; lost = [] }
 
 -- Task 1 finds word 0 overlapped, and before its Install task 2 changes that word: it does every step there is, and its ticks are 13.
 pub sheetOfThree : List ℕ

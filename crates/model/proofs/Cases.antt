@@ -30,7 +30,7 @@ pub data Figure : Type 0 where
   -- task, number of them
   finishedAre : ℕ → ℕ → Figure
   spentAre : ℕ → ℕ → Figure
-  rejectedAre : ℕ → ℕ → Figure
+  lostAre : ℕ → ℕ → Figure
   ticksUsed : ℕ → ℕ → Figure
   droppedAre : ℕ → ℕ → Figure
   waitingAre : ℕ → ℕ → Figure
@@ -70,7 +70,7 @@ holds m (valueIs b o v) = eqb (stored (m .memory .stores) (storeOf (currentOf (m
 holds m (registerIs p r v) = eqb (at 0 (taskAt (m .tasks) p .job .registers) r) v
 holds m (finishedAre p n) = eqb (taskAt (m .tasks) p .counts .finished) n
 holds m (spentAre p n) = eqb (taskAt (m .tasks) p .counts .spent) n
-holds m (rejectedAre p n) = eqb (taskAt (m .tasks) p .counts .rejected) n
+holds m (lostAre p n) = eqb (taskAt (m .tasks) p .counts .lost) n
 holds m (ticksUsed p n) = eqb (taskAt (m .tasks) p .counts .ticks) n
 holds m (droppedAre p n) = eqb (taskAt (m .tasks) p .counts .dropped) n
 holds m (waitingAre p n) = eqb (length (waitingAt (m .waiting) p)) n
@@ -231,7 +231,7 @@ table =
     ∷ figures (sheetU 16777215) (ticksDone 20 ∷ valueIs 0 0 41 ∷ versionIs 0 16777215 ∷ finishedAre 0 0 ∷ spentAre 0 1 ∷ [])
     ∷ report (sheetU 16777215) 65535 spentU
     -- two tasks U
-    ∷ figures sheetUU (ticksDone 75 ∷ valueIs 0 0 43 ∷ versionIs 0 5 ∷ rejectedAre 0 0 ∷ rejectedAre 1 0 ∷ droppedAre 0 0 ∷ [])
+    ∷ figures sheetUU (ticksDone 75 ∷ valueIs 0 0 43 ∷ versionIs 0 5 ∷ lostAre 0 1 ∷ lostAre 1 0 ∷ droppedAre 0 0 ∷ [])
     -- CHANGE 1, releases that wait: a burst; the second of two has not started at limit 12, has at 13, and ends at 23
     ∷ report (sheetAAt (0 ∷ 1 ∷ 2 ∷ 3 ∷ 4 ∷ 5 ∷ [])) 65535 reportBurst
     ∷ figuresBy 12 (sheetAAt (0 ∷ 3 ∷ [])) (registerIs 0 0 1 ∷ registerIs 0 1 12 ∷ registerIs 0 2 5 ∷ waitingAre 0 1 ∷ ticksUsed 0 12 ∷ [])

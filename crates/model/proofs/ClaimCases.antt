@@ -63,7 +63,7 @@ wordsAre l = record { words = l; blocks = [] }
 
 -- TWO READS of a word by one task: only time decides their order
 abbrev a-read : ℕ → Operation
-a-read last = record { task = 0; arguments = readOf 0; last = some last; committed = false; spent = false; answers = 12 ∷ [] }
+a-read last = record { task = 0; arguments = readOf 0; last = some last; committed = false; spent = false; answers = 12 ∷ []; lost = [] }
 
 abbrev historyReads : History
 historyReads = record { began = some (a-read 1) ∷ none ∷ some (a-read 3) ∷ none ∷ []; latest = 2 ∷ replicate 7 0 }
@@ -73,10 +73,10 @@ reads l b = record { history = historyReads; first = wordsAre (12 ∷ []); last 
 
 -- P4: task 0 exchanges 12 for 5 in word 0. Task 1 comes after its Commit, finds 5 instead of 12 and says no; only the answers decide the order.
 abbrev lowerP4 : Operation
-lowerP4 = record { task = 0; arguments = swapOf (pairWith 0 12 5 ∷ []); last = some 22; committed = true; spent = false; answers = 1 ∷ [] }
+lowerP4 = record { task = 0; arguments = swapOf (pairWith 0 12 5 ∷ []); last = some 22; committed = true; spent = false; answers = 1 ∷ []; lost = [] }
 
 abbrev upperP4 : Operation
-upperP4 = record { task = 1; arguments = swapOf (pairWith 0 12 7 ∷ []); last = some 21; committed = false; spent = false; answers = 0 ∷ [] }
+upperP4 = record { task = 1; arguments = swapOf (pairWith 0 12 7 ∷ []); last = some 21; committed = false; spent = false; answers = 0 ∷ []; lost = [] }
 
 abbrev historyP4 : History
 historyP4 =
@@ -87,7 +87,7 @@ P4 l b = record { history = historyP4; first = wordsAre (12 ∷ []); last = word
 
 -- P4 cut short after task 0's Commit: its exchange has not ended but counts, and is the only one
 abbrev lowerCut : Operation
-lowerCut = record { task = 0; arguments = swapOf (pairWith 0 12 5 ∷ []); last = none; committed = true; spent = false; answers = 1 ∷ [] }
+lowerCut = record { task = 0; arguments = swapOf (pairWith 0 12 5 ∷ []); last = none; committed = true; spent = false; answers = 1 ∷ []; lost = [] }
 
 abbrev historyCut : History
 historyCut = record { began = replicate 3 none ++ some lowerCut ∷ replicate 7 none; latest = 3 ∷ replicate 7 0 }
@@ -98,11 +98,11 @@ cut l b = record { history = historyCut; first = wordsAre (12 ∷ []); last = wo
 -- P5: task 1 also names word 1, which is 22 and not 0, so its no rests on that word. Task 0's word was 12 all the while:
 -- its no rests on the free answer alone, since task 1's exchange with a changing pair on word 0 began inside it.
 abbrev lowerP5 : Operation
-lowerP5 = record { task = 0; arguments = swapOf (pairWith 0 12 5 ∷ []); last = some 31; committed = false; spent = false; answers = 0 ∷ [] }
+lowerP5 = record { task = 0; arguments = swapOf (pairWith 0 12 5 ∷ []); last = some 31; committed = false; spent = false; answers = 0 ∷ []; lost = [] }
 
 abbrev upperP5 : ℕ → Operation
 upperP5 v =
-    record { task = 1; arguments = swapOf (pairWith 0 12 v ∷ pairWith 1 0 7 ∷ []); last = some 28; committed = false; spent = false; answers = 0 ∷ [] }
+    record { task = 1; arguments = swapOf (pairWith 0 12 v ∷ pairWith 1 0 7 ∷ []); last = some 28; committed = false; spent = false; answers = 0 ∷ []; lost = [] }
 
 abbrev historyP5 : ℕ → History
 historyP5 v =

@@ -8,11 +8,11 @@ use lib.ListN.{replicate}
 use Rattle.model.specs.Ceilings.{maxTasks}
 use Rattle.model.specs.Lists.{at, replace}
 use Rattle.model.specs.Arguments.{Arguments}
-use Rattle.model.specs.Job.{Deed, nothingDone, began, readGave, swapCommitted, swapAnswered, getGave, passLost}
+use Rattle.model.specs.Job.{Deed, nothingDone, began, readGave, swapCommitted, swapAnswered, getGave, attemptLost}
 use Rattle.model.specs.Job.{transactionCommitted, transactionEnded, endedUntouched, endedSpent}
 use Rattle.model.specs.Machine.{answer, Machine, statement, turnOf, Running, nobody, running, runningOf, enter, beside}
 
--- `last` is its last tick, none if the limit came before
+-- `last` is its last tick, none if the limit came before; `lost` are the ticks in which it lost an attempt
 pub record Operation : Type 0 where
   pub task : ℕ
   pub arguments : Arguments
@@ -20,6 +20,10 @@ pub record Operation : Type 0 where
   pub committed : Bool
   pub spent : Bool
   pub answers : List ℕ
+  pub lost : List ℕ
+
+abbrev pub operation : ℕ → Arguments → Option ℕ → Bool → Bool → List ℕ → List ℕ → Operation
+operation p a l c s vs ts = record { task = p; arguments = a; last = l; committed = c; spent = s; answers = vs; lost = ts }
 
 -- For each tick done the operation that began in it, if one did, so that an operation's number is its first tick;
 -- and for each task the number of its latest operation.
@@ -40,22 +44,22 @@ pub data Event : Type 0 where
   amends : (Operation → Operation) → Event
 
 abbrev pub answering : List ℕ → Operation → Operation
-answering vs o =
-    record { task = o .task; arguments = o .arguments; last = o .last; committed = o .committed; spent = o .spent; answers = vs }
+answering vs o = operation (o .task) (o .arguments) (o .last) (o .committed) (o .spent) vs (o .lost)
 
 abbrev pub ending : ℕ → Operation → Operation
-ending t o =
-    record { task = o .task; arguments = o .arguments; last = some t; committed = o .committed; spent = o .spent; answers = o .answers }
+ending t o = operation (o .task) (o .arguments) (some t) (o .committed) (o .spent) (o .answers) (o .lost)
 
 abbrev pub asCommitted : Operation → Operation
-asCommitted o =
-    record { task = o .task; arguments = o .arguments; last = o .last; committed = true; spent = o .spent; answers = o .answers }
+asCommitted o = operation (o .task) (o .arguments) (o .last) true (o .spent) (o .answers) (o .lost)
 
 abbrev pub asSpent : Operation → Operation
-asSpent o =
-    record { task = o .task; arguments = o .arguments; last = o .last; committed = o .committed; spent = true; answers = o .answers }
+asSpent o = operation (o .task) (o .arguments) (o .last) (o .committed) true (o .answers) (o .lost)
 
--- by what the statement of tick t did; a committed SWAP's answer is 1 from its Commit on, and a lost pass's answers are forgotten
+-- an attempt is lost in tick t: what it answered is forgotten
+abbrev pub losing : ℕ → Operation → Operation
+losing t o = operation (o .task) (o .arguments) (o .last) (o .committed) (o .spent) [] (o .lost ++ (t ∷ []))
+
+-- by what the statement of tick t did; a committed SWAP's answer is 1 from its Commit on
 unfoldable pub eventOf : ℕ → Deed → Event
 eventOf t nothingDone = nothing
 eventOf t (began given) = begins given
@@ -63,7 +67,7 @@ eventOf t (readGave v) = amends (λ o. ending t (answering (v ∷ []) o))
 eventOf t swapCommitted = amends (λ o. asCommitted (answering (1 ∷ []) o))
 eventOf t (swapAnswered yes?) = amends (λ o. ending t (answering (answer yes? ∷ []) o))
 eventOf t (getGave v) = amends (λ o. answering (o .answers ++ (v ∷ [])) o)
-eventOf t passLost = amends (λ o. answering [] o)
+eventOf t attemptLost = amends (λ o. losing t o)
 eventOf t transactionCommitted = amends (λ o. asCommitted o)
 eventOf t transactionEnded = amends (λ o. ending t o)
 eventOf t endedUntouched = amends (λ o. ending t (asCommitted o))
@@ -78,11 +82,7 @@ unfoldable pub noted : ℕ → ℕ → Event → History → History
 unfolding at replace
 noted t p nothing h = record { began = h .began ++ (none ∷ []); latest = h .latest }
 noted t p (begins given) h =
-    record {
-      began =
-          h .began ++ (some (record { task = p; arguments = given; last = none; committed = false; spent = false; answers = [] }) ∷ []);
-      latest = replace (h .latest) p t;
-    }
+    record { began = h .began ++ (some (operation p given none false false [] []) ∷ []); latest = replace (h .latest) p t }
 noted t p (amends f) h =
     let n : ℕ = at 0 (h .latest) p in
     record { began = replace (h .began) n (amendBy f (operationAt h n)) ++ (none ∷ []); latest = h .latest }

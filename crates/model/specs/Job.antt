@@ -53,34 +53,34 @@ job f l rs ps = record { phase = f; commands = l; registers = rs; pairs = ps }
 abbrev pub noJob : Job
 noJob = job idle [] (replicate registers 0) []
 
--- THE COUNTS of a task, in the order of its T line: jobs finished, jobs spent, commits rejected, ticks used, releases dropped.
+-- THE COUNTS of a task, in the order of its T line: jobs finished, jobs spent, attempts lost, ticks used, releases dropped.
 pub record Counts : Type 0 where
   pub finished : ℕ
   pub spent : ℕ
-  pub rejected : ℕ
+  pub lost : ℕ
   pub ticks : ℕ
   pub dropped : ℕ
 
 pub data Count : Type 0 where
-  finished spent rejected ticks dropped : Count
+  finished spent lost ticks dropped : Count
 
 abbrev pub counts : ℕ → ℕ → ℕ → ℕ → ℕ → Counts
-counts f s r t d = record { finished = f; spent = s; rejected = r; ticks = t; dropped = d }
+counts f s l t d = record { finished = f; spent = s; lost = l; ticks = t; dropped = d }
 
 abbrev pub noCounts : Counts
 noCounts = counts 0 0 0 0 0
 
 -- as a list, for the T line
 abbrev pub countList : Counts → List ℕ
-countList c = c .finished ∷ c .spent ∷ c .rejected ∷ c .ticks ∷ c .dropped ∷ []
+countList c = c .finished ∷ c .spent ∷ c .lost ∷ c .ticks ∷ c .dropped ∷ []
 
 -- a count rises by one
 abbrev pub raised : Count → Counts → Counts
-raised finished c = counts (suc (c .finished)) (c .spent) (c .rejected) (c .ticks) (c .dropped)
-raised spent c = counts (c .finished) (suc (c .spent)) (c .rejected) (c .ticks) (c .dropped)
-raised rejected c = counts (c .finished) (c .spent) (suc (c .rejected)) (c .ticks) (c .dropped)
-raised ticks c = counts (c .finished) (c .spent) (c .rejected) (suc (c .ticks)) (c .dropped)
-raised dropped c = counts (c .finished) (c .spent) (c .rejected) (c .ticks) (suc (c .dropped))
+raised finished c = counts (suc (c .finished)) (c .spent) (c .lost) (c .ticks) (c .dropped)
+raised spent c = counts (c .finished) (suc (c .spent)) (c .lost) (c .ticks) (c .dropped)
+raised lost c = counts (c .finished) (c .spent) (suc (c .lost)) (c .ticks) (c .dropped)
+raised ticks c = counts (c .finished) (c .spent) (c .lost) (suc (c .ticks)) (c .dropped)
+raised dropped c = counts (c .finished) (c .spent) (c .lost) (c .ticks) (suc (c .dropped))
 
 -- A TASK: its body, its copy slots, which hold the numbers of block stores, its counts and its job.
 pub record Task : Type 0 where
@@ -123,7 +123,7 @@ abbrev pub ended : Task → Task
 ended t = counting spent (withJob t (job idle [] (t .job .registers) []))
 
 -- WHAT A STATEMENT DID, for whoever watches the run: an operation began; a READ gave its value; the Commit of a SWAP said yes;
--- a SWAP gave its answer; a GET gave its value; a pass was lost; the Commit of a transaction said yes; it ended after that,
+-- a SWAP gave its answer; a GET gave its value; an attempt was lost; the Commit of a transaction said yes; it ended after that,
 -- with nothing touched, or spent.
 pub data Deed : Type 0 where
   nothingDone : Deed
@@ -132,7 +132,7 @@ pub data Deed : Type 0 where
   swapCommitted : Deed
   swapAnswered : Bool → Deed
   getGave : ℕ → Deed
-  passLost : Deed
+  attemptLost : Deed
   transactionCommitted : Deed
   transactionEnded : Deed
   endedUntouched : Deed
@@ -146,3 +146,7 @@ pub record Turn : Type 0 where
 
 abbrev pub turn : Memory → Task → Deed → Turn
 turn m t d = record { memory = m; task = t; did = d }
+
+-- AN ATTEMPT IS LOST: its task, as it starts over, counts it
+abbrev pub losesAttempt : Memory → Task → Turn
+losesAttempt m t = turn m (counting lost t) attemptLost

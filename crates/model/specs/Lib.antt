@@ -20,3 +20,4 @@ pub mod Rates
 pub mod Waiting
 pub mod Arrivals
 pub mod Drops
+pub mod LostAttempts

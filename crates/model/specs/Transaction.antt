@@ -10,8 +10,8 @@ use Rattle.model.specs.Command.{Access, GET, PUT, Block, Inside, access,
 use Rattle.model.specs.Word.{Memory, currentOf, stored, setStored, loading, Read, reads, gives, readTick}
 use Rattle.model.specs.Exchange.{Entry, entry, Exchange, exchangeOf, commitSaidYes, Exchanged, goes, ends, exchangeTick}
 use Rattle.model.specs.Job.{Touched, untouched, remembered, copied, Transaction, Inner, between, first, copying, again, committing}
-use Rattle.model.specs.Job.{transacting, job, rejected, Task, withJob, counting, rest, done, doneBy, ended, Deed, nothingDone}
-use Rattle.model.specs.Job.{getGave, passLost, transactionCommitted, transactionEnded, endedUntouched, endedSpent, Turn, turn}
+use Rattle.model.specs.Job.{transacting, job, Task, withJob, rest, done, doneBy, ended, Deed, nothingDone, getGave}
+use Rattle.model.specs.Job.{transactionCommitted, transactionEnded, endedUntouched, endedSpent, Turn, turn, losesAttempt}
 
 -- the bank word of block b is the cell after the words' cells
 abbrev pub bank : ℕ → ℕ
@@ -105,12 +105,12 @@ accessTick m t x (PUT b o r) (copied v k) =
 abbrev pub putFirst : Transaction → ℕ → Transaction
 putFirst x b = touch x b (copied (rememberedOf (touchedOf x b)) (x .used)) (suc (x .used))
 
--- the version read again is the remembered one; a stale version restarts the transaction
+-- the version read again is the remembered one; with a stale version the attempt is lost
 unfoldable pub checkBy : Bool → Memory → Task → Transaction → Access → ℕ → Turn
 unfolding at replace
 checkBy true m t x (GET r b o) v = turn m (goesOn t (loaded (t .job .registers) r v) x) (getGave v)
 checkBy true m t x (PUT b o r) v = turn m (stays t (putFirst x b) between) nothingDone
-checkBy false m t x a v = turn m (restarted t x) passLost
+checkBy false m t x a v = losesAttempt m (restarted t x)
 
 unfoldable pub againRead : Memory → Task → Transaction → Access → ℕ → Read → Turn
 unfolding at checkBy
@@ -163,7 +163,7 @@ unfoldable pub committingBy : Task → Transaction → Exchange → Exchanged �
 unfolding doneBy takenBack
 committingBy t x e (goes m e′) = turn m (stays t x (committing e′)) (committedIf (commitSaidYes e e′))
 committingBy t x e (ends m true) = turn m (done t (t .job .registers) [] (takenBack (t .copies) (x .blocks))) transactionEnded
-committingBy t x e (ends m false) = turn m (counting rejected (restarted t x)) passLost
+committingBy t x e (ends m false) = losesAttempt m (restarted t x)
 
 -- a command that stands only inside a transaction
 unfoldable pub insideTick : Memory → Task → Transaction → Inside → Turn

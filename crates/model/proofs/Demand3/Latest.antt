@@ -4,10 +4,11 @@ use mathlib.Core.Bool.{Bool}
 use mathlib.Core.Path.{_≡_}
 use mathlib.Core.Option.{Option, none, some}
 use lib.ListN.{length}
-use Rattle.model.specs.History.{Operation, History, operationAt, Event, nothing, begins, amends, noted}
+use Rattle.model.specs.History.{Operation, History, operationAt, nothing, begins, amends, eventOf, noted}
+use Rattle.model.specs.Job.{Deed}
 use Rattle.model.specs.Arguments.{Arguments, readOf}
 use Rattle.model.proofs.Transactions.Pass.{operationAfter}
-use Rattle.model.proofs.History.Moves.{Settling, Moves, staysOutside, begun, goesOn, answers, readEnds}
+use Rattle.model.proofs.History.Moves.{Settling, Moves, staysOutside, begun, goesOn, gets, loses, readEnds}
 use Rattle.model.proofs.History.Moves.{swapCommits, swapEnds, swapCommitsAndEnds, swapRejected, transactionCommits}
 use Rattle.model.proofs.History.Moves.{transactionEnds, transactionCommitsAndEnds, nothingTouched, endsSpent}
 use Rattle.model.proofs.History.Noted.{latestOf, newOperation, noted-nothing, latest-nothing}
@@ -33,12 +34,14 @@ module _ (u p : ℕ) (h : History) (size : length (h .began) ≡ u) (below : p <
       → latestOperation (noted u p (amends f) h) p ≡ f (latestOperation h p)
   after-amends o f = rw (latest-amends u p h size f p, noted-amends u p h size f (o .is) .here, o .is)
 
-  pub latest-after : {g g′ : Option Arguments} {b b′ : Bool} {e : Event} {s : Settling} → Moves u g b e s g′ b′ → OpenBy h p g b
-      → latestOperation (noted u p e h) p ≡ operationAfter p e (latestOperation h p)
+  pub latest-after : {g g′ : Option Arguments} {b b′ : Bool} {d : Deed} {s : Settling} → Moves g b d s g′ b′ → OpenBy h p g b
+      → latestOperation (noted u p (eventOf u d) h) p ≡ operationAfter p (eventOf u d) (latestOperation h p)
+  unfolding eventOf
   latest-after staysOutside o = after-nothing
   latest-after (begun {a = a}) o = after-begins a
   latest-after goesOn o = after-nothing
-  latest-after (answers f) o = after-amends o _
+  latest-after (gets v) o = after-amends o _
+  latest-after loses o = after-amends o _
   latest-after (readEnds v) o = after-amends o _
   latest-after swapCommits o = after-amends o _
   latest-after swapEnds o = after-amends o _

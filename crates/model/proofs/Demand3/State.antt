@@ -150,7 +150,7 @@ module _ {s : Sheet} (c : SheetFit s) {values : ℕ → ℕ → ℕ} {m : Machin
   later = record {
     mine = λ x i e.
         latest-after (m .now) p h (linked .linked .size) (omega (arith, linked .linked .latest, linked .size, r .below))
-        (moves (m .now) p (m .memory) (taskAt (m .tasks) p) (taskAt (m .tasks) p .job .phase) refl) (linked .linked .opened p);
+        (moves p (m .memory) (taskAt (m .tasks) p) (taskAt (m .tasks) p .job .phase) refl) (linked .linked .opened p);
     others = λ q ne x i e.
         ap operationOr (other-operation r (linked .linked) (statementOf p (m .memory) (m .tasks) .task) (next-of linked p r) q ne (rw e tt));
   }

@@ -68,7 +68,7 @@ pub record TaskFit (words blocks : ℕ) (text : List BodyCommand) (now : ℕ) (t
   pub body : t .body ≡ text
   pub registers : length (t .job .registers) ≡ 8
   pub copies : length (t .copies) ≡ 4
-  pub counts : t .counts .finished + t .counts .spent + t .counts .rejected ≤ t .counts .ticks
+  pub counts : t .counts .finished + t .counts .spent + t .counts .lost ≤ t .counts .ticks
   pub ticks : t .counts .ticks ≤ now
   pub phase : PhaseFit words blocks (t .copies) (t .job .commands) (t .job .pairs) (t .job .phase)
 

@@ -7,7 +7,7 @@ use Rattle.model.specs.Command.{BodyCommand, LOAD, ADD, outside, inside}
 use Rattle.model.specs.Word.{Word, Memory, cellOf, statusOf, saved, stored, Reading, loading, looking, fetching, Read, reads, gives}
 use Rattle.model.specs.Exchange.{Entry, Step, start, test, load, look, fetch, fail, mark, install, commit, save, clean, cleanMark, Exchange}
 use Rattle.model.specs.Job.{Touched, untouched, remembered, copied, Transaction, Inner, between, first, copying}
-use Rattle.model.specs.Job.{again, committing, Phase, idle, plain, reading, exchanging, transacting, Task}
+use Rattle.model.specs.Job.{again, committing, Phase, idle, plain, reading, exchanging, transacting, Count, Task, counting}
 use Rattle.model.specs.Transaction.{touchedOf}
 use Rattle.model.specs.Machine.{Machine, taskAt}
 use Rattle.model.proofs.Fit.Exchange.{entryOf}
@@ -110,6 +110,10 @@ pub record TaskRange (t : Task) : Type 0 where
   pub pair : (i : ℕ) → EntryRange (entryOf (t .job .pairs) i)
   pub copy : (k : ℕ) → at 0 (t .copies) k < 256
   pub phase : PhaseRange (t .job .phase)
+
+-- a count may rise
+pub counting-range : {t : Task} (c : Count) → TaskRange t → TaskRange (counting c t)
+counting-range c f = record { body = f .body; commands = f .commands; register = f .register; pair = f .pair; copy = f .copy; phase = f .phase }
 
 pub record Ranges (m : Machine) : Type 0 where
   pub memory : MemoryRange (m .memory)

@@ -10,7 +10,7 @@ use Rattle.model.specs.Command.{Outside, READ, PAIR, SWAP, BEGIN, BodyCo
 use Rattle.model.specs.Word.{Memory, loading, Read, reads, gives, readTick}
 use Rattle.model.specs.Sheet.{Sheet}
 use Rattle.model.specs.Exchange.{Entry, entry, Exchanged, goes, ends, exchangeOf, start, exchangeTick, Exchange}
-use Rattle.model.specs.Job.{between, Phase, idle, plain, reading, exchanging, transacting, Task, turn, started, Count, ticks, dropped, counting, Deed, Turn}
+use Rattle.model.specs.Job.{between, Phase, idle, plain, reading, exchanging, transacting, Task, turn, started, ticks, dropped, Deed, Turn}
 use Rattle.model.specs.Transaction.{loaded, added, freshTransaction}
 use Rattle.model.specs.Machine.{answer, readBy, swapBy, plainTick, statement, Machine, noTask, taskAt, starting, Running, nobody}
 use Rattle.model.specs.Machine.{running, runningOf, move, moveAny, tick, enter, beginning, outsideTick, recorded}
@@ -23,7 +23,7 @@ use Rattle.model.proofs.Fit.Enter.{Entering, oldest, starts, waits, dro
 use Rattle.model.proofs.Fit.Releases.{tasks-of, enter-fit}
 use Rattle.model.proofs.Fit.Tick.{declared, after-ticks-fit}
 use Rattle.model.proofs.History.Steps.{stateAfter}
-use Rattle.model.proofs.Fit.Ranges.{Value, MemoryRange, ReadRange, EntryRange, CommandsRange, PhaseRange, TaskRange, Ranges}
+use Rattle.model.proofs.Fit.Ranges.{Value, MemoryRange, ReadRange, EntryRange, CommandsRange, PhaseRange, TaskRange, counting-range, Ranges}
 use Rattle.model.proofs.Fit.RangesExchange.{read-range, ExchangedRange, exchange-range}
 use Rattle.model.proofs.Fit.RangesTransaction.{TurnRange, no-entry, no-entry-range, done-range, in-phase-range}
 use Rattle.model.proofs.Fit.RangesTransaction.{fresh-range, within-range, loaded-range, added-range, transaction-range}
@@ -109,9 +109,6 @@ zeros-range n r = replicate-every 0 Value n 0 (omega arith) (omega arith) r
 
 started-range : {t : Task} → TaskRange t → TaskRange (started t)
 started-range f = record { body = f .body; commands = f .body; register = zeros-range 8; pair = no-entry-range; copy = f .copy; phase = tt }
-
-counting-range : {t : Task} (c : Count) → TaskRange t → TaskRange (counting c t)
-counting-range c f = record { body = f .body; commands = f .commands; register = f .register; pair = f .pair; copy = f .copy; phase = f .phase }
 
 starting-range : {m : Machine} → Ranges m → (p : ℕ) → (q : ℕ) → TaskRange (taskAt (starting p m .tasks) q)
 starting-range {m} f p = replace-all noTask TaskRange (m .tasks) p _ (started-range (f .task p)) (f .task)

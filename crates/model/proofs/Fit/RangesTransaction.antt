@@ -12,7 +12,7 @@ use Rattle.model.specs.Command.{Access, GET, PUT, Inside, access, COMMIT
 use Rattle.model.specs.Word.{Memory, stored, loading, Read, reads, gives, readTick, setStored}
 use Rattle.model.specs.Exchange.{Entry, entry, Exchanged, goes, ends, exchangeOf, exchangeTick, Exchange}
 use Rattle.model.specs.Job.{Touched, untouched, remembered, copied, Transaction, Inner, between, first, copying}
-use Rattle.model.specs.Job.{again, committing, Phase, reading, Task, Turn, turn, rest, done, doneBy, inPhase, Deed}
+use Rattle.model.specs.Job.{again, committing, Phase, reading, lost, Task, Turn, turn, losesAttempt, rest, done, doneBy, inPhase, Deed}
 use Rattle.model.specs.Transaction.{bank, bankValue, versionOf, storeOf, blockOf, rememberedOf, touchedOf, touch}
 use Rattle.model.specs.Transaction.{within, stays, goesOn, restarted, loaded, added, firstRead, copyBy, copyTick}
 use Rattle.model.specs.Transaction.{accessTick, checkBy, againRead, nothing?, spent?, gather, takenBack, commandTick}
@@ -22,7 +22,7 @@ use Rattle.model.proofs.Fit.Elements.{or-none, or-none-right, replace-a
 use Rattle.model.proofs.Fit.Exchange.{entryOf}
 use Rattle.model.proofs.Fit.Transaction.{TransactionFit}
 use Rattle.model.proofs.Fit.Ranges.{Value, MemoryRange, ReadRange, EntryRange, TouchedRange}
-use Rattle.model.proofs.Fit.Ranges.{CommandsRange, InnerRange, TransactionRange, PhaseRange, TaskRange}
+use Rattle.model.proofs.Fit.Ranges.{CommandsRange, InnerRange, TransactionRange, PhaseRange, TaskRange, counting-range}
 use Rattle.model.proofs.Fit.RangesExchange.{stored-range, read-range, ExchangedRange, exchange-range}
 
 pub record TurnRange (u : Turn) : Type 0 where
@@ -126,10 +126,14 @@ module _ {m : Memory} (g : MemoryRange m) {t : Task} (f : TaskRange t) {x : Tran
     task = within-range f (rest (t .job .commands)) rs x between (rest-range (t .job .commands) (f .commands)) r (inner-range between tt);
   }
 
-  restarted-range : TaskRange (restarted t x)
-  restarted-range =
-      within-range f (x .commands) (x .kept) (freshTransaction (x .kept) (x .commands)) between (h .commands) (h .kept)
-      (fresh-range (x .kept) (x .commands) (h .kept) (h .commands))
+  loses-range : {n : Memory} → MemoryRange n → TurnRange (losesAttempt n (restarted t x))
+  loses-range k = record {
+    memory = k;
+    task =
+        counting-range lost
+        (within-range f (x .commands) (x .kept) (freshTransaction (x .kept) (x .commands)) between (h .commands) (h .kept)
+        (fresh-range (x .kept) (x .commands) (h .kept) (h .commands)));
+  }
 
   first-read-range : (a : Access) (o : Read) → ReadRange o → TurnRange (firstRead m t x a o)
   unfolding firstRead
@@ -182,7 +186,7 @@ module _ {m : Memory} (g : MemoryRange m) {t : Task} (f : TaskRange t) {x : Tran
             within-range f (t .job .commands) (t .job .registers) _ between (f .commands) (f .register)
             (touch-range b u (suc (x .used)) (remembered-range (touchedOf x b) (h .block b)));
       }
-  check-range false a v k = record { memory = g; task = restarted-range }
+  check-range false a v k = loses-range g
 
   again-range : (a : Access) (v : ℕ) → Value v → (o : Read) → ReadRange o → TurnRange (againRead m t x a v o)
   unfolding againRead
@@ -207,9 +211,7 @@ module _ {m : Memory} (g : MemoryRange m) {t : Task} (f : TaskRange t) {x : Tran
         done-range f (t .job .registers) [] (takenBack (t .copies) (x .blocks)) (f .register) no-entry-range
         (taken-back-range (t .copies) (x .blocks) (f .copy));
   }
-  committed-range v (ends n false) k =
-      let r = restarted-range in
-      record { memory = k; task = record { body = r .body; commands = r .commands; register = r .register; pair = r .pair; copy = r .copy; phase = r .phase } }
+  committed-range v (ends n false) k = loses-range k
 
   same-range : {d : Deed} → TurnRange (turn m t d)
   same-range = record { memory = g; task = f }

@@ -13,7 +13,7 @@ use Rattle.model.specs.Fault.{Body, among}
 use Rattle.model.specs.Sheet.{named, after, inBody, transaction, afterBody, afterInside}
 use Rattle.model.specs.Word.{Memory, stored, setStored, loading, Read, reads, gives, readTick}
 use Rattle.model.specs.Job.{Touched, untouched, remembered, copied, Transaction, Inner, between, Task, turn}
-use Rattle.model.specs.Job.{rest, ended, done, first, copying, again, committing, counting, rejected, Deed}
+use Rattle.model.specs.Job.{rest, ended, done, first, copying, again, committing, losesAttempt, Deed}
 use Rattle.model.specs.Transaction.{bank, versionOf, storeOf, blockOf, rememberedOf, touchedOf, touch, within, stays, goesOn}
 use Rattle.model.specs.Transaction.{restarted, firstRead, copyBy, copyTick, accessTick, checkBy, againRead, nothing?, spent?}
 use Rattle.model.specs.Transaction.{gather, takenBack, commandTick, transactionTick, commitCommandBy, committingBy, insideTick}
@@ -25,7 +25,7 @@ use Rattle.model.proofs.Fit.Transaction.{copied?, namedSoFar, BlocksFit
 use Rattle.model.proofs.Fit.Blocks.{count-fewer, blocks-read, blocks-copied, gather-some, gather-entries}
 use Rattle.model.proofs.Fit.Pass.{PassFit, first-command, named-fit, pass-access, transaction-fit}
 use Rattle.model.proofs.Fit.Pass.{pass-start, not-over, pass-load, pass-add, pass-of}
-use Rattle.model.proofs.Fit.Counts.{same-counts, rejected-counts, spent-counts}
+use Rattle.model.proofs.Fit.Counts.{same-counts, lost-counts, spent-counts}
 use Rattle.model.proofs.Fit.Outside.{TurnFit, done-fit, no-entries, no-unloaded, open-next}
 use Rattle.model.proofs.Fit.Exchange.{EntriesFit, ExchangedFit, exchange-start, exchange-fit}
 use Rattle.model.proofs.Fit.Machine.{OutsideFit}
@@ -72,18 +72,15 @@ module _ {words blocks : ℕ} (t : Task) (hr : length (t .job .registers) ≡ 8)
   goes-on-fit {m} {d} l {rs} {x} e g h f =
       subst (λ (z : List BodyCommand). TurnFit words blocks t (turn m (within t z rs x between) d)) (sym (ap rest e)) (within-fit g h f tt)
 
-  pub restarted-fit : {m : Memory} {d : Deed} {l : List BodyCommand} {x : Transaction} → MemoryFit m → PassFit words blocks l x
-      → TurnFit words blocks t (turn m (restarted t x) d)
-  restarted-fit g f = within-fit g (f .kept) (pass-start (f .begun) (f .kept)) tt
-
-  pub rejected-fit : {m : Memory} {d : Deed} {l : List BodyCommand} {x : Transaction} → MemoryFit m → PassFit words blocks l x
-      → TurnFit words blocks t (turn m (counting rejected (restarted t x)) d)
-  rejected-fit g f = record {
+  -- an attempt is lost
+  pub loses-fit : {m : Memory} {l : List BodyCommand} {x : Transaction} → MemoryFit m → PassFit words blocks l x
+      → TurnFit words blocks t (losesAttempt m (restarted t x))
+  loses-fit g f = record {
     memory = g;
     body = refl;
     registers = f .kept;
     copies = hc;
-    counts = rejected-counts refl refl;
+    counts = lost-counts refl refl;
     phase = transaction-fit (pass-start (f .begun) (f .kept)) tt;
   }
 
@@ -146,7 +143,7 @@ module _ {words blocks : ℕ} (t : Task) (hr : length (t .job .registers) ≡ 8)
         (blocks-copied (f .touched) most n (at-work (PUT n o r) f .block) (named-touched (PUT n o r) (f .known .body)) w read
         (include-same n (f .known .body .puts))))
         tt
-    check-fit false a v e f h = restarted-fit g f
+    check-fit false a v e f h = loses-fit g f
 
     pub again-fit : (a : Access) (v : ℕ) → t .job .commands ≡ inside (access a) ∷ l → PassFit words blocks (inside (access a) ∷ l) x → AgainFit a x
         → (o : Read) → TurnFit words blocks t (againRead m t x a v o)
@@ -203,7 +200,7 @@ module _ {words blocks : ℕ} (t : Task) (hr : length (t .job .registers) ≡ 8)
   committed-fit q v (goes m y) h =
       stays-fit t hr hc (inside COMMIT ∷ l) e (h .memory) f (record { others = l; commands = refl; notSpent = q; exchange = h .exchange })
   committed-fit q v (ends m true) h = commit-done h (takenBack (t .copies) (x .blocks)) (taken-back-size (t .copies) (x .blocks) ∙ hc)
-  committed-fit q v (ends m false) h = rejected-fit t hr hc h f
+  committed-fit q v (ends m false) h = loses-fit t hr hc h f
 
 -- EVERY INNER STEP
 module _ {words blocks : ℕ} (most : blocks ≤ 16) {m : Memory} (g : MemoryFit m) (t : Task) (hr : length (t .job .registers) ≡ 8)

@@ -4,7 +4,7 @@ use mathlib.Core.Path.{_≡_, refl, sym, _∙_, ap, subst}
 use mathlib.Core.Option.{Option, none, some}
 use lib.ListN.{length}
 use Rattle.model.specs.Lists.{at}
-use Rattle.model.specs.Job.{Deed, nothingDone, began, readGave, swapCommitted, swapAnswered, getGave, passLost}
+use Rattle.model.specs.Job.{Deed, nothingDone, began, readGave, swapCommitted, swapAnswered, getGave, attemptLost}
 use Rattle.model.specs.Job.{transactionCommitted, transactionEnded, endedUntouched, endedSpent}
 use Rattle.model.specs.Machine.{Machine, Running, nobody, running, runningOf, turnOf}
 use Rattle.model.specs.History.{Operation, History, operationAt, Event, nothing, begins, amends, eventOf, noted, observed}
@@ -27,7 +27,7 @@ event-task t (readGave v) = λ o. refl
 event-task t swapCommitted = λ o. refl
 event-task t (swapAnswered yes?) = λ o. refl
 event-task t (getGave v) = λ o. refl
-event-task t passLost = λ o. refl
+event-task t attemptLost = λ o. refl
 event-task t transactionCommitted = λ o. refl
 event-task t transactionEnded = λ o. refl
 event-task t endedUntouched = λ o. refl

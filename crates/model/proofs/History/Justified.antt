@@ -10,15 +10,16 @@ use lib.Dec.{eqb}
 use lib.ListN.{length}
 use borrow.Author.Tests.{ne-eqb}
 use Rattle.model.specs.Lists.{at, In}
+use Rattle.model.specs.Job.{Deed}
 use Rattle.model.specs.Plain.{Contents, result, allOld, plainly, plainSwapBy}
-use Rattle.model.specs.History.{Operation, History, operationAt, Event, nothing, begins, amends, answering, ending, noted}
+use Rattle.model.specs.History.{Operation, History, operationAt, nothing, begins, amends, answering, ending, eventOf, noted}
 use Rattle.model.specs.Claim.{countedBy, Counted, Interfered, exactly, freely}
 use Rattle.model.specs.Arguments.{Pair, Arguments, readOf, swapOf, transactionOf}
 use Rattle.model.proofs.Lists.{same?}
 use Rattle.model.proofs.History.Advance.{Changed}
 use Rattle.model.proofs.History.Growth.{Settled, commits, finds, Settles}
 use Rattle.model.proofs.History.Moves.{Settling, settlesNothing, settlesRead, settlesYes, settlesNo, settlesTransaction, Moves, staysOutside}
-use Rattle.model.proofs.History.Moves.{begun, goesOn, answers, readEnds, swapCommits, swapEnds, swapCommitsAndEnds, swapRejected}
+use Rattle.model.proofs.History.Moves.{begun, goesOn, gets, loses, readEnds, swapCommits, swapEnds, swapCommitsAndEnds, swapRejected}
 use Rattle.model.proofs.History.Moves.{transactionCommits, transactionEnds, transactionCommitsAndEnds, nothingTouched, endsSpent}
 use Rattle.model.proofs.History.Noted.{latestOf, number-below, noted-nothing, noted-begins, noted-amends}
 use Rattle.model.proofs.History.Linked.{Open, OpenBy, open-uncounted, open-counted}
@@ -164,12 +165,14 @@ module _ (contents : ℕ → Contents) where
               let b = latest-before o in finds u (omega arith) (omega arith) (freely _ (c .here) refl (interfered named i k) refl) (w .still)
 
     -- EVERY TICK SETTLES WHAT IT OWES
-    pub settles : {g g′ : Option Arguments} {b b′ : Bool} {e : Event} {s : Settling} → Moves u g b e s g′ b′ → OpenBy h p g b → Justified u p h s
-        → Settles contents u h (noted u p e h)
+    pub settles : {g g′ : Option Arguments} {b b′ : Bool} {d : Deed} {s : Settling} → Moves g b d s g′ b′ → OpenBy h p g b → Justified u p h s
+        → Settles contents u h (noted u p (eventOf u d) h)
+    unfolding eventOf
     settles staysOutside o w = nothing-settles w
     settles (begun {a = a}) o w = begins-settles a w
     settles goesOn o w = nothing-settles w
-    settles (answers f) o w = quiet-amends o _ (inl (rw (o .unended, o .committed) refl)) w
+    settles (gets v) o w = quiet-amends o _ (inl (rw (o .unended, o .committed) refl)) w
+    settles loses o w = quiet-amends o _ (inl (rw (o .unended, o .committed) refl)) w
     settles (readEnds {w = w} v) o d = settles-read o w v refl d
     settles swapCommits o w = settles-now o _ (rw (o .unended, o .unspent) refl) refl w
     settles swapEnds o w = quiet-amends o _ (inr (open-counted o)) w

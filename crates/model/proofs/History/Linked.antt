@@ -8,15 +8,15 @@ use mathlib.Core.List.{List, [], _∷_}
 use mathlib.Core.Option.{Option, none, some}
 use native.Mathlib.Omega.{arith}
 use lib.ListN.{length}
-use Rattle.model.specs.History.{Operation, History, operationAt, Event, nothing, begins, amends, answering, ending, noted}
+use Rattle.model.specs.History.{Operation, History, operationAt, nothing, begins, amends, answering, ending, eventOf, noted}
 use Rattle.model.specs.Claim.{countedBy}
-use Rattle.model.specs.Job.{Task}
+use Rattle.model.specs.Job.{Task, Deed}
 use Rattle.model.specs.Machine.{taskAt}
 use Rattle.model.specs.Arguments.{Pair, Arguments, swapOf}
 use Rattle.model.proofs.Lists.{at-past, impossible}
 use Rattle.model.proofs.History.Advance.{Amended, Changed, Advance}
 use Rattle.model.proofs.History.Advance.{same as advanceSame, begins as advanceBegins, amends as advanceAmends}
-use Rattle.model.proofs.History.Moves.{given, hasCommitted, Settling, Moves, staysOutside, begun, goesOn, answers, readEnds}
+use Rattle.model.proofs.History.Moves.{given, hasCommitted, Settling, Moves, staysOutside, begun, goesOn, gets, loses, readEnds}
 use Rattle.model.proofs.History.Moves.{swapCommits, swapEnds, swapCommitsAndEnds, swapRejected, transactionCommits}
 use Rattle.model.proofs.History.Moves.{transactionEnds, transactionCommitsAndEnds, nothingTouched, endsSpent}
 use Rattle.model.proofs.History.Noted.{latestOf, newOperation, number-below, noted-nothing, size-nothing, latest-nothing, noted-begins}
@@ -195,12 +195,16 @@ module _ (u p : ℕ) (h : History) (size : length (h .began) ≡ u) (latest : le
       said = said;
     }
 
-  pub next : {g g′ : Option Arguments} {b b′ : Bool} {e : Event} {s : Settling} → Moves u g b e s g′ b′ → OpenBy h p g b
-      → Next u p h (noted u p e h) g g′ b′
+  pub next : {g g′ : Option Arguments} {b b′ : Bool} {d : Deed} {s : Settling} → Moves g b d s g′ b′ → OpenBy h p g b
+      → Next u p h (noted u p (eventOf u d) h) g g′ b′
+  unfolding eventOf
   next {b = b} staysOutside o = nothing-next none _ tt
   next (begun {a = a}) o = begins-next a
   next (goesOn {b} {a}) o = nothing-next (some a) b o
-  next (answers f) o =
+  next (gets v) o =
+      amends-next o _ _ _ (uncommitted u o _ refl refl (inl (o .unended)))
+      (λ c. stays o _ false c refl refl (o .unended) (o .committed) refl (λ ps e y. absurd (true≢false (sym y))))
+  next loses o =
       amends-next o _ _ _ (uncommitted u o _ refl refl (inl (o .unended)))
       (λ c. stays o _ false c refl refl (o .unended) (o .committed) refl (λ ps e y. absurd (true≢false (sym y))))
   next (readEnds v) o = amends-next o _ none _ (uncommitted u o _ refl refl (inr refl)) (λ c. tt)

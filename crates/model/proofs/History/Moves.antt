@@ -1,4 +1,4 @@
--- What a tick means for the running task's operation: its event in the history, what it settles, and where the task stands before and after it.
+-- What a tick means for the running task's operation: what its statement did, what it settles, and where the task stands before and after it.
 use Prim.Native.Nat.{ℕ}
 use mathlib.Core.Bool.{Bool, true, false}
 use mathlib.Core.List.{List, [], _∷_}
@@ -8,8 +8,9 @@ use Rattle.model.specs.Word.{Memory, Read, reads, gives, readTick}
 use Rattle.model.specs.Exchange.{Exchanged, goes, ends, exchangeTick, saidYes}
 use Rattle.model.specs.Job.{Transaction, Inner, between, first, copying, again, committing}
 use Rattle.model.specs.Job.{Phase, idle, plain, reading, exchanging, transacting}
+use Rattle.model.specs.Job.{Deed, nothingDone, began, readGave, swapCommitted, swapAnswered, getGave, attemptLost}
+use Rattle.model.specs.Job.{transactionCommitted, transactionEnded, endedUntouched, endedSpent}
 use Rattle.model.specs.Transaction.{nothing?}
-use Rattle.model.specs.History.{Event, nothing, begins, amends, answering, ending, asCommitted, asSpent}
 use Rattle.model.specs.Arguments.{Pair, Arguments, readOf, swapOf, transactionOf, untilCommit}
 use Rattle.model.proofs.History.Exchange.{saysYes, pairsOf}
 
@@ -83,30 +84,30 @@ settling p m l (reading r w s) = readSettles w (readTick m w s)
 settling p m l (exchanging r x) = swapSettles (saysYes p m (x .step)) (pairsOf x) (exchangeTick p m x (x .step))
 settling p m l (transacting x s) = innerSettles p m l x s
 
--- BEFORE AND AFTER TICK u: the arguments and the commit, with event and settling between them
-pub data Moves (u : ℕ) : Option Arguments → Bool → Event → Settling → Option Arguments → Bool → Type 0 where
-  staysOutside : {b c : Bool} → Moves u none b nothing settlesNothing none c
-  begun : {b : Bool} {a : Arguments} → Moves u none b (begins a) settlesNothing (some a) false
-  goesOn : {b : Bool} {a : Arguments} → Moves u (some a) b nothing settlesNothing (some a) b
-  answers : {rs : List ℕ} {l : List BodyCommand} (f : List ℕ → List ℕ)
-      → Moves u (some (transactionOf rs l)) false (amends (λ o. answering (f (o .answers)) o)) settlesNothing (some (transactionOf rs l)) false
-  readEnds : {w : ℕ} {c : Bool} (v : ℕ) → Moves u (some (readOf w)) false (amends (λ o. ending u (answering (v ∷ []) o))) (settlesRead w v) none c
-  swapCommits : {ps : List Pair}
-      → Moves u (some (swapOf ps)) false (amends (λ o. asCommitted (answering (1 ∷ []) o))) (settlesYes ps) (some (swapOf ps)) true
-  swapEnds : {ps : List Pair} {c : Bool} → Moves u (some (swapOf ps)) true (amends (λ o. ending u (answering (1 ∷ []) o))) settlesNothing none c
-  swapCommitsAndEnds : {ps : List Pair} {c : Bool}
-      → Moves u (some (swapOf ps)) false (amends (λ o. ending u (answering (1 ∷ []) o))) (settlesYes ps) none c
-  swapRejected : {ps : List Pair} {c : Bool} → Moves u (some (swapOf ps)) false (amends (λ o. ending u (answering (0 ∷ []) o))) (settlesNo ps) none c
+-- BEFORE AND AFTER A TICK: the arguments and the commit, with what its statement did and what it settles between them
+pub data Moves : Option Arguments → Bool → Deed → Settling → Option Arguments → Bool → Type 0 where
+  staysOutside : {b c : Bool} → Moves none b nothingDone settlesNothing none c
+  begun : {b : Bool} {a : Arguments} → Moves none b (began a) settlesNothing (some a) false
+  goesOn : {b : Bool} {a : Arguments} → Moves (some a) b nothingDone settlesNothing (some a) b
+  gets : {rs : List ℕ} {l : List BodyCommand} (v : ℕ)
+      → Moves (some (transactionOf rs l)) false (getGave v) settlesNothing (some (transactionOf rs l)) false
+  loses : {rs : List ℕ} {l : List BodyCommand}
+      → Moves (some (transactionOf rs l)) false attemptLost settlesNothing (some (transactionOf rs l)) false
+  readEnds : {w : ℕ} {c : Bool} (v : ℕ) → Moves (some (readOf w)) false (readGave v) (settlesRead w v) none c
+  swapCommits : {ps : List Pair} → Moves (some (swapOf ps)) false swapCommitted (settlesYes ps) (some (swapOf ps)) true
+  swapEnds : {ps : List Pair} {c : Bool} → Moves (some (swapOf ps)) true (swapAnswered true) settlesNothing none c
+  swapCommitsAndEnds : {ps : List Pair} {c : Bool} → Moves (some (swapOf ps)) false (swapAnswered true) (settlesYes ps) none c
+  swapRejected : {ps : List Pair} {c : Bool} → Moves (some (swapOf ps)) false (swapAnswered false) (settlesNo ps) none c
   transactionCommits : {rs : List ℕ} {l : List BodyCommand}
-      → Moves u (some (transactionOf rs l)) false (amends (λ o. asCommitted o)) (settlesTransaction rs l) (some (transactionOf rs l)) true
+      → Moves (some (transactionOf rs l)) false transactionCommitted (settlesTransaction rs l) (some (transactionOf rs l)) true
   transactionEnds : {rs : List ℕ} {l : List BodyCommand} {c : Bool}
-      → Moves u (some (transactionOf rs l)) true (amends (λ o. ending u o)) settlesNothing none c
+      → Moves (some (transactionOf rs l)) true transactionEnded settlesNothing none c
   transactionCommitsAndEnds : {rs : List ℕ} {l : List BodyCommand} {c : Bool}
-      → Moves u (some (transactionOf rs l)) false (amends (λ o. ending u o)) (settlesTransaction rs l) none c
+      → Moves (some (transactionOf rs l)) false transactionEnded (settlesTransaction rs l) none c
   nothingTouched : {rs : List ℕ} {l : List BodyCommand} {c : Bool}
-      → Moves u (some (transactionOf rs l)) false (amends (λ o. ending u (asCommitted o))) (settlesTransaction rs l) none c
+      → Moves (some (transactionOf rs l)) false endedUntouched (settlesTransaction rs l) none c
   endsSpent : {rs : List ℕ} {l : List BodyCommand} {c : Bool}
-      → Moves u (some (transactionOf rs l)) false (amends (λ o. ending u (asSpent o))) settlesNothing none c
+      → Moves (some (transactionOf rs l)) false endedSpent settlesNothing none c
 
-abbrev pub MovesBy : ℕ → Phase → Event → Settling → Phase → Type 0
-MovesBy u f e s f′ = Moves u (given f) (hasCommitted f) e s (given f′) (hasCommitted f′)
+abbrev pub MovesBy : Phase → Deed → Settling → Phase → Type 0
+MovesBy f d s f′ = Moves (given f) (hasCommitted f) d s (given f′) (hasCommitted f′)

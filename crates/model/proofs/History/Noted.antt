@@ -9,7 +9,7 @@ use native.Mathlib.Omega.{arith}
 use lib.ListN.{length, length-append}
 use lib.Seq.{set-getD}
 use Rattle.model.specs.Lists.{at, replace}
-use Rattle.model.specs.History.{Operation, History, operationAt, Event, nothing, begins, amends, amendBy, noted}
+use Rattle.model.specs.History.{Operation, operation, History, operationAt, Event, nothing, begins, amends, amendBy, noted}
 use Rattle.model.specs.Arguments.{Arguments}
 use Rattle.model.proofs.Lists.{same?, replace-same, replace-other, length-replace, at-below, at-past, impossible}
 use Rattle.model.proofs.History.Advance.{Changed}
@@ -19,7 +19,7 @@ abbrev pub latestOf : History → ℕ → ℕ
 latestOf h p = at 0 (h .latest) p
 
 abbrev pub newOperation : ℕ → Arguments → Operation
-newOperation p a = record { task = p; arguments = a; last = none; committed = false; spent = false; answers = [] }
+newOperation p a = operation p a none false false [] []
 
 -- ONE ENTRY MORE at the end of a list
 module _ {A : Type 0} (d : A) where

@@ -15,12 +15,11 @@ use Rattle.model.specs.Transaction.{bank, blockOf, versionOf, remembered
 use Rattle.model.specs.Transaction.{firstRead, copyBy, copyTick, accessTick, checkBy, againRead, commandTick}
 use Rattle.model.specs.Transaction.{transactionTick, commitCommandBy, committingBy, stays, committedIf}
 use Rattle.model.specs.Machine.{answer, readBy, swapBy, plainTick, statement, swapCommittedIf}
-use Rattle.model.specs.History.{eventOf}
 use Rattle.model.specs.Arguments.{Pair, swapOf}
 use Rattle.model.proofs.History.Exchange.{saysYes, said-now, yes-once, pairsOf, Follows, follows}
 use Rattle.model.proofs.History.Moves.{given, innerCommitted, hasCommitted, Settling, settlesNothing, readSettles, swapSettles}
 use Rattle.model.proofs.History.Moves.{transactionSettles, commandSettles, innerSettles, settling, Moves, staysOutside, begun, goesOn}
-use Rattle.model.proofs.History.Moves.{answers, readEnds, swapCommits, swapEnds, swapCommitsAndEnds, swapRejected, transactionCommits}
+use Rattle.model.proofs.History.Moves.{gets, loses, readEnds, swapCommits, swapEnds, swapCommitsAndEnds, swapRejected, transactionCommits}
 use Rattle.model.proofs.History.Moves.{transactionEnds, transactionCommitsAndEnds, nothingTouched, endsSpent, MovesBy}
 
 -- a command is done: its task is outside
@@ -29,19 +28,19 @@ unfolding doneBy
 done-outside [] t rs ps cs = refl
 done-outside (c ∷ l) t rs ps cs = refl
 
-module _ (u p : ℕ) (m : Memory) (t : Task) where
+module _ (p : ℕ) (m : Memory) (t : Task) where
   -- OUTSIDE
   read-moves : (r w : ℕ) (s : Reading) (o : Read)
-      → MovesBy u (reading r w s) (eventOf u (readBy m t r w o .did)) (readSettles w o) (readBy m t r w o .task .job .phase)
-  unfolding readBy eventOf
+      → MovesBy (reading r w s) (readBy m t r w o .did) (readSettles w o) (readBy m t r w o .task .job .phase)
+  unfolding readBy
   read-moves r w s (reads s′) = goesOn
   read-moves r w s (gives v) =
       rw (done-outside (rest (t .job .commands)) t (replace (t .job .registers) r v) (t .job .pairs) (t .copies)) (readEnds v)
 
   plain-moves : t .job .phase ≡ plain → (l : List BodyCommand)
-      → Moves u none false (eventOf u (plainTick p m t l .did)) settlesNothing (given (plainTick p m t l .task .job .phase))
+      → Moves none false (plainTick p m t l .did) settlesNothing (given (plainTick p m t l .task .job .phase))
       (hasCommitted (plainTick p m t l .task .job .phase))
-  unfolding plainTick eventOf readTick readBy exchangeTick swapBy
+  unfolding plainTick readTick readBy exchangeTick swapBy
   plain-moves e [] = rw e staysOutside
   plain-moves e (LOAD r v ∷ l) =
       rw (done-outside (rest (t .job .commands)) t (replace (t .job .registers) r v) (t .job .pairs) (t .copies)) staysOutside
@@ -55,24 +54,22 @@ module _ (u p : ℕ) (m : Memory) (t : Task) where
   -- IN AN EXCHANGE, by what it has said before and what it says now
   swap-goes : (ps : List Pair) (m′ : Memory) (x′ : Exchange) (said says : Bool) → pairsOf x′ ≡ ps → saidYes (x′ .step) ≡ (said || says)
       → (says ≡ true → said ≡ false)
-      → Moves u (some (swapOf ps)) said (eventOf u (swapCommittedIf says)) (swapSettles says ps (goes m′ x′)) (some (swapOf (pairsOf x′)))
+      → Moves (some (swapOf ps)) said (swapCommittedIf says) (swapSettles says ps (goes m′ x′)) (some (swapOf (pairsOf x′)))
       (saidYes (x′ .step))
-  unfolding eventOf
   swap-goes ps m′ x′ false false e y n = rw (e, y) goesOn
   swap-goes ps m′ x′ true false e y n = rw (e, y) goesOn
   swap-goes ps m′ x′ false true e y n = rw (e, y) swapCommits
   swap-goes ps m′ x′ true true e y n = absurd (true≢false (n refl))
 
   swap-ends : (ps : List Pair) (m′ : Memory) (c said says yes? : Bool) → yes? ≡ (said || says) → (says ≡ true → said ≡ false)
-      → Moves u (some (swapOf ps)) said (eventOf u (swapAnswered yes?)) (swapSettles says ps (ends m′ yes?)) none c
-  unfolding eventOf
+      → Moves (some (swapOf ps)) said (swapAnswered yes?) (swapSettles says ps (ends m′ yes?)) none c
   swap-ends ps m′ c false false yes? y n = rw y swapRejected
   swap-ends ps m′ c true false yes? y n = rw y swapEnds
   swap-ends ps m′ c false true yes? y n = rw y swapCommitsAndEnds
   swap-ends ps m′ c true true yes? y n = absurd (true≢false (n refl))
 
   swap-moves : (r : ℕ) (x : Exchange) (o : Exchanged) → Follows p m x (x .step) o
-      → MovesBy u (exchanging r x) (eventOf u (swapBy t r x o .did)) (swapSettles (saysYes p m (x .step)) (pairsOf x) o)
+      → MovesBy (exchanging r x) (swapBy t r x o .did) (swapSettles (saysYes p m (x .step)) (pairsOf x) o)
       (swapBy t r x o .task .job .phase)
   unfolding swapBy
   swap-moves r x (goes m′ x′) g =
@@ -84,20 +81,20 @@ module _ (u p : ℕ) (m : Memory) (t : Task) where
   -- IN A TRANSACTION
   module _ (x : Transaction) where
     abbrev Within : Bool → Settling → Turn → Type 0
-    Within c s v = Moves u (given (transacting x between)) c (eventOf u (v .did)) s (given (v .task .job .phase)) (hasCommitted (v .task .job .phase))
+    Within c s v = Moves (given (transacting x between)) c (v .did) s (given (v .task .job .phase)) (hasCommitted (v .task .job .phase))
 
     first-moves : (a : Access) (o : Read) → Within false settlesNothing (firstRead m t x a o)
-    unfolding eventOf firstRead
+    unfolding firstRead
     first-moves a (reads r) = goesOn
     first-moves a (gives v) = goesOn
 
     copy-moves : (b : Bool) (m′ : Memory) (a : Access) (n : ℕ) → Within false settlesNothing (copyBy b m′ t x a n)
-    unfolding eventOf copyBy
+    unfolding copyBy
     copy-moves true m′ a n = goesOn
     copy-moves false m′ a n = goesOn
 
     access-moves : (a : Access) (b : Touched) → Within false settlesNothing (accessTick m t x a b)
-    unfolding eventOf accessTick
+    unfolding accessTick
     access-moves a untouched = goesOn
     access-moves (GET r b o) (remembered v) = goesOn
     access-moves (GET r b o) (copied v k) = goesOn
@@ -105,24 +102,24 @@ module _ (u p : ℕ) (m : Memory) (t : Task) where
     access-moves (PUT b o r) (copied v k) = goesOn
 
     check-moves : (b : Bool) (a : Access) (v : ℕ) → Within false settlesNothing (checkBy b m t x a v)
-    unfolding eventOf checkBy
-    check-moves true (GET r b o) v = answers (λ l. l ++ (v ∷ []))
+    unfolding checkBy
+    check-moves true (GET r b o) v = gets v
     check-moves true (PUT b o r) v = goesOn
-    check-moves false a v = answers (λ l. [])
+    check-moves false a v = loses
 
     again-moves : (a : Access) (v : ℕ) (o : Read) → Within false settlesNothing (againRead m t x a v o)
-    unfolding eventOf againRead
+    unfolding againRead
     again-moves a v (reads r) = goesOn
     again-moves a v (gives w) = check-moves (eqb (versionOf w) (versionOf (rememberedOf (touchedOf x (blockOf a))))) a v
 
     commit-moves : (n s : Bool) → Within false (transactionSettles n x) (commitCommandBy n s m t x)
-    unfolding eventOf commitCommandBy
+    unfolding commitCommandBy
     commit-moves true s = rw (done-outside (rest (t .job .commands)) t (t .job .registers) [] (t .copies)) nothingTouched
     commit-moves false true = endsSpent
     commit-moves false false = goesOn
 
     command-moves : t .job .phase ≡ transacting x between → (l : List BodyCommand) → Within false (commandSettles x l) (commandTick m t x l)
-    unfolding eventOf commandTick
+    unfolding commandTick
     command-moves e [] = rw e goesOn
     command-moves e (LOAD r v ∷ l) = goesOn
     command-moves e (ADD r q ∷ l) = goesOn
@@ -133,7 +130,6 @@ module _ (u p : ℕ) (m : Memory) (t : Task) where
     -- the exchange of COMMIT
     committing-goes : (e′ : Exchange) (said says : Bool) → saidYes (e′ .step) ≡ (said || says) → (says ≡ true → said ≡ false)
         → Within said (transactionSettles says x) (turn m (stays t x (committing e′)) (committedIf says))
-    unfolding eventOf
     committing-goes e′ false false y n = rw y goesOn
     committing-goes e′ true false y n = rw y goesOn
     committing-goes e′ false true y n = rw y transactionCommits
@@ -141,22 +137,22 @@ module _ (u p : ℕ) (m : Memory) (t : Task) where
 
     committing-ends : (e : Exchange) (m′ : Memory) (said says yes? : Bool) → yes? ≡ (said || says) → (says ≡ true → said ≡ false)
         → Within said (transactionSettles says x) (committingBy t x e (ends m′ yes?))
-    unfolding eventOf committingBy
-    committing-ends e m′ false false yes? y n = rw y (answers (λ l. []))
+    unfolding committingBy
+    committing-ends e m′ false false yes? y n = rw y loses
     committing-ends e m′ true false yes? y n = rw (y, done-outside (rest (t .job .commands)) t) transactionEnds
     committing-ends e m′ false true yes? y n = rw (y, done-outside (rest (t .job .commands)) t) transactionCommitsAndEnds
     committing-ends e m′ true true yes? y n = absurd (true≢false (n refl))
 
     committing-moves : (e : Exchange) (o : Exchanged) → Follows p m e (e .step) o
         → Within (saidYes (e .step)) (transactionSettles (saysYes p m (e .step)) x) (committingBy t x e o)
-    unfolding eventOf committingBy
+    unfolding committingBy
     committing-moves e (goes m′ e′) g =
         rw (said-now p m e e′ g) (committing-goes e′ (saidYes (e .step)) (saysYes p m (e .step)) (g .yes) (yes-once p m (e .step)))
     committing-moves e (ends m′ yes?) y = committing-ends e m′ (saidYes (e .step)) (saysYes p m (e .step)) yes? y (yes-once p m (e .step))
 
     inner-moves : (s : Inner) → t .job .phase ≡ transacting x s
         → Within (innerCommitted s) (innerSettles p m (t .job .commands) x s) (transactionTick p m t x s)
-    unfolding eventOf transactionTick copyTick
+    unfolding transactionTick copyTick
     inner-moves between e = command-moves e (t .job .commands)
     inner-moves (first a r) e = first-moves a (readTick m (bank (blockOf a)) r)
     inner-moves (copying a n) e = copy-moves (eqb (suc n) 8) _ a n
@@ -164,8 +160,8 @@ module _ (u p : ℕ) (m : Memory) (t : Task) where
     inner-moves (committing c) e = committing-moves c (exchangeTick p m c (c .step)) (follows p m c (c .step))
 
   pub moves : (f : Phase) → t .job .phase ≡ f
-      → MovesBy u f (eventOf u (statement p m t f .did)) (settling p m (t .job .commands) f) (statement p m t f .task .job .phase)
-  unfolding eventOf settling statement
+      → MovesBy f (statement p m t f .did) (settling p m (t .job .commands) f) (statement p m t f .task .job .phase)
+  unfolding settling statement
   moves idle e = rw e staysOutside
   moves plain e = plain-moves e (t .job .commands)
   moves (reading r w s) e = read-moves r w s (readTick m w s)

@@ -35,7 +35,7 @@ machine-settles : (contents : ℕ → Contents) {m : Machine} {h : History} → 
 unfolding observed
 machine-settles contents {m} {h} g nobody w = settles contents (m .now) 0 h (g .linked .size) (staysOutside {b = false} {c = false}) tt w
 machine-settles contents {m} {h} g (running p) w =
-    settles contents (m .now) p h (g .linked .size) (moves (m .now) p (m .memory) (taskAt (m .tasks) p) (taskAt (m .tasks) p .job .phase) refl)
+    settles contents (m .now) p h (g .linked .size) (moves p (m .memory) (taskAt (m .tasks) p) (taskAt (m .tasks) p .job .phase) refl)
     (g .linked .opened p) w
 
 idle-memory : (m : Machine) → move m nobody .memory ≡ m .memory

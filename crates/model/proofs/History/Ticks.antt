@@ -168,7 +168,7 @@ module _ {m : Machine} {h : History} (g : MachineLinked m h) where
   unfolding observed
   next-of p r = let below : p < 8 = omega (arith, r .below, g .size) in
       next (m .now) p h (g .linked .size) (g .linked .latest) below
-      (moves (m .now) p (m .memory) (taskAt (m .tasks) p) (taskAt (m .tasks) p .job .phase) refl) (g .linked .opened p)
+      (moves p (m .memory) (taskAt (m .tasks) p) (taskAt (m .tasks) p .job .phase) refl) (g .linked .opened p)
 
   pub move-advances : (r : Running) → runningOf m ≡ r → Advance (m .now) h (observed m r h)
   unfolding observed

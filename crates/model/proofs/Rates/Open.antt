@@ -5,11 +5,12 @@ use mathlib.Core.Path.{_≡_, refl, sym, _∙_, ap}
 use mathlib.Core.Logic.{_≢_}
 use mathlib.Core.Option.{Option, none, some}
 use lib.ListN.{length}
-use Rattle.model.specs.History.{Operation, History, operationAt, Event, nothing, begins, amends, noted}
+use Rattle.model.specs.History.{Operation, History, operationAt, nothing, begins, amends, eventOf, noted}
+use Rattle.model.specs.Job.{Deed}
 use Rattle.model.specs.Arguments.{Arguments}
 use Rattle.model.proofs.Lists.{same?}
 use Rattle.model.proofs.History.Advance.{Changed}
-use Rattle.model.proofs.History.Moves.{Settling, Moves, staysOutside, begun, goesOn, answers, readEnds}
+use Rattle.model.proofs.History.Moves.{Settling, Moves, staysOutside, begun, goesOn, gets, loses, readEnds}
 use Rattle.model.proofs.History.Moves.{swapCommits, swapEnds, swapCommitsAndEnds, swapRejected, transactionCommits}
 use Rattle.model.proofs.History.Moves.{transactionEnds, transactionCommitsAndEnds, nothingTouched, endsSpent}
 use Rattle.model.proofs.History.Noted.{latestOf, newOperation, noted-nothing, latest-nothing, noted-begins}
@@ -98,12 +99,14 @@ module _ (u p : ℕ) (h : History) (size : length (h .began) ≡ u) (below : p <
           (λ ne. else-stands b q ne is n);
     }
 
-  pub unended : {g g′ : Option Arguments} {b b′ : Bool} {e : Event} {s : Settling} → Moves u g b e s g′ b′ → OpenBy h p g b → inside p ≡ g
-      → inside′ p ≡ g′ → Unended (noted u p e h) inside′
+  pub unended : {g g′ : Option Arguments} {b b′ : Bool} {d : Deed} {s : Settling} → Moves g b d s g′ b′ → OpenBy h p g b → inside p ≡ g
+      → inside′ p ≡ g′ → Unended (noted u p (eventOf u d) h) inside′
+  unfolding eventOf
   unended staysOutside o i i′ = nothing-outside i
   unended (begun {a = a}) o i i′ = begins-unended a i i′
   unended goesOn o i i′ = nothing-inside (i′ ∙ sym i)
-  unended (answers f) o i i′ = stays-unended o _ refl refl i′
+  unended (gets v) o i i′ = stays-unended o _ refl refl i′
+  unended loses o i i′ = stays-unended o _ refl refl i′
   unended (readEnds v) o i i′ = ends-unended o _ refl
   unended swapCommits o i i′ = stays-unended o _ refl refl i′
   unended swapEnds o i i′ = ends-unended o _ refl

@@ -129,7 +129,7 @@ module _ {who : ℕ → Running} {h : History} where
       ended-runs : InTime who (observed m (running p) h)
       unfolding observed
       ended-runs =
-          in-time who (m .now) p h (linked .linked .size) (k .ended) (moves (m .now) p (m .memory) task (task .job .phase) refl)
+          in-time who (m .now) p h (linked .linked .size) (k .ended) (moves p (m .memory) task (task .job .phase) refl)
           (linked .linked .opened p) rate
 
       abbrev next : List Task
@@ -141,7 +141,7 @@ module _ {who : ℕ → Running} {h : History} where
           unended (m .now) p h (linked .linked .size) (omega (arith, linked .linked .latest, linked .size, r .below)) (givenTo (m .tasks))
           (givenTo next)
           (λ q ne. rw (replace-other noTask (m .tasks) p q (counting ticks (after .task)) ne) refl) (k .unended)
-          (moves (m .now) p (m .memory) task (task .job .phase) refl) (linked .linked .opened p) refl
+          (moves p (m .memory) task (task .job .phase) refl) (linked .linked .opened p) refl
           (rw (replace-same noTask (m .tasks) p (counting ticks (after .task)) (r .below)) refl)
 
       rated-runs : Rated who (suc (m .now)) (move m (running p)) (observed m (running p) h)

@@ -9,15 +9,14 @@ use lib.ListN.{length, length-map}
 use Rattle.model.specs.Command.{READ, PAIR, SWAP, BEGIN, BodyCommand, LOAD, ADD, outside, inside}
 use Rattle.model.specs.Word.{Memory, statusOf, Reading, Read, reads, gives, readTick}
 use Rattle.model.specs.Exchange.{Entry, Exchange, Exchanged, goes, ends, exchangeTick}
-use Rattle.model.specs.Job.{Phase, idle, plain, reading, exchanging, transacting, Task, rest, doneBy}
+use Rattle.model.specs.Job.{Phase, idle, plain, reading, exchanging, transacting, Task, rest, doneBy, Deed}
 use Rattle.model.specs.Machine.{readBy, swapBy, plainTick, statement, pairOf}
-use Rattle.model.specs.History.{Event}
 use Rattle.model.specs.Arguments.{Arguments, readOf, swapOf, transactionOf, untilCommit}
 use Rattle.model.proofs.Lists.{impossible}
 use Rattle.model.proofs.Exchanges.Rates.{Reads, at-first, goes-on, reading-rate, reading-ends, Ran}
 use Rattle.model.proofs.Exchanges.Rates.{before-start, own-tick, others, exchange-rate, exchange-ends}
 use Rattle.model.proofs.History.Exchange.{pairsOf, Follows, follows}
-use Rattle.model.proofs.History.Moves.{given, Settling, Moves, staysOutside, begun, goesOn, answers, readEnds}
+use Rattle.model.proofs.History.Moves.{given, Settling, Moves, staysOutside, begun, goesOn, gets, loses, readEnds}
 use Rattle.model.proofs.History.Moves.{swapCommits, swapEnds, swapCommitsAndEnds, swapRejected, transactionCommits}
 use Rattle.model.proofs.History.Moves.{transactionEnds, transactionCommitsAndEnds, nothingTouched, endsSpent}
 use Rattle.model.proofs.History.Statement.{moves}
@@ -97,11 +96,12 @@ Stays none g = Unit {0}
 Stays (some a) none = Unit {0}
 Stays (some a) (some b) = b ≡ a
 
-moves-stay : {u : ℕ} {g g′ : Option Arguments} {b b′ : Bool} {e : Event} {s : Settling} → Moves u g b e s g′ b′ → Stays g g′
+moves-stay : {g g′ : Option Arguments} {b b′ : Bool} {d : Deed} {s : Settling} → Moves g b d s g′ b′ → Stays g g′
 moves-stay staysOutside = tt
 moves-stay begun = tt
 moves-stay goesOn = refl
-moves-stay (answers f) = refl
+moves-stay (gets v) = refl
+moves-stay loses = refl
 moves-stay (readEnds v) = tt
 moves-stay swapCommits = refl
 moves-stay swapEnds = tt
@@ -162,7 +162,7 @@ module _ (p : ℕ) (m : Memory) (u : Task) (below : p < length (m .status)) wher
     timely-next (transacting x s) e h i = record {
       inside =
           transaction-timely (x .kept) (untilCommit (x .commands)) (suc t) p (statement p m u (transacting x s) .memory)
-          (statement p m u (transacting x s) .task .job .phase) (moves-stay (moves 0 p m u (transacting x s) e));
+          (statement p m u (transacting x s) .task .job .phase) (moves-stay (moves p m u (transacting x s) e));
       ended = λ z. tt;
     }
 

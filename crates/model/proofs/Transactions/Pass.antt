@@ -14,13 +14,13 @@ use Rattle.model.specs.Word.{Memory, cellOf, stored, saved, setStored, o
 use Rattle.model.specs.Word.{loading, looking, fetching, Read, reads, gives, readTick, lookingBy}
 use Rattle.model.specs.Exchange.{Entry, exchangeOf}
 use Rattle.model.specs.Job.{Touched, untouched, remembered, copied, Transaction, Inner, between, first, copying}
-use Rattle.model.specs.Job.{again, committing, transacting, Task, Turn, turn, rest, doneBy, Deed, nothingDone}
+use Rattle.model.specs.Job.{again, committing, transacting, Task, Turn, turn, losesAttempt, rest, doneBy, Deed, nothingDone}
 use Rattle.model.specs.Transaction.{bank, versionOf, storeOf, blockOf, rememberedOf, touchedOf, stays, goesOn}
 use Rattle.model.specs.Transaction.{restarted, loaded, added, firstRead, copyBy, copyTick, accessTick, checkBy}
 use Rattle.model.specs.Transaction.{againRead, nothing?, spent?, gather, commandTick, transactionTick, commitCommandBy}
 use Rattle.model.specs.Plain.{computes, passBy}
 use Rattle.model.specs.Plain.{Pass as Plain}
-use Rattle.model.specs.History.{Operation, Event, nothing, begins, amends, answering, eventOf}
+use Rattle.model.specs.History.{Operation, operation, Event, nothing, begins, amends, losing, eventOf}
 use Rattle.model.specs.Arguments.{transactionOf, untilCommit}
 use Rattle.model.proofs.Lists.{replace-other, impossible}
 use Rattle.model.proofs.Exchanges.Words.{current-own, current-other}
@@ -37,7 +37,7 @@ use Rattle.model.proofs.Transactions.Puts.{remembers, copies-all, copie
 -- the task's latest operation after what a statement meant for it
 abbrev pub operationAfter : ℕ → Event → Operation → Operation
 operationAfter p nothing o = o
-operationAfter p (begins given) o = record { task = p; arguments = given; last = none; committed = false; spent = false; answers = [] }
+operationAfter p (begins given) o = operation p given none false false [] []
 operationAfter p (amends f) o = f o
 
 -- what a statement of task t leaves, its latest operation being o afterwards
@@ -82,8 +82,8 @@ module _ {words blocks : ℕ} {m : Memory} {t : Task} {x : Transaction} {s : Inn
   stays-turned : (s′ : Inner) → innerCommitted s′ ≡ false → AtInner m (t .copies) x s′ → Turned blocks m t (turn m (stays t x s′) nothingDone) o
   stays-turned s′ e h = same-memory (record { arguments = S .arguments; pass = λ _. inner-step s′ h (S .pass) }) (rw e)
 
-  restart-turned : {d : Deed} → Turned blocks m t (turn m (restarted t x) d) (answering [] o)
-  restart-turned = same-memory (record { arguments = S .arguments; pass = λ _. begins-pass blocks m (t .copies) (x .kept) (x .commands) }) refl
+  loses-turned : (now : ℕ) → Turned blocks m t (losesAttempt m (restarted t x)) (losing now o)
+  loses-turned now = same-memory (record { arguments = S .arguments; pass = λ _. begins-pass blocks m (t .copies) (x .kept) (x .commands) }) refl
 
   -- a bank word read for the first time
   remembers-turned : (a : Access) (v : ℕ) → touchedOf x (blockOf a) ≡ untouched → blockOf a < blocks → Past (bankIn m (blockOf a)) v
@@ -146,7 +146,7 @@ module _ {words blocks : ℕ} {m : Memory} {t : Task} {x : Transaction} {s : Inn
             rw e (copies-all b (rw (S .fit .touched .size) (omega (arith, S .most))) (S .pass) (S .memory) (S .apart) (A .value) (A .read) below
             (A .left) h (record { offset = c; register = r; others = others; commands = l }));
       }) refl
-  check-turned p now a v l h A false = restart-turned
+  check-turned p now a v l h A false = loses-turned now
 
   again-turned : (p now : ℕ) (a : Access) (v : ℕ) {others : List BodyCommand} → t .job .commands ≡ inside (access a) ∷ others
       → Ready m (t .copies) x a v → AgainFit a x → (y : Read)
