@@ -14,6 +14,7 @@ use Rattle.model.proofs.Demand3.Theorem.{demand-3}
 use Rattle.model.proofs.Rates.Theorem.{rates}
 use Rattle.model.proofs.Waiting.{waits}
 use Rattle.model.proofs.Drops.Theorem.{drops}
+use Rattle.model.proofs.LostAttempts.Theorem.{lost-attempts}
 use Rattle.commands.specs.View.{viewRefusal}
 use Rattle.sheet.specs.View.{viewVerdict, checkedOf}
 use Rattle.commands.specs.declared.Fault.{Fault}
@@ -64,6 +65,7 @@ module _ (s : List ℕ) (limit : ℕ) (b : List ℕ) where
         rates = rates s limit;
         waits = waits s limit;
         drops = drops s limit;
+        lost = lost-attempts s limit;
       }
 
   pub run-refused : (f : Fault) → viewVerdict (TurnedDown f) ≡ verdict s → RunsFor s limit b b (answerOf f .number) (answerOf f .place)

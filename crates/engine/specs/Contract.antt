@@ -1,5 +1,5 @@
 -- The contracts of the two public entries: number, place and buffer, each by an equation with the model's answer, the claim, the rates,
--- and what holds of releases that wait and of those dropped.
+-- and what holds of releases that wait, of those dropped and of lost attempts.
 use Prim.Native.Nat.{ℕ}
 use mathlib.Core.Path.{_≡_}
 use mathlib.Core.List.{List}
@@ -10,6 +10,7 @@ use Rattle.model.specs.Claim.{WholeOperations}
 use Rattle.model.specs.Rates.{Rates}
 use Rattle.model.specs.Waiting.{Waits}
 use Rattle.model.specs.Drops.{Drops}
+use Rattle.model.specs.LostAttempts.{LostAttempts}
 use Rattle.commands.specs.View.{viewRefusal}
 use Rattle.commands.specs.declared.Fault.{Fault}
 use Rattle.engine.specs.declared.Answer.{Answer}
@@ -41,6 +42,8 @@ pub record RunsFor (sheet : List ℕ) (limit : ℕ) (before after : List ℕ) (n
   pub waits : verdict sheet ≡ accepted → Waits sheet limit
   -- each task's drops are its arrivals that neither started a job nor wait, and the arrivals are all there
   pub drops : verdict sheet ≡ accepted → Drops sheet limit
+  -- each task's lost attempts are those of its operations: the ticks in which its transactions restarted, for either cause
+  pub lost : verdict sheet ≡ accepted → LostAttempts sheet limit
 
 abbrev pub Runs : List ℕ → ℕ → List ℕ → List ℕ → Answer → Type 0
 Runs sheet limit before after r = RunsFor sheet limit before after (r .number) (r .place)

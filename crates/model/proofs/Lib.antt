@@ -24,3 +24,5 @@ pub mod Rates
 pub mod Waiting
 -- drops by task (`drops` in Drops/Theorem.antt)
 pub mod Drops
+-- lost attempts (`lost-attempts` in LostAttempts/Theorem.antt)
+pub mod LostAttempts

@@ -65,3 +65,27 @@ sheetUAt version ts = oneBlock version ++ bodyU ++ releasesAt ts
 -- two of U, the upper released at tick 6
 abbrev pub sheetUU : List ℕ
 sheetUU = oneBlock 3 ++ bodyU ++ bodyU ++ release 0 0 ++ release 6 1 ++ end
+
+-- a task that writes 7 at offset 0 of block 0, and what it is set against: a task that takes the value there, one that takes it and then writes
+-- it at offset 1, and one that writes 0 there
+abbrev pub bodySeven : List ℕ
+bodySeven = task ++ load 0 7 ++ begin ++ put 0 0 0 ++ commit
+
+abbrev pub bodyTake : List ℕ
+bodyTake = task ++ begin ++ get 0 0 0 ++ commit
+
+abbrev pub bodyTakeWrite : List ℕ
+bodyTakeWrite = bodyTake ++ begin ++ put 0 1 0 ++ commit
+
+abbrev pub bodyZero : List ℕ
+bodyZero = task ++ begin ++ put 0 0 0 ++ commit
+
+abbrev pub blockForty : ℕ → List ℕ
+blockForty version = block version (40 ∷ 0 ∷ 0 ∷ 0 ∷ 0 ∷ 0 ∷ 0 ∷ 0 ∷ [])
+
+-- the first at tick 0, the second at those two ticks
+abbrev pub sheetSeven : List ℕ → ℕ → ℕ → List ℕ
+sheetSeven body t u = blockForty 3 ++ body ++ bodySeven ++ release 0 0 ++ release t 1 ++ release u 1 ++ end
+
+abbrev pub sheetSpentAfterStale : List ℕ
+sheetSpentAfterStale = blockForty 16777214 ++ bodyZero ++ bodySeven ++ release 0 0 ++ release 3 1 ++ end

@@ -32,18 +32,25 @@ pub data JobArrived (t : Task) (j : Job) : Type 0 where
 pub record TaskArrived (t t′ : Task) : Type 0 where
   pub body : t′ .body ≡ t .body
   pub copies : t′ .copies ≡ t .copies
+  pub lost : t′ .counts .lost ≡ t .counts .lost
   pub ticks : t′ .counts .ticks ≡ t .counts .ticks
   pub job : JobArrived t (t′ .job)
 
 same-task : {t t′ : Task} → t′ ≡ t → TaskArrived t t′
-same-task e = record { body = rw e refl; copies = rw e refl; ticks = rw e refl; job = sameJob (rw e refl) }
+same-task e = record { body = rw e refl; copies = rw e refl; lost = rw e refl; ticks = rw e refl; job = sameJob (rw e refl) }
 
 new-job : {t t′ : Task} → t .job .phase ≡ idle → t′ ≡ started t → TaskArrived t t′
-new-job i e = record { body = rw e refl; copies = rw e refl; ticks = rw e refl; job = newJob i (rw e refl) }
+new-job i e = record { body = rw e refl; copies = rw e refl; lost = rw e refl; ticks = rw e refl; job = newJob i (rw e refl) }
 
 arrived-twice : {t t′ t″ : Task} → TaskArrived t t′ → TaskArrived t′ t″ → TaskArrived t t″
 arrived-twice {t} {t′} {t″} a b =
-    record { body = b .body ∙ a .body; copies = b .copies ∙ a .copies; ticks = b .ticks ∙ a .ticks; job = go (a .job) (b .job) }
+    record {
+      body = b .body ∙ a .body;
+      copies = b .copies ∙ a .copies;
+      lost = b .lost ∙ a .lost;
+      ticks = b .ticks ∙ a .ticks;
+      job = go (a .job) (b .job);
+    }
   where
     go : JobArrived t (t′ .job) → JobArrived t′ (t″ .job) → JobArrived t (t″ .job)
     go (sameJob e) (sameJob f) = sameJob (f ∙ e)
@@ -85,6 +92,7 @@ dropping-arrived p m =
       task = λ q. record {
         body = replace-part noTask (λ (t : Task). t .body) (m .tasks) p _ refl q;
         copies = replace-part noTask (λ (t : Task). t .copies) (m .tasks) p _ refl q;
+        lost = replace-part noTask (λ (t : Task). t .counts .lost) (m .tasks) p _ refl q;
         ticks = replace-part noTask (λ (t : Task). t .counts .ticks) (m .tasks) p _ refl q;
         job = sameJob (replace-part noTask (λ (t : Task). t .job) (m .tasks) p _ refl q);
       };
