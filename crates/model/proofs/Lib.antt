@@ -3,13 +3,15 @@ pub mod Lists
 pub mod Sums
 -- the decimal numbers of a report
 pub mod Decimal
--- by computation: demand 3 on small runs, document 01's figures, those of arrivals, runs in which the bounds of the rates are reached
+-- by computation: demand 3 on small runs, document 01's figures, those of arrivals and of lost attempts, runs in which the bounds of the rates are
+-- reached
 pub mod Bytes
 pub mod Sheets
 pub mod WholeCases
 pub mod ClaimCases
 pub mod Cases
 pub mod ArrivalCases
+pub mod AttemptCases
 pub mod Bounds
 -- well formed machines
 pub mod Fit

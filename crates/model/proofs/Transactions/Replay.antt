@@ -33,7 +33,7 @@ cells-stay none (swapped x y i w) = absurd (none x y)
 
 module _ (s : Sheet) {tasks p : ℕ} {m : Memory} {ts : List Task} {operations : ℕ → Operation}
     (R : RunningTask (length (s .words)) (length (s .blocks)) tasks p m ts operations) where
-  -- a statement that commits no transaction leaves every block's version and values: a pass that is stale, spent or rejected changes nothing
+  -- a statement that commits no transaction leaves every block's version and values: an attempt that is lost or spent changes nothing
   pub block-stays : (TransactionYes p m (taskAt ts p) → ⊥) → (b : ℕ) → b < length (s .blocks) → blockIn (statementOf p m ts .memory) b ≡ blockIn m b
   block-stays none b lt = go (stated R 0 .effect)
     where
