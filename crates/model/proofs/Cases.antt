@@ -254,19 +254,19 @@ table =
     ∷ figuresBy 5 sheetTwoDrop (waitingAre 0 4 ∷ waitingAre 1 3 ∷ droppedAre 0 0 ∷ droppedAre 1 0 ∷ [])
     ∷ figuresBy 6 sheetTwoDrop (waitingAre 0 4 ∷ waitingAre 1 4 ∷ droppedAre 0 1 ∷ droppedAre 1 0 ∷ [])
     ∷ figuresBy 7 sheetTwoDrop (waitingAre 0 4 ∷ waitingAre 1 4 ∷ droppedAre 0 2 ∷ droppedAre 1 1 ∷ [])
-    -- CHANGE 3, every lost attempt: t0 reads the bank word before t1's first job and again after it, in tick 30; its next attempt has begun its exchange
-    -- when t1's second job comes, and finds another version at the Commit in tick 69. Neither counts before its tick is done.
-    ∷ figures (sheetSeven bodyTake 3 38) (lostAre 0 2 ∷ lostAre 1 0 ∷ ticksUsed 0 35 ∷ ticksUsed 1 50 ∷ ticksDone 85 ∷ versionIs 0 5 ∷ registerIs 0 0 7 ∷ [])
+    -- CHANGE 3, every lost attempt: t0 reads the bank word before t1's first job and again after it, in tick 30; its next attempt has begun its
+    -- exchange when t1's second job comes, and is rejected at the Commit in tick 69. Neither counts before its tick is done.
+    ∷ figures (sheetSeven bodyTake 3 38) (lostAre 0 2 ∷ lostAre 1 0 ∷ ticksUsed 0 35 ∷ ticksUsed 1 50 ∷ ticksDone 85 ∷ registerIs 0 0 7 ∷ [])
     ∷ figuresBy 30 (sheetSeven bodyTake 3 38) (lostAre 0 0 ∷ [])
     ∷ figuresBy 31 (sheetSeven bodyTake 3 38) (lostAre 0 1 ∷ finishedAre 0 0 ∷ [])
     ∷ figuresBy 69 (sheetSeven bodyTake 3 38) (lostAre 0 1 ∷ [])
     ∷ figuresBy 70 (sheetSeven bodyTake 3 38) (lostAre 0 2 ∷ lostAre 1 0 ∷ finishedAre 0 0 ∷ finishedAre 1 2 ∷ [])
     -- one job of two transactions: the first commit is rejected, in tick 44; the second transaction finds a stale version, in tick 97
-    ∷ figures (sheetSeven bodyTakeWrite 13 63) (lostAre 0 2 ∷ lostAre 1 0 ∷ ticksUsed 0 67 ∷ ticksUsed 1 54 ∷ ticksDone 121 ∷ versionIs 0 6 ∷ valueIs 0 1 7 ∷ [])
+    ∷ figures (sheetSeven bodyTakeWrite 13 63) (lostAre 0 2 ∷ lostAre 1 0 ∷ ticksUsed 0 67 ∷ ticksUsed 1 54 ∷ ticksDone 121 ∷ valueIs 0 1 7 ∷ [])
     ∷ figuresBy 45 (sheetSeven bodyTakeWrite 13 63) (lostAre 0 1 ∷ [])
     ∷ figuresBy 97 (sheetSeven bodyTakeWrite 13 63) (lostAre 0 1 ∷ [])
     -- a stale version, in tick 37, and then a spent COMMIT, which is no lost attempt
-    ∷ figures sheetSpentAfterStale (lostAre 0 1 ∷ spentAre 0 1 ∷ finishedAre 0 0 ∷ ticksUsed 0 27 ∷ ticksDone 52 ∷ versionIs 0 16777215 ∷ valueIs 0 0 7 ∷ [])
+    ∷ figures sheetSpentAfterStale (lostAre 0 1 ∷ spentAre 0 1 ∷ finishedAre 0 0 ∷ ticksUsed 0 27 ∷ ticksDone 52 ∷ versionIs 0 16777215 ∷ [])
     ∷ []
 
 -- every sheet of the table is refused or accepted as it says, with these answers and figures

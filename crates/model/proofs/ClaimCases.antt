@@ -5,7 +5,7 @@ use mathlib.Core.Bool.{Bool, true, false, not, _&&_}
 use mathlib.Core.Path.{_≡_, refl}
 use mathlib.Core.Logic.{inl}
 use mathlib.Core.List.{List, [], _∷_, _++_}
-use mathlib.Core.Option.{none, some}
+use mathlib.Core.Option.{Option, none, some}
 use native.Mathlib.Omega.{arith}
 use lib.ListN.{replicate}
 use Rattle.model.specs.Lists.{at, replace}
@@ -58,6 +58,11 @@ allAgree (s ∷ l) = agrees (s .holds) (stands (s .history) (s .first) (s .last)
 abbrev pairWith : ℕ → ℕ → ℕ → Pair
 pairWith w o n = record { word = w; old = o; new = n }
 
+-- a SWAP of task p: its pairs, its last tick, whether it committed, its answer
+abbrev swapped : ℕ → List Pair → Option ℕ → Bool → ℕ → Operation
+swapped p ps last yes? v =
+    record { task = p; arguments = swapOf ps; last = last; committed = yes?; spent = false; answers = v ∷ []; lost = [] }
+
 abbrev wordsAre : List ℕ → Contents
 wordsAre l = record { words = l; blocks = [] }
 
@@ -73,10 +78,10 @@ reads l b = record { history = historyReads; first = wordsAre (12 ∷ []); last 
 
 -- P4: task 0 exchanges 12 for 5 in word 0. Task 1 comes after its Commit, finds 5 instead of 12 and says no; only the answers decide the order.
 abbrev lowerP4 : Operation
-lowerP4 = record { task = 0; arguments = swapOf (pairWith 0 12 5 ∷ []); last = some 22; committed = true; spent = false; answers = 1 ∷ []; lost = [] }
+lowerP4 = swapped 0 (pairWith 0 12 5 ∷ []) (some 22) true 1
 
 abbrev upperP4 : Operation
-upperP4 = record { task = 1; arguments = swapOf (pairWith 0 12 7 ∷ []); last = some 21; committed = false; spent = false; answers = 0 ∷ []; lost = [] }
+upperP4 = swapped 1 (pairWith 0 12 7 ∷ []) (some 21) false 0
 
 abbrev historyP4 : History
 historyP4 =
@@ -87,7 +92,7 @@ P4 l b = record { history = historyP4; first = wordsAre (12 ∷ []); last = word
 
 -- P4 cut short after task 0's Commit: its exchange has not ended but counts, and is the only one
 abbrev lowerCut : Operation
-lowerCut = record { task = 0; arguments = swapOf (pairWith 0 12 5 ∷ []); last = none; committed = true; spent = false; answers = 1 ∷ []; lost = [] }
+lowerCut = swapped 0 (pairWith 0 12 5 ∷ []) none true 1
 
 abbrev historyCut : History
 historyCut = record { began = replicate 3 none ++ some lowerCut ∷ replicate 7 none; latest = 3 ∷ replicate 7 0 }
@@ -98,11 +103,10 @@ cut l b = record { history = historyCut; first = wordsAre (12 ∷ []); last = wo
 -- P5: task 1 also names word 1, which is 22 and not 0, so its no rests on that word. Task 0's word was 12 all the while:
 -- its no rests on the free answer alone, since task 1's exchange with a changing pair on word 0 began inside it.
 abbrev lowerP5 : Operation
-lowerP5 = record { task = 0; arguments = swapOf (pairWith 0 12 5 ∷ []); last = some 31; committed = false; spent = false; answers = 0 ∷ []; lost = [] }
+lowerP5 = swapped 0 (pairWith 0 12 5 ∷ []) (some 31) false 0
 
 abbrev upperP5 : ℕ → Operation
-upperP5 v =
-    record { task = 1; arguments = swapOf (pairWith 0 12 v ∷ pairWith 1 0 7 ∷ []); last = some 28; committed = false; spent = false; answers = 0 ∷ []; lost = [] }
+upperP5 v = swapped 1 (pairWith 0 12 v ∷ pairWith 1 0 7 ∷ []) (some 28) false 0
 
 abbrev historyP5 : ℕ → History
 historyP5 v =

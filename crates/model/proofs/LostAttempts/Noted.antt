@@ -1,28 +1,23 @@
 -- What is noted of a statement: its task's operations have lost one attempt more just where the statement lost one.
-use Prim.Native.Nat.{ℕ, zero, suc, _+_, _<_, _≤_}
-use mathlib.Core.Path.{_≡_, refl, sym, _∙_, ap}
-use mathlib.Core.Bool.{Bool, true, false, _&&_}
-use mathlib.Core.Logic.{_≢_}
-use mathlib.Core.List.{List, [], _∷_, _++_, append-nil}
+use Prim.Native.Nat.{ℕ, zero, suc, _+_, _<_}
+use mathlib.Core.Path.{_≡_, refl, _∙_, ap}
+use mathlib.Core.Bool.{Bool, true, false}
+use mathlib.Core.List.{List, [], _∷_, _++_}
 use mathlib.Core.Option.{Option, none, some}
 use native.Mathlib.Omega.{arith}
-use lib.Dec.{eqb, leb}
+use lib.Dec.{eqb}
 use lib.ListN.{length, length-append}
-use borrow.Author.Tests.{le-leb, lt-leb}
 use Rattle.model.specs.Lists.{at, replace}
 use Rattle.model.specs.Job.{Deed}
 use Rattle.model.specs.Arguments.{Arguments}
-use Rattle.model.specs.History.{Operation, History, operationAt, nothing, begins, amends, losing, eventOf, noted}
+use Rattle.model.specs.History.{Operation, History, nothing, begins, amends, losing, eventOf, noted}
 use Rattle.model.specs.Rates.{oneIf, onlyIf}
-use Rattle.model.specs.LostAttempts.{lostBy, lostOf, itselfIf, ticksWhere, afterLast}
-use Rattle.model.proofs.Lists.{same?}
-use Rattle.model.proofs.History.Advance.{Changed}
+use Rattle.model.specs.LostAttempts.{lostBy, lostOf}
 use Rattle.model.proofs.History.Moves.{Settling, Moves, staysOutside, begun, goesOn, gets, loses, readEnds}
 use Rattle.model.proofs.History.Moves.{swapCommits, swapEnds, swapCommitsAndEnds, swapRejected, transactionCommits}
 use Rattle.model.proofs.History.Moves.{transactionEnds, transactionCommitsAndEnds, nothingTouched, endsSpent}
-use Rattle.model.proofs.History.Noted.{latestOf, number-below, noted-nothing, noted-begins, noted-amends}
+use Rattle.model.proofs.History.Noted.{latestOf, number-below}
 use Rattle.model.proofs.History.Linked.{Open, OpenBy}
-use Rattle.model.proofs.Rates.Ended.{the-same}
 use Rattle.model.proofs.LostAttempts.Statement.{lost?}
 
 -- HOW MANY, in a list of operations

@@ -2,9 +2,9 @@
 -- the task has restarted; and each operation lost its attempts in those ticks.
 use Prim.Native.Nat.{ℕ, zero, suc, _+_}
 use mathlib.Core.Path.{_≡_, refl, sym, _∙_, ap}
-use mathlib.Core.Bool.{Bool, true, false, _&&_}
+use mathlib.Core.Bool.{Bool, false, _&&_}
 use mathlib.Core.Logic.{_≢_}
-use mathlib.Core.Option.{Option, none, some}
+use mathlib.Core.Option.{none, some}
 use native.Mathlib.Omega.{arith}
 use lib.Dec.{eqb}
 use lib.ListN.{length}
@@ -13,11 +13,11 @@ use Rattle.model.specs.Lists.{at}
 use Rattle.model.specs.Sheet.{Sheet}
 use Rattle.model.specs.Job.{Phase, idle, plain, reading, exchanging, transacting, Counts, counting, ticks, Task, nothingDone}
 use Rattle.model.specs.Transaction.{nothing?}
-use Rattle.model.specs.Machine.{Machine, noTask, taskAt, turnOf, Running, nobody, running, runningOf, move, statement}
+use Rattle.model.specs.Machine.{Machine, noTask, taskAt, turnOf, Running, nobody, running, runningOf, move}
 use Rattle.model.specs.Start.{startMachine}
 use Rattle.model.specs.History.{History, Operation, operationAt, nothing, eventOf, noted, observed}
-use Rattle.model.specs.Rates.{oneIf, onlyIf, sumBefore}
-use Rattle.model.specs.LostAttempts.{lostOf, touchedSome, touchedNone, phaseAt, ticksWhere}
+use Rattle.model.specs.Rates.{oneIf, sumBefore}
+use Rattle.model.specs.LostAttempts.{lostOf, touchedSome, touchedNone, phaseAt}
 use Rattle.model.proofs.Lists.{same?, replace-same, replace-other, impossible}
 use Rattle.model.proofs.Sums.{sum-next}
 use Rattle.model.proofs.Fit.Sheet.{SheetFit}
@@ -27,7 +27,7 @@ use Rattle.model.proofs.History.Steps.{stateAfter, arrivedAt, historyAf
 use Rattle.model.proofs.History.Moves.{staysOutside, MovesBy, settling}
 use Rattle.model.proofs.History.Statement.{moves}
 use Rattle.model.proofs.History.Noted.{latestOf}
-use Rattle.model.proofs.History.Ticks.{MachineLinked, arrived-at, arrived-now, arrived-linked}
+use Rattle.model.proofs.History.Ticks.{arrived-at, arrived-now, arrived-linked}
 use Rattle.model.proofs.History.Start.{started}
 use Rattle.model.proofs.Demand3.Always.{holds, holds-at, value-now}
 use Rattle.model.proofs.Demand3.State.{ready}

@@ -8,15 +8,15 @@ use native.Mathlib.Omega.{arith}
 use lib.Dec.{eqb}
 use lib.ListN.{length}
 use Rattle.model.specs.Lists.{at, replace}
-use Rattle.model.specs.Command.{Access, GET, PUT, Inside, access, COMMIT, BodyCommand, LOAD, ADD, outside, inside}
+use Rattle.model.specs.Command.{Access, GET, PUT, access, COMMIT, BodyCommand, LOAD, ADD, outside, inside}
 use Rattle.model.specs.Command.{READ, PAIR, SWAP, BEGIN}
-use Rattle.model.specs.Word.{Memory, stored, setStored, Reading, loading, Read, reads, gives, readTick}
+use Rattle.model.specs.Word.{Memory, stored, setStored, loading, Read, reads, gives, readTick}
 use Rattle.model.specs.Exchange.{Entry, Exchange, Exchanged, goes, ends, exchangeTick, commitSaidYes}
 use Rattle.model.specs.Job.{Touched, untouched, remembered, copied, Transaction, Inner, between, first, copying, again, committing}
-use Rattle.model.specs.Job.{Phase, idle, plain, reading, exchanging, transacting, Task, rest, doneBy, ended, Turn, turn, losesAttempt}
+use Rattle.model.specs.Job.{Phase, idle, plain, reading, exchanging, transacting, Task, rest, doneBy, Turn, turn, losesAttempt}
 use Rattle.model.specs.Job.{Deed, nothingDone, began, readGave, swapCommitted, swapAnswered, getGave, attemptLost}
 use Rattle.model.specs.Job.{transactionCommitted, transactionEnded, endedUntouched, endedSpent}
-use Rattle.model.specs.Transaction.{bank, blockOf, versionOf, storeOf, rememberedOf, touchedOf, touch, within, stays, goesOn, restarted}
+use Rattle.model.specs.Transaction.{bank, blockOf, versionOf, storeOf, rememberedOf, touchedOf, touch, within, restarted}
 use Rattle.model.specs.Transaction.{firstRead, copyBy, copyTick, accessTick, checkBy, againRead, nothing?, spent?, gather}
 use Rattle.model.specs.Transaction.{commitCommandBy, committedIf, committingBy, insideTick, commandTick, transactionTick}
 use Rattle.model.specs.Machine.{readBy, swapBy, swapCommittedIf, outsideTick, plainTick, statement}

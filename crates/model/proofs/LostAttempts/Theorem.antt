@@ -1,35 +1,31 @@
 -- LOST ATTEMPTS: in every run of an accepted sheet each task's count is that of its operations, which lose an attempt in every tick in which
 -- a transaction restarts, on a stale version or on a rejected commit, and in no other.
 use Prim.Native.Nat.{ℕ, suc}
-use mathlib.Core.Path.{_≡_, refl, sym, _∙_, ap, subst, fun-ext}
+use mathlib.Core.Path.{_≡_, refl, sym, _∙_, ap, fun-ext}
 use mathlib.Core.Bool.{Bool, true, false, not, true≢false, false≢true}
 use mathlib.Core.Logic.{_≢_, _⊎_, inl, inr}
 use mathlib.Core.List.{List}
-use mathlib.Core.Option.{some}
-use native.Mathlib.Omega.{arith}
-use lib.Dec.{eqb}
 use borrow.Author.Tests.{eqb-false, ne-eqb}
 use Rattle.model.specs.Sheet.{Sheet, verdict, accepted}
 use Rattle.model.specs.Command.{Access}
-use Rattle.model.specs.Word.{Memory, Reading, Read, reads, gives, readTick}
+use Rattle.model.specs.Word.{Reading, Read, reads, gives, readTick}
 use Rattle.model.specs.Exchange.{Exchange, Exchanged, goes, ends, exchangeTick}
 use Rattle.model.specs.Job.{Phase, idle, plain, reading, exchanging, transacting}
 use Rattle.model.specs.Job.{Transaction, Inner, between, first, copying, again, committing}
-use Rattle.model.specs.Transaction.{bank, blockOf, versionOf, rememberedOf, touchedOf}
-use Rattle.model.specs.Machine.{Machine, taskAt, turnOf, Running, nobody, running, runningOf, run}
+use Rattle.model.specs.Transaction.{bank, blockOf}
+use Rattle.model.specs.Machine.{Machine, Running, nobody, running, runningOf, run}
 use Rattle.model.specs.Start.{startMachine}
-use Rattle.model.specs.History.{Operation, historyOf}
-use Rattle.model.specs.Rates.{inTick, runningIn, oneIf, sumBefore, secondReading, IsAt}
+use Rattle.model.specs.Rates.{inTick, runningIn, oneIf, sumBefore, secondReading}
 use Rattle.model.specs.LostAttempts.{phaseAt, restarts, Stale, Rejected, ticksWhere, afterLast, RunLostAttempts, LostAttempts}
-use Rattle.model.proofs.Lists.{same?, test?}
+use Rattle.model.proofs.Lists.{same?}
 use Rattle.model.proofs.Fit.Sheet.{SheetFit}
 use Rattle.model.proofs.Fit.Accepted.{accepted-fit}
 use Rattle.model.proofs.Fit.Running.{running-foremost}
-use Rattle.model.proofs.History.Steps.{stateAfter, arrivedAt, Stopped, stopped}
+use Rattle.model.proofs.History.Steps.{arrivedAt, Stopped, stopped}
 use Rattle.model.proofs.History.Ticks.{now-is}
 use Rattle.model.proofs.History.Start.{started}
 use Rattle.model.proofs.Rates.Own.{run-alike, in-tick}
-use Rattle.model.proofs.LostAttempts.Statement.{lost?, staleBy, rejectedBy, innerCause, causeIn}
+use Rattle.model.proofs.LostAttempts.Statement.{staleBy, rejectedBy, innerCause, causeIn}
 use Rattle.model.proofs.LostAttempts.Run.{restartsAt, loses-at, idle-restarts, others-restart, own-restarts, Accounted, accounted}
 
 module _ {s : Sheet} (c : SheetFit s) where

@@ -1,9 +1,9 @@
 -- The ticks in which an operation has lost its attempts: just those of which a test holds, from its first tick to its last or so far.
 use Prim.Native.Nat.{ℕ, zero, suc, _≤_}
 use mathlib.Core.Path.{_≡_, refl, sym, _∙_, ap}
-use mathlib.Core.Bool.{Bool, true, false, _&&_}
+use mathlib.Core.Bool.{Bool, true, false}
 use mathlib.Core.Logic.{_≢_}
-use mathlib.Core.List.{List, [], _∷_, _++_, append-nil}
+use mathlib.Core.List.{List, [], _++_, append-nil}
 use mathlib.Core.Option.{Option, none, some}
 use native.Mathlib.Omega.{arith}
 use lib.Dec.{leb}
@@ -14,7 +14,6 @@ use Rattle.model.specs.Arguments.{Arguments}
 use Rattle.model.specs.History.{Operation, History, operationAt, nothing, begins, amends, eventOf, noted}
 use Rattle.model.specs.LostAttempts.{itselfIf, ticksWhere, afterLast}
 use Rattle.model.proofs.Lists.{same?}
-use Rattle.model.proofs.History.Advance.{Changed}
 use Rattle.model.proofs.History.Moves.{Settling, Moves, staysOutside, begun, goesOn, gets, loses, readEnds}
 use Rattle.model.proofs.History.Moves.{swapCommits, swapEnds, swapCommitsAndEnds, swapRejected, transactionCommits}
 use Rattle.model.proofs.History.Moves.{transactionEnds, transactionCommitsAndEnds, nothingTouched, endsSpent}
