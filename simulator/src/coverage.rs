@@ -7,7 +7,7 @@ use crate::drop_coverage::DropCoverage;
 use crate::generator::Case;
 use crate::history::{History, Kind, Operation};
 use crate::machine::Machine;
-use crate::observer::{Event, Fate, Observer, Statement};
+use crate::observer::{Cause, Event, Fate, Observer, Statement};
 use crate::sheet::{self, MAX_TASKS};
 use crate::waiting_coverage::WaitingCoverage;
 use crate::{run, TOP_LIMIT};
@@ -142,7 +142,7 @@ impl Coverage {
 
     fn take_operation(&mut self, operation: &Operation) {
         let ended = operation.span.last.is_some();
-        match operation.kind {
+        match &operation.kind {
             Kind::Read { .. } => {}
             Kind::Swap { answer: Some(true) } => self.count(Outcome::SwapYes, 1),
             Kind::Swap { answer: Some(false) } if operation.exchanges[0].differs => {
@@ -152,14 +152,11 @@ impl Coverage {
             Kind::Swap { answer: None } => {
                 self.count(Outcome::CommittedSwapCutShort, u64::from(operation.committed));
             }
-            Kind::Transaction { restarts, .. } => {
-                let is_rejected = |exchange: &&crate::history::Exchange| {
-                    exchange.span.last.is_some() && exchange.committed == Some(false)
-                };
-                let rejected = operation.exchanges.iter().filter(is_rejected).count() as u64;
+            Kind::Transaction { lost, .. } => {
+                let lost_by = |cause| lost.iter().filter(|one| one.cause == cause).count() as u64;
                 let committed = operation.committed;
-                self.count(Outcome::RejectedCommit, rejected);
-                self.count(Outcome::StaleRestart, u64::from(restarts) - rejected);
+                self.count(Outcome::RejectedCommit, lost_by(Cause::RejectedCommit));
+                self.count(Outcome::StaleRestart, lost_by(Cause::StaleVersion));
                 self.count(Outcome::SpentJob, u64::from(operation.spent));
                 self.count(Outcome::TransactionCommitted, u64::from(committed && ended));
                 self.count(Outcome::CommittedTransactionCutShort, u64::from(committed && !ended));

@@ -114,6 +114,6 @@ slips! {
         "self.waiting.add(release);" => "self.waiting.add(release); self.counts[task].dropped += 1;";
     drop_not_counted: "releases.rs",
         "self.counts[task].dropped += 1;" => "";
-    restart_keeps_the_registers_of_the_lost_pass: "transaction.rs",
+    restart_keeps_the_registers_of_the_lost_attempt: "transaction.rs",
         "job.registers = job.transaction.kept;" => "";
 }

@@ -2,7 +2,7 @@
 
 use simulator::generator::{case, SEED};
 use simulator::machine::Machine;
-use simulator::observer::{Fate, NoObserver, Statement};
+use simulator::observer::{Fate, NoObserver};
 use simulator::report::render;
 use simulator::sheet::{parse, Sheet};
 use simulator::TOP_LIMIT;
@@ -50,17 +50,7 @@ fn a_recording_has_the_figures_of_the_report() {
             assert_eq!(own().count(), counts.ticks as usize);
             let ended = own().filter(|done| done.ends_job).count();
             assert_eq!(ended, (counts.finished + counts.spent) as usize);
-            let rejected = own().filter(|done| {
-                let in_exchange = matches!(
-                    done.statement,
-                    Statement::CommitNo
-                        | Statement::CleanBackToInit
-                        | Statement::CleanNothing
-                        | Statement::CleanMark
-                );
-                done.restarts && in_exchange
-            });
-            assert_eq!(rejected.count(), counts.rejected as usize);
+            assert_eq!(own().filter(|done| done.lost.is_some()).count(), counts.lost as usize);
             assert_eq!(recording.dropped[task], counts.dropped);
             let tasks = recording.ticks.iter().flat_map(|tick| tick.tasks_with(Fate::Dropped));
             let dropped = tasks.filter(|dropped| *dropped == task).count();
@@ -142,7 +132,7 @@ fn the_contended_example_changes_its_blocks_at_the_commits() {
     );
     assert_eq!(series[1].before(commits[1]), "version 200");
     assert_eq!(series[1].before(commits[1] + 1), "version 201");
-    assert_eq!(all_done(&recording).filter(|done| done.restarts).count(), 3);
+    assert_eq!(all_done(&recording).filter(|done| done.lost.is_some()).count(), 3);
 }
 
 fn cells_drawn(picture: &str) -> usize {

@@ -106,11 +106,11 @@ fn other_reports_show_what_they_are_there_for() {
     for (name, figures) in OWN {
         assert_figures(name, figures);
     }
-    // All four releases of the guard became jobs, and no task's was dropped; the move was rejected twice.
+    // All four releases of the guard became jobs, and no task's was dropped; the move lost three attempts.
     let cold_room = task_lines(&printed("cold-room"));
     assert_eq!(cold_room[4].finished, 4);
     assert!(cold_room.iter().all(|task| task.dropped == 0));
-    assert_eq!(task_lines(&printed("contended-transaction"))[0].rejected, 2);
+    assert_eq!(task_lines(&printed("contended-transaction"))[0].lost, 3);
 }
 
 #[test]

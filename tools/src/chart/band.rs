@@ -174,7 +174,7 @@ impl Band<'_> {
         if let Some(answer) = done.commit {
             marks::commit(svg, self.middle(tick), top - 1.0, answer);
         }
-        if done.restarts {
+        if done.lost.is_some() {
             marks::restart(svg, x + CELL_WIDTH, top + CELL_HEIGHT);
         }
         if done.ends_job {
