@@ -1,11 +1,12 @@
 //! What a corpus of cases covers: refusals, statements, outcomes, releases that wait or are dropped,
-//! each counted.
+//! lost attempts, each counted.
 
 use std::fmt;
 
 use crate::drop_coverage::DropCoverage;
 use crate::generator::Case;
 use crate::history::{History, Kind, Operation};
+use crate::lost_coverage::LostCoverage;
 use crate::machine::Machine;
 use crate::observer::{Cause, Event, Fate, Observer, Statement};
 use crate::sheet::{self, MAX_TASKS};
@@ -100,6 +101,7 @@ pub struct Coverage {
     outcomes: [u64; OUTCOMES.len()],
     waiting: WaitingCoverage,
     drops: DropCoverage,
+    lost: LostCoverage,
 }
 
 impl Coverage {
@@ -113,6 +115,7 @@ impl Coverage {
             outcomes: [0; OUTCOMES.len()],
             waiting: WaitingCoverage::default(),
             drops: DropCoverage::default(),
+            lost: LostCoverage::default(),
         }
     }
 
@@ -124,6 +127,7 @@ impl Coverage {
         let limit = case.limit.min(TOP_LIMIT) as u32;
         self.waiting.take(&sheet, limit);
         self.drops.take(&sheet, limit);
+        self.lost.take(&sheet, limit);
         let mut machine = Machine::new(&sheet);
         let mut observers =
             (Counter { coverage: self, in_transaction: [false; MAX_TASKS] }, History::new());
@@ -186,6 +190,7 @@ impl Coverage {
         }
         rows.extend(self.waiting.rows());
         rows.extend(self.drops.rows());
+        rows.extend(self.lost.rows());
         rows
     }
 }

@@ -126,6 +126,14 @@ impl Operation {
             None => self.committed,
         }
     }
+
+    /// The attempts that it lost: only a transaction can lose any.
+    pub fn lost(&self) -> &[LostAttempt] {
+        match &self.kind {
+            Kind::Transaction { lost, .. } => lost,
+            _ => &[],
+        }
+    }
 }
 
 impl History {

@@ -26,6 +26,10 @@ pub struct Transaction {
 }
 
 impl Transaction {
+    pub fn has_touched_nothing(&self) -> bool {
+        self.touched == 0
+    }
+
     fn has_touched(&self, block: usize) -> bool {
         self.touched & 1 << block != 0
     }
@@ -208,7 +212,7 @@ impl Machine<'_> {
 
     pub fn commit_transaction<O: Observer>(&mut self, task: usize, observer: &mut O) {
         let transaction = &self.jobs[task].transaction;
-        if transaction.touched == 0 {
+        if transaction.has_touched_nothing() {
             observer.statement(self.tick, task, Statement::CommitOfNothing);
             observer.event(self.tick, task, Event::CommitsNothing);
             observer.event(self.tick, task, Event::TransactionEnds);

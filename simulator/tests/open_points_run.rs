@@ -152,7 +152,7 @@ fn spent_jobs() {
     assert_eq!(numbers(&last_version, "B 0")[..3], [16_777_215, 0, 41]);
 }
 
-/// A commit that finds another version is rejected and counted in the exchange's last tick.
+/// A commit that finds another version is rejected: a lost attempt of the exchange's last tick.
 #[test]
 fn rejected_commit() {
     let releases = sheet(&[release(0, 0), release(20, 1)]);
