@@ -1,6 +1,6 @@
 //! What happened in each tick of a run, recorded for the chart.
 
-use simulator::machine::Machine;
+use simulator::machine::{Counts, Machine};
 use simulator::observer::{Cause, Event, Fate, NoObserver, Observer, Statement};
 use simulator::sheet::{Block, Sheet};
 use simulator::transaction::{bank_word, store_of, version_of};
@@ -56,9 +56,9 @@ pub struct Recording {
     pub first: u32,
     pub before: Contents,
     pub ticks: Vec<Tick>,
-    /// The ticks of the whole run with limit 65,535, and for each task the releases dropped in it.
+    /// The ticks of the whole run with limit 65,535, and each task's counts of it.
     pub run_ticks: u32,
-    pub dropped: Vec<u32>,
+    pub counts: Vec<Counts>,
 }
 
 impl Recording {
@@ -77,8 +77,8 @@ impl Recording {
         }
         machine.run(limit, &mut NoObserver);
         let tasks = sheet.bodies.len();
-        let dropped = machine.counts[..tasks].iter().map(|counts| counts.dropped).collect();
-        Recording { tasks, first, before, ticks, run_ticks: machine.tick, dropped }
+        let counts = machine.counts[..tasks].to_vec();
+        Recording { tasks, first, before, ticks, run_ticks: machine.tick, counts }
     }
 }
 
@@ -100,7 +100,7 @@ fn record_tick(machine: &mut Machine, tick: u32) -> Option<Tick> {
         ends_job: machine.unfinished & 1 << task == 0,
     });
     let ran = |task: usize| done.as_ref().is_some_and(|done| done.task == task);
-    // Only the task that ran can have lost its job in this tick.
+    // Only the task that ran can have ended its job in this tick.
     let has_job = |task: &usize| machine.unfinished & 1 << task != 0;
     let preempted = (0..tasks).filter(|task| has_job(task) && !ran(*task)).collect();
     Some(Tick { done, releases: observed.releases, preempted, after: contents(machine) })
