@@ -1,8 +1,8 @@
-//! Releases that fall inside attempts of transactions, so that attempts are lost, and just after a loss.
+//! Releases that fall inside attempts of transactions, so that attempts are lost, and right after one
+//! is lost.
 
-use std::collections::BTreeSet;
-
-use crate::builder::{end, release, Bytes};
+use crate::builder::{end, Bytes};
+use crate::bursts::{commands, Releases};
 use crate::observer::{Event, Observer, Statement};
 use crate::random::Random;
 use crate::run_observed;
@@ -10,9 +10,6 @@ use crate::sheet::MAX_TASKS;
 
 /// The ticks that are looked through for transactions.
 const LOOKED_THROUGH: u64 = 2000;
-
-/// Tick and task: rising, and never twice.
-type Releases = BTreeSet<(u16, u8)>;
 
 /// Releases for the words, blocks and bodies in front: the lowest task at tick 0, then higher ones, each
 /// where a lower one would be in a transaction.
@@ -29,10 +26,6 @@ pub fn releases(random: &mut Random, front: &[u8], tasks: usize) -> Vec<Bytes> {
         releases.insert((tick as u16, random.within(task + 1, tasks - 1) as u8));
     }
     commands(&releases)
-}
-
-fn commands(releases: &Releases) -> Vec<Bytes> {
-    releases.iter().map(|&(tick, task)| release(tick, task)).collect()
 }
 
 /// Runs the sheet with the releases so far.

@@ -78,15 +78,11 @@ impl Author<'_> {
         };
         let share = MAX_COMMANDS / tasks;
         let bodies: Vec<Vec<Bytes>> = (0..tasks).map(|_| self.body(share)).collect();
+        let front = [sheet(&declared), sheet(&bodies.concat())].concat();
         let releases = match self.style {
             Style::Nested => self.nested_releases(&sheet(&declared), &bodies),
-            Style::Bursts | Style::Attempts => {
-                let front = [sheet(&declared), sheet(&bodies.concat())].concat();
-                match self.style {
-                    Style::Bursts => bursts::releases(self.random, &front, tasks),
-                    _ => attempts::releases(self.random, &front, tasks),
-                }
-            }
+            Style::Bursts => bursts::releases(self.random, &front, tasks),
+            Style::Attempts => attempts::releases(self.random, &front, tasks),
             _ => self.releases(tasks),
         };
         [declared, bodies.concat(), releases, vec![end()]].concat()

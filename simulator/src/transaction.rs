@@ -196,6 +196,7 @@ impl Machine<'_> {
         self.advance(task);
     }
 
+    /// A stale version and a rejected commit count alike.
     fn attempt_lost<O: Observer>(&mut self, task: usize, cause: Cause, observer: &mut O) {
         self.counts[task].lost += 1;
         observer.event(self.tick, task, Event::AttemptLost { cause });
