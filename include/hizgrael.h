@@ -3,7 +3,8 @@
  * A run sheet is a string of commands that declares words, blocks of eight words, tasks and their releases (docs/SHEETS.md;
  * sheet-text of tools/ makes sheets from text). The engine runs it one statement a tick, always the highest task with work, and
  * writes a report. A release to a task whose job is unfinished waits behind it, up to four for a task; one more is dropped, and
- * the report counts it for its task.
+ * the report counts it for its task. A transaction that loses an attempt, by a stale version or a rejected commit, restarts by
+ * itself, and the report counts that too.
  *
  * What is proved, for every sheet, limit and buffer: both entries return; number, place and every byte of the report buffer
  * are those of the definitions in crates/model/specs (Answer.antt); an accepted run is a sequence of whole operations

@@ -6,6 +6,7 @@
 mod common;
 
 use common::{report, report_of_sheet_a, sheet_a_with, task_lines, TaskLine};
+use simulator::builder::*;
 use simulator::contention::Style;
 use simulator::generator::{case, valid_sheet, SEED};
 use simulator::random::Random;
@@ -53,7 +54,8 @@ fn library_and_simulator_agree() {
     }
 }
 
-/// Every small limit of one contended sheet, and of one with releases that wait and are dropped, of two tasks.
+/// Every small limit of one contended sheet, of one with releases of two tasks that wait and are dropped, and of one in which two tasks
+/// lose attempts.
 #[test]
 fn every_limit_agrees() {
     let contended = (0..)
@@ -62,10 +64,14 @@ fn every_limit_agrees() {
         .expect("the corpus has valid sheets");
     let bursts = (0..)
         .map(|index| valid_sheet(&mut Random::new(SEED, index), Style::Bursts))
-        .find(|sheet| two_tasks_drop(sheet))
+        .find(|sheet| two_tasks_have(sheet, |task| task.dropped))
         .expect("the generator has sheets with drops");
-    for (sheet, limit) in
-        [contended, bursts].iter().flat_map(|sheet| (0..600).map(move |limit| (sheet, limit)))
+    let attempts = (0..)
+        .map(|index| valid_sheet(&mut Random::new(SEED, index), Style::Attempts))
+        .find(|sheet| two_tasks_have(sheet, |task| task.lost))
+        .expect("the generator has sheets with lost attempts");
+    let sheets = [contended, bursts, attempts];
+    for (sheet, limit) in sheets.iter().flat_map(|sheet| (0..600).map(move |limit| (sheet, limit)))
     {
         let mut expected = [0x2E; 4096];
         let mut found = [0x2E; 4096];
@@ -80,13 +86,13 @@ fn every_limit_agrees() {
     }
 }
 
-/// And not the same number.
-fn two_tasks_drop(sheet: &[u8]) -> bool {
-    let dropped = task_lines(&report(sheet)).into_iter().map(|task| task.dropped);
-    let mut dropped: Vec<u32> = dropped.filter(|&number| number > 0).collect();
-    dropped.sort_unstable();
-    dropped.dedup();
-    dropped.len() > 1
+/// Above 0, and not the same number.
+fn two_tasks_have(sheet: &[u8], number: impl Fn(TaskLine) -> u32) -> bool {
+    let numbers = task_lines(&report(sheet)).into_iter().map(number);
+    let mut numbers: Vec<u32> = numbers.filter(|&number| number > 0).collect();
+    numbers.sort_unstable();
+    numbers.dedup();
+    numbers.len() > 1
 }
 
 /// Sheet A released at ticks 0 and 3, limits just before and after the waiting job's start, worked out by hand: the first job ends in
@@ -112,6 +118,26 @@ fn a_limit_around_a_drop() {
         TaskLine::of(&String::from_utf8_lossy(&found[..length]), 0).dropped
     };
     assert_eq!((dropped(5), dropped(6)), (0, 1));
+}
+
+/// The sheet of examples/worked/stale-then-rejected: tick 30 finds a stale version, and in tick 69, the last of its exchange, the
+/// commit is rejected. A tick that is not done loses nothing.
+#[test]
+fn a_limit_around_a_lost_attempt() {
+    let lower = sheet(&[task(), begin(), get(0, 0, 0), commit()]);
+    let upper = sheet(&[task(), load(0, 7), begin(), put(0, 0, 0), commit()]);
+    let releases = sheet(&[release(0, 0), release(3, 1), release(38, 1)]);
+    let sheet = sheet(&[block(3, [40, 0, 0, 0, 0, 0, 0, 0]), lower, upper, releases, end()]);
+    let lower_after = |limit| {
+        let mut found = [0; 256];
+        let length = hizgrael::run(&sheet, limit, &mut found).accepted().expect("a good sheet");
+        TaskLine::of(&String::from_utf8_lossy(&found[..length]), 0)
+    };
+    assert_eq!(lower_after(30), TaskLine::finished(0, 5));
+    assert_eq!(lower_after(31), TaskLine::finished(0, 6).losing(1));
+    assert_eq!(lower_after(69), TaskLine::finished(0, 19).losing(1));
+    assert_eq!(lower_after(70), TaskLine::finished(0, 20).losing(2));
+    assert_eq!(lower_after(85), TaskLine::finished(1, 35).losing(2));
 }
 
 /// The library's report of sheet A's task, and not a byte past it.

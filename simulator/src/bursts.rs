@@ -11,7 +11,7 @@ use crate::run_observed;
 const LOOKED_THROUGH: u64 = 2000;
 
 /// Tick and task: rising, and never twice.
-type Releases = BTreeSet<(u16, u8)>;
+pub type Releases = BTreeSet<(u16, u8)>;
 
 /// Releases for the words, blocks and bodies in front, at most 71.
 pub fn releases(random: &mut Random, front: &[u8], tasks: usize) -> Vec<Bytes> {
@@ -27,7 +27,7 @@ pub fn releases(random: &mut Random, front: &[u8], tasks: usize) -> Vec<Bytes> {
     commands(&releases)
 }
 
-fn commands(releases: &Releases) -> Vec<Bytes> {
+pub fn commands(releases: &Releases) -> Vec<Bytes> {
     releases.iter().map(|&(tick, task)| release(tick, task)).collect()
 }
 

@@ -1,5 +1,6 @@
 //! Valid sheets made by chance: few words and blocks, many tasks, releases inside operations.
 
+use crate::attempts;
 use crate::builder::*;
 use crate::bursts;
 use crate::history::History;
@@ -19,6 +20,9 @@ pub enum Style {
     Nested,
     /// One to three tasks with short bodies, released again and again before their jobs have ended.
     Bursts,
+    /// Two or three tasks with transactions on one or two blocks, released inside each other's
+    /// attempts: attempts are lost one after another.
+    Attempts,
     /// Eight tasks and releases without a pause: tens of thousands of ticks.
     Long,
     /// A few dozen bytes.
@@ -47,6 +51,7 @@ pub fn commands(random: &mut Random, style: Style) -> Vec<Bytes> {
         Style::Mixed => (random.within(1, 3), random.within(1, 3)),
         Style::Nested => random.pick(&[(1, 0), (2, 0), (3, 0), (0, 1), (0, 2), (0, 3)]),
         Style::Bursts => random.pick(&[(1, 0), (2, 0), (0, 1), (0, 1), (0, 2), (1, 1)]),
+        Style::Attempts => (0, random.within(1, 2)),
         Style::Long => random.pick(&[(8, 0), (3, 0), (0, 2), (8, 8), (2, 3)]),
         Style::Tiny => random.pick(&[(1, 0), (2, 0), (0, 1)]),
     };
@@ -66,18 +71,18 @@ impl Author<'_> {
         let tasks = match self.style {
             Style::Nested => self.random.within(3, 5),
             Style::Bursts => self.random.within(1, 3),
+            Style::Attempts => self.random.within(2, 3),
             Style::Long => MAX_TASKS,
             Style::Tiny => self.random.within(1, 2),
             _ => self.random.within(2, MAX_TASKS),
         };
         let share = MAX_COMMANDS / tasks;
         let bodies: Vec<Vec<Bytes>> = (0..tasks).map(|_| self.body(share)).collect();
+        let front = [sheet(&declared), sheet(&bodies.concat())].concat();
         let releases = match self.style {
             Style::Nested => self.nested_releases(&sheet(&declared), &bodies),
-            Style::Bursts => {
-                let front = [sheet(&declared), sheet(&bodies.concat())].concat();
-                bursts::releases(self.random, &front, tasks)
-            }
+            Style::Bursts => bursts::releases(self.random, &front, tasks),
+            Style::Attempts => attempts::releases(self.random, &front, tasks),
             _ => self.releases(tasks),
         };
         [declared, bodies.concat(), releases, vec![end()]].concat()
@@ -87,6 +92,9 @@ impl Author<'_> {
         let version = match self.style {
             Style::TopVersions => TOP_VERSION - self.random.below(4) as u32,
             Style::Bursts if self.random.percent(50) => TOP_VERSION - self.random.below(2) as u32,
+            Style::Attempts if self.random.percent(40) => {
+                TOP_VERSION - self.random.within(1, 3) as u32
+            }
             _ => self.random.below(1000) as u32,
         };
         let first = self.random.below(90) as u32;
@@ -123,6 +131,9 @@ impl Author<'_> {
     }
 
     fn piece(&mut self) -> Vec<Bytes> {
+        if self.style == Style::Attempts {
+            return self.transaction();
+        }
         let of_words = self.words > 0 && (self.blocks == 0 || self.random.percent(50));
         match self.random.below(10) {
             0 => vec![add(self.register(), self.register())],
@@ -175,16 +186,27 @@ impl Author<'_> {
         let blocks = self.random.different(self.blocks.min(8), self.blocks);
         let may_put = &blocks[..blocks.len().min(MAX_PUT)];
         // With many blocks more commands, so that a transaction may touch as many as it can.
-        let most = if self.style == Style::Tiny { 2 } else { self.blocks.max(6) };
-        let read_only = self.random.percent(25);
+        let (least, most) = match self.style {
+            Style::Tiny => (0, 2),
+            Style::Attempts => (2, 5),
+            _ => (0, self.blocks.max(6)),
+        };
+        // How often the blocks are only read, and from which of ten numbers on a command is a PUT.
+        let (read_only, first_put) = match self.style {
+            Style::Attempts => (10, 5),
+            _ => (25, 7),
+        };
+        let read_only = self.random.percent(read_only);
         let mut piece = vec![begin()];
-        for _ in 0..self.random.within(0, most) {
+        for _ in 0..self.random.within(least, most) {
             let offset = self.random.below(3) as u8;
             let register = self.register();
             piece.push(match self.random.below(10) {
                 0 => load(register, self.random.next_number() as u32),
                 1 | 2 => add(register, 1),
-                7.. if !read_only => put(self.random.pick(may_put), offset, register),
+                number if number >= first_put && !read_only => {
+                    put(self.random.pick(may_put), offset, register)
+                }
                 _ => get(register, self.random.pick(&blocks), offset),
             });
         }

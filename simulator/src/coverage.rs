@@ -1,13 +1,14 @@
 //! What a corpus of cases covers: refusals, statements, outcomes, releases that wait or are dropped,
-//! each counted.
+//! lost attempts, each counted.
 
 use std::fmt;
 
 use crate::drop_coverage::DropCoverage;
 use crate::generator::Case;
 use crate::history::{History, Kind, Operation};
+use crate::lost_coverage::LostCoverage;
 use crate::machine::Machine;
-use crate::observer::{Event, Fate, Observer, Statement};
+use crate::observer::{Cause, Event, Fate, Observer, Statement};
 use crate::sheet::{self, MAX_TASKS};
 use crate::waiting_coverage::WaitingCoverage;
 use crate::{run, TOP_LIMIT};
@@ -100,6 +101,7 @@ pub struct Coverage {
     outcomes: [u64; OUTCOMES.len()],
     waiting: WaitingCoverage,
     drops: DropCoverage,
+    lost: LostCoverage,
 }
 
 impl Coverage {
@@ -113,6 +115,7 @@ impl Coverage {
             outcomes: [0; OUTCOMES.len()],
             waiting: WaitingCoverage::default(),
             drops: DropCoverage::default(),
+            lost: LostCoverage::default(),
         }
     }
 
@@ -124,6 +127,7 @@ impl Coverage {
         let limit = case.limit.min(TOP_LIMIT) as u32;
         self.waiting.take(&sheet, limit);
         self.drops.take(&sheet, limit);
+        self.lost.take(&sheet, limit);
         let mut machine = Machine::new(&sheet);
         let mut observers =
             (Counter { coverage: self, in_transaction: [false; MAX_TASKS] }, History::new());
@@ -142,7 +146,7 @@ impl Coverage {
 
     fn take_operation(&mut self, operation: &Operation) {
         let ended = operation.span.last.is_some();
-        match operation.kind {
+        match &operation.kind {
             Kind::Read { .. } => {}
             Kind::Swap { answer: Some(true) } => self.count(Outcome::SwapYes, 1),
             Kind::Swap { answer: Some(false) } if operation.exchanges[0].differs => {
@@ -152,14 +156,11 @@ impl Coverage {
             Kind::Swap { answer: None } => {
                 self.count(Outcome::CommittedSwapCutShort, u64::from(operation.committed));
             }
-            Kind::Transaction { restarts, .. } => {
-                let is_rejected = |exchange: &&crate::history::Exchange| {
-                    exchange.span.last.is_some() && exchange.committed == Some(false)
-                };
-                let rejected = operation.exchanges.iter().filter(is_rejected).count() as u64;
+            Kind::Transaction { lost, .. } => {
+                let lost_by = |cause| lost.iter().filter(|one| one.cause == cause).count() as u64;
                 let committed = operation.committed;
-                self.count(Outcome::RejectedCommit, rejected);
-                self.count(Outcome::StaleRestart, u64::from(restarts) - rejected);
+                self.count(Outcome::RejectedCommit, lost_by(Cause::RejectedCommit));
+                self.count(Outcome::StaleRestart, lost_by(Cause::StaleVersion));
                 self.count(Outcome::SpentJob, u64::from(operation.spent));
                 self.count(Outcome::TransactionCommitted, u64::from(committed && ended));
                 self.count(Outcome::CommittedTransactionCutShort, u64::from(committed && !ended));
@@ -189,6 +190,7 @@ impl Coverage {
         }
         rows.extend(self.waiting.rows());
         rows.extend(self.drops.rows());
+        rows.extend(self.lost.rows());
         rows
     }
 }

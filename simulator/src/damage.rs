@@ -17,7 +17,7 @@ pub fn cut(seed: u64, index: u64) -> Bytes {
     bytes
 }
 
-/// One command doubled, lost or moved.
+/// One command doubled, left out or moved.
 pub fn altered_commands(random: &mut Random) -> Bytes {
     let style = random.pick(&[Style::Tiny, Style::Words, Style::Mixed]);
     let mut commands = contention::commands(random, style);
@@ -36,7 +36,7 @@ pub fn altered_commands(random: &mut Random) -> Bytes {
     sheet(&commands)
 }
 
-/// One byte flipped, doubled, lost, set or added.
+/// One byte flipped, doubled, left out, set or added.
 pub fn altered_bytes(random: &mut Random) -> Bytes {
     let style = random.pick(&[Style::Tiny, Style::Words, Style::Mixed]);
     let mut bytes = sheet(&contention::commands(random, style));

@@ -3,7 +3,7 @@
 use crate::contention::{self, Style};
 use crate::damage;
 use crate::machine::Machine;
-use crate::observer::{Fate, Observer};
+use crate::observer::{Event, Fate, Observer};
 use crate::random::Random;
 use crate::{builder, report, sheet, TOP_LIMIT};
 
@@ -26,7 +26,7 @@ impl Case {
     }
 }
 
-/// Where the sheet of a case comes from. Every 28 cases hold each source at least once.
+/// Where the sheet of a case comes from. Every 32 cases hold each source at least once.
 #[derive(Clone, Copy)]
 enum Source {
     Valid(Style),
@@ -39,12 +39,13 @@ enum Source {
     TwoFaults,
 }
 
-const SOURCES: [Source; 28] = [
+const SOURCES: [Source; 32] = [
     Source::Valid(Style::Words),
     Source::Valid(Style::Nested),
     Source::Cut,
     Source::Valid(Style::Bursts),
     Source::Valid(Style::Blocks),
+    Source::Valid(Style::Attempts),
     Source::AlteredBytes,
     Source::Valid(Style::Mixed),
     Source::Cut,
@@ -52,6 +53,7 @@ const SOURCES: [Source; 28] = [
     Source::PastCeiling,
     Source::Valid(Style::Bursts),
     Source::Valid(Style::TopVersions),
+    Source::Valid(Style::Attempts),
     Source::Noise,
     Source::Valid(Style::Tiny),
     Source::Cut,
@@ -60,12 +62,14 @@ const SOURCES: [Source; 28] = [
     Source::Valid(Style::Bursts),
     Source::Valid(Style::Blocks),
     Source::TwoFaults,
+    Source::Valid(Style::Attempts),
     Source::Valid(Style::Nested),
     Source::Cut,
     Source::Valid(Style::Mixed),
     Source::AtCeiling,
     Source::Valid(Style::Words),
     Source::Valid(Style::Bursts),
+    Source::Valid(Style::Attempts),
     Source::AlteredBytes,
     Source::Valid(Style::Tiny),
 ];
@@ -121,9 +125,17 @@ struct Measure {
     report_length: usize,
     /// The ticks before which a release that waited starts.
     starts: Vec<u32>,
+    /// The ticks in which an attempt is lost.
+    losses: Vec<u32>,
 }
 
 impl Observer for Measure {
+    fn event(&mut self, tick: u32, _task: usize, event: Event<'_>) {
+        if let Event::AttemptLost { .. } = event {
+            self.losses.push(tick);
+        }
+    }
+
     fn release(&mut self, tick: u32, _task: usize, fate: Fate) {
         if fate == Fate::StartsAfterWaiting {
             self.starts.push(tick);
@@ -142,16 +154,17 @@ fn measure(bytes: &[u8], limit: u32) -> Measure {
     measure
 }
 
-/// Mostly no bound, often one that cuts the run short, also just before or after a release that
-/// waited starts, sometimes one that is turned down.
+/// Mostly no bound, often one that cuts the run short, also around the start of a release that waited
+/// and around a lost attempt, sometimes one that is turned down.
 fn limit(random: &mut Random, full_run: &Measure) -> u64 {
-    let starts = &full_run.starts;
+    let Measure { starts, losses, .. } = full_run;
     match random.below(20) {
         0 => random.pick(&[0, 0, 1, 2]),
         1 => random.pick(&[65_536, 65_537, 100_000, u64::from(u32::MAX)]),
         2 => TOP_LIMIT - 1,
         3..=9 => random.below(full_run.ticks as usize + 1) as u64,
         10..=12 if !starts.is_empty() => (random.pick(starts) + random.below(2) as u32).into(),
+        13..=15 if !losses.is_empty() => (random.pick(losses) + random.below(4) as u32).into(),
         _ => TOP_LIMIT,
     }
 }

@@ -1,7 +1,7 @@
 //! The history of a run: its releases, and its operations with their arguments, ticks and answers.
 
 use crate::machine::{Machine, Pair};
-use crate::observer::{Event, Fate, Observer, Statement};
+use crate::observer::{Cause, Event, Fate, Observer, Statement};
 use crate::sheet::{Sheet, MAX_TASKS, REGISTERS};
 
 /// A READ, a SWAP or a transaction with its arguments as recorded.
@@ -18,10 +18,18 @@ pub enum Kind {
         registers: [u32; REGISTERS],
         /// The command after BEGIN.
         first_command: usize,
-        /// What the GETs of the last pass gave.
+        /// What the GETs of the last attempt gave.
         answers: Vec<u32>,
-        restarts: u32,
+        /// The attempts before it, all lost.
+        lost: Vec<LostAttempt>,
     },
+}
+
+/// The tick in which an attempt of a transaction was lost, and why.
+#[derive(Clone, Copy, Debug, PartialEq, Eq)]
+pub struct LostAttempt {
+    pub tick: u32,
+    pub cause: Cause,
 }
 
 /// The ticks of an operation or of an exchange.
@@ -118,6 +126,14 @@ impl Operation {
             None => self.committed,
         }
     }
+
+    /// The attempts that it lost: only a transaction can lose any.
+    pub fn lost(&self) -> &[LostAttempt] {
+        match &self.kind {
+            Kind::Transaction { lost, .. } => lost,
+            _ => &[],
+        }
+    }
 }
 
 impl History {
@@ -201,7 +217,7 @@ impl Observer for History {
                     registers: *registers,
                     first_command: first,
                     answers: Vec::new(),
-                    restarts: 0,
+                    lost: Vec::new(),
                 };
                 self.begin(tick, task, kind);
             }
@@ -211,7 +227,7 @@ impl Observer for History {
         let own_tick = self.ticks[task];
         if let Some(operation) = self.latest_operation(task) {
             operation.take(tick, own_tick, event);
-            operation.take_answer(event);
+            operation.take_answer(tick, event);
         }
     }
 }
@@ -262,14 +278,14 @@ impl Operation {
         }
     }
 
-    fn take_answer(&mut self, event: Event<'_>) {
+    fn take_answer(&mut self, tick: u32, event: Event<'_>) {
         match (&mut self.kind, event) {
             (Kind::Read { answer, .. }, Event::ReadEnds { answer: given }) => *answer = Some(given),
             (Kind::Swap { answer }, Event::ExchangeEnds { answer: given }) => *answer = Some(given),
             (Kind::Transaction { answers, .. }, Event::Gets { answer }) => answers.push(answer),
-            (Kind::Transaction { answers, restarts, .. }, Event::Restarts) => {
+            (Kind::Transaction { answers, lost, .. }, Event::AttemptLost { cause }) => {
                 answers.clear();
-                *restarts += 1;
+                lost.push(LostAttempt { tick, cause });
             }
             _ => {}
         }

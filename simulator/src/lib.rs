@@ -1,12 +1,14 @@
-//! The second simulator of the exchange engine: document 01 and changes 1 and 2 of document 02 in
-//! plain Rust, with no part shared.
+//! The second simulator of the exchange engine: document 01 and changes 1 to 3 of document 02 in plain
+//! Rust, with no part shared.
 //!
 //! `sheet` reads a sheet, `machine` runs it with `releases`, `reading`, `exchange` and
 //! `transaction`, `report` prints the end. `history` observes a run; `plain` checks it as whole
-//! operations, `drops` checks the counts of dropped releases. `generator` makes cases from
-//! `contention` (good sheets, with `bursts` of releases) and `damage` (bad ones); `coverage`,
-//! `waiting_coverage` and `drop_coverage` count them.
+//! operations, `drops` and `lost` check the counts of dropped releases and of lost attempts.
+//! `generator` makes cases from `contention` (good sheets, with `bursts` of releases and releases
+//! inside `attempts`) and `damage` (bad ones); `coverage`, `waiting_coverage`, `drop_coverage` and
+//! `lost_coverage` count them.
 
+pub mod attempts;
 pub mod builder;
 pub mod bursts;
 pub mod contention;
@@ -17,6 +19,8 @@ pub mod drops;
 pub mod exchange;
 pub mod generator;
 pub mod history;
+pub mod lost;
+pub mod lost_coverage;
 pub mod machine;
 pub mod observer;
 pub mod plain;

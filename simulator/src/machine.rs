@@ -96,7 +96,8 @@ pub struct Job {
 pub struct Counts {
     pub finished: u32,
     pub spent: u32,
-    pub rejected: u32,
+    /// Attempts of transactions that were lost: by a stale version or a rejected commit.
+    pub lost: u32,
     pub ticks: u32,
     pub dropped: u32,
 }

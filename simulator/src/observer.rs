@@ -74,11 +74,22 @@ pub enum Event<'a> {
     Gets {
         answer: u32,
     },
-    /// A stale version or a rejected commit sends the transaction back to the command after BEGIN.
-    Restarts,
+    /// The transaction goes back to the command after BEGIN.
+    AttemptLost {
+        cause: Cause,
+    },
     CommitsNothing,
     TransactionEnds,
     Spent,
+}
+
+/// Why an attempt of a transaction is lost.
+#[derive(Clone, Copy, Debug, PartialEq, Eq)]
+pub enum Cause {
+    /// The second reading of a GET or of a first PUT finds another version than the remembered one.
+    StaleVersion,
+    /// The exchange of its COMMIT answers no.
+    RejectedCommit,
 }
 
 /// What becomes of a release when it arrives, or later when its waiting is over.

@@ -7,7 +7,8 @@ use crate::sheet::Block;
 use crate::transaction::{bank_word, store_of, version_of};
 use crate::Answer;
 
-/// The whole report as document 01 prints it, with each task's drops as change 2 has them.
+/// The whole report as document 01 prints it, with each task's drops (change 2) and lost attempts
+/// (change 3).
 pub fn render(machine: &Machine) -> String {
     let mut report = contents(&words(machine), &blocks(machine));
     for task in 0..machine.sheet.bodies.len() {
@@ -47,8 +48,8 @@ fn blocks(machine: &Machine) -> Vec<Block> {
 }
 
 fn task_line(report: &mut String, task: usize, counts: Counts) {
-    let Counts { finished, spent, rejected, ticks, dropped } = counts;
-    line(report, "T", task, &[finished, spent, rejected, ticks, dropped]);
+    let Counts { finished, spent, lost, ticks, dropped } = counts;
+    line(report, "T", task, &[finished, spent, lost, ticks, dropped]);
 }
 
 fn line(report: &mut String, letter: &str, first: impl Display, numbers: &[u32]) {

@@ -1,7 +1,7 @@
 //! Transactions: BEGIN, GET, PUT and COMMIT over block stores and bank words.
 
 use crate::machine::{Machine, Pair, Step, Word};
-use crate::observer::{Event, Observer, Statement};
+use crate::observer::{Cause, Event, Observer, Statement};
 use crate::reading::Reading;
 use crate::sheet::{Command, BLOCK_VALUES, MAX_BLOCKS, MAX_PUT, MAX_WORDS, REGISTERS, TOP_VERSION};
 
@@ -26,6 +26,10 @@ pub struct Transaction {
 }
 
 impl Transaction {
+    pub fn has_touched_nothing(&self) -> bool {
+        self.touched == 0
+    }
+
     fn has_touched(&self, block: usize) -> bool {
         self.touched & 1 << block != 0
     }
@@ -166,7 +170,7 @@ impl Machine<'_> {
         let (block, _) = self.place_under_way(task);
         let job = &mut self.jobs[task];
         if version_of(value) != version_of(job.transaction.remembered[block]) {
-            self.restart(task, observer);
+            self.restart(task, Cause::StaleVersion, observer);
         } else if let Command::Put { .. } = self.sheet.commands[job.next] {
             let transaction = &mut job.transaction;
             transaction.put |= 1 << block;
@@ -192,8 +196,14 @@ impl Machine<'_> {
         self.advance(task);
     }
 
-    fn restart<O: Observer>(&mut self, task: usize, observer: &mut O) {
-        observer.event(self.tick, task, Event::Restarts);
+    /// A stale version and a rejected commit count alike.
+    fn attempt_lost<O: Observer>(&mut self, task: usize, cause: Cause, observer: &mut O) {
+        self.counts[task].lost += 1;
+        observer.event(self.tick, task, Event::AttemptLost { cause });
+    }
+
+    fn restart<O: Observer>(&mut self, task: usize, cause: Cause, observer: &mut O) {
+        self.attempt_lost(task, cause, observer);
         let job = &mut self.jobs[task];
         job.registers = job.transaction.kept;
         job.transaction.touch_nothing();
@@ -203,7 +213,7 @@ impl Machine<'_> {
 
     pub fn commit_transaction<O: Observer>(&mut self, task: usize, observer: &mut O) {
         let transaction = &self.jobs[task].transaction;
-        if transaction.touched == 0 {
+        if transaction.has_touched_nothing() {
             observer.statement(self.tick, task, Statement::CommitOfNothing);
             observer.event(self.tick, task, Event::CommitsNothing);
             observer.event(self.tick, task, Event::TransactionEnds);
@@ -249,8 +259,7 @@ impl Machine<'_> {
     /// The last tick of a transaction's exchange.
     pub fn end_commit<O: Observer>(&mut self, task: usize, answer: bool, observer: &mut O) {
         if !answer {
-            self.counts[task].rejected += 1;
-            self.restart(task, observer);
+            self.restart(task, Cause::RejectedCommit, observer);
             return;
         }
         let transaction = &self.jobs[task].transaction;

@@ -8,7 +8,7 @@ use simulator::random::Random;
 use simulator::{check, run, run_observed};
 
 #[test]
-fn every_refusal_statement_outcome_and_wait_is_covered() {
+fn every_refusal_statement_outcome_wait_drop_and_loss_is_covered() {
     let mut coverage = Coverage::new();
     for index in 0..CASES {
         coverage.take(&case(SEED, index));
@@ -39,8 +39,9 @@ fn demand_3_holds_after_every_tick() {
         Style::Mixed,
         Style::TopVersions,
         Style::Bursts,
+        Style::Attempts,
     ];
-    for index in 0..60 {
+    for index in 0..70 {
         let mut random = Random::new(SEED, index);
         let sheet = valid_sheet(&mut random, styles[index as usize % styles.len()]);
         for limit in 0..400 {
@@ -61,10 +62,11 @@ fn valid_sheets_and_their_cuts() {
         Style::TopVersions,
         Style::Nested,
         Style::Bursts,
+        Style::Attempts,
         Style::Long,
         Style::Tiny,
     ];
-    for index in 0..160 {
+    for index in 0..180 {
         let style = styles[index as usize % styles.len()];
         let sheet = valid_sheet(&mut Random::new(SEED, index), style);
         assert_eq!(check(&sheet).number, 0, "{style:?} {index}");

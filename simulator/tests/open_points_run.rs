@@ -152,21 +152,20 @@ fn spent_jobs() {
     assert_eq!(numbers(&last_version, "B 0")[..3], [16_777_215, 0, 41]);
 }
 
-/// A commit that finds another version is rejected and counted in the exchange's last tick.
+/// A commit that finds another version is rejected: a lost attempt of the exchange's last tick.
 #[test]
 fn rejected_commit() {
     let releases = sheet(&[release(0, 0), release(20, 1)]);
     let sheet = sheet(&[block(3, [40; 8]), task_u(), task_u(), releases, end()]);
     let complete = report(&sheet);
     // Lower task: 20 ticks up to the exchange, 8 until it is rejected, 28 without BEGIN.
-    let lower = TaskLine { rejected: 1, ..TaskLine::finished(1, 56) };
-    assert_eq!(TaskLine::of(&complete, 0), lower);
+    assert_eq!(TaskLine::of(&complete, 0), TaskLine::finished(1, 56).losing(1));
     assert_eq!(TaskLine::of(&complete, 1), TaskLine::finished(1, 29));
     assert_eq!(numbers(&complete, "B 0")[..2], [5, 42]);
 
-    assert_eq!(TaskLine::of(&report_with_limit(&sheet, 20 + 29 + 7), 0).rejected, 0);
+    assert_eq!(TaskLine::of(&report_with_limit(&sheet, 20 + 29 + 7), 0).lost, 0);
     let rejected = report_with_limit(&sheet, 20 + 29 + 8);
-    assert_eq!(TaskLine::of(&rejected, 0).rejected, 1);
+    assert_eq!(TaskLine::of(&rejected, 0).lost, 1);
     assert_eq!(registers(&rejected, 0), [0; 8]);
 }
 

@@ -76,9 +76,9 @@ fn blocks_of_a_transaction() {
     assert_fault(&[opened.clone(), four_puts()], put(4, 8, 0), 5);
     assert_fault(&[opened.clone(), four_puts()], get(0, 9, 0), 6);
     // GET and PUT of one block are one block, and the next BEGIN counts anew.
-    let pass = sheet(&[eight_gets(), four_puts(), commit()]);
+    let first = sheet(&[eight_gets(), four_puts(), commit()]);
     let next = sheet(&[begin(), get(0, 8, 0), put(7, 0, 0), commit()]);
-    assert_good(&[opened, pass, next, end()]);
+    assert_good(&[opened, first, next, end()]);
 }
 
 /// A ninth PAIR is 5, also if it repeats a word; a repeated word with a bad register is 6.

@@ -1,17 +1,18 @@
-//! Slips of this trade: a copy of the simulator with one wrong edit must fail demand 3 or the counts
-//! of dropped releases.
+//! Slips of this trade: a copy of the simulator with one wrong edit must fail demand 3, the counts of
+//! dropped releases or those of lost attempts.
 
 use std::fs;
 use std::path::{Path, PathBuf};
 use std::process::{Command, Output};
 
-/// Runs both checks over the corpus; a failure ends it with code 1.
+/// Runs the three checks over the corpus; a failure ends it with code 1.
 const MAIN: &str = r#"
 fn main() {
     for index in 0..generator::CASES {
         let case = generator::case(generator::SEED, index);
         let checked = plain::whole_operations(&case.sheet, case.limit)
-            .and_then(|()| drops::drops_counted(&case.sheet, case.limit));
+            .and_then(|()| drops::drops_counted(&case.sheet, case.limit))
+            .and_then(|()| lost::lost_counted(&case.sheet, case.limit));
         if let Err(fault) = checked {
             println!("case {index}: {fault}");
             std::process::exit(1);
@@ -114,6 +115,32 @@ slips! {
         "self.waiting.add(release);" => "self.waiting.add(release); self.counts[task].dropped += 1;";
     drop_not_counted: "releases.rs",
         "self.counts[task].dropped += 1;" => "";
-    restart_keeps_the_registers_of_the_lost_pass: "transaction.rs",
+    restart_keeps_the_registers_of_the_lost_attempt: "transaction.rs",
         "job.registers = job.transaction.kept;" => "";
+    stale_restart_not_counted: "transaction.rs",
+        "self.counts[task].lost += 1;"
+            => "self.counts[task].lost += u32::from(cause != Cause::StaleVersion);";
+    stale_restart_counted_twice: "transaction.rs",
+        "self.counts[task].lost += 1;"
+            => "self.counts[task].lost += 1 + u32::from(cause == Cause::StaleVersion);";
+    stale_restart_counted_for_the_task_that_committed_last: "transaction.rs",
+        "self.counts[task].lost += 1;"
+            => "let stale = cause == Cause::StaleVersion;
+                let writer = usize::from(self.jobs[task].loaded.task);
+                self.counts[if stale { writer } else { task }].lost += 1;";
+    stale_restart_neither_counted_nor_told: "transaction.rs",
+        "self.attempt_lost(task, cause, observer);"
+            => "if cause != Cause::StaleVersion { self.attempt_lost(task, cause, observer); }";
+    rejected_commit_not_counted: "transaction.rs",
+        "self.counts[task].lost += 1;"
+            => "self.counts[task].lost += u32::from(cause != Cause::RejectedCommit);";
+    lost_attempt_told_with_the_other_cause: "transaction.rs",
+        "observer.event(self.tick, task, Event::AttemptLost { cause });"
+            => "observer.event(self.tick, task, Event::AttemptLost { cause: Cause::StaleVersion });";
+    spent_commit_counted_as_a_lost_attempt: "transaction.rs",
+        "self.counts[task].spent += 1;"
+            => "self.counts[task].spent += 1; self.counts[task].lost += 1;";
+    no_of_swap_counted_as_a_lost_attempt: "exchange.rs",
+        "self.answer(task, u32::from(answer));"
+            => "self.answer(task, u32::from(answer)); self.counts[task].lost += u32::from(!answer);";
 }

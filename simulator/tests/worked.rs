@@ -1,5 +1,5 @@
 //! All worked figures of document 01, most of them from examples/worked: the refusal table, sheet A,
-//! P1 to P10 and two tasks U; those of changes 1 and 2 there too.
+//! P1 to P10 and two tasks U; those of changes 1 to 3 there too.
 
 mod common;
 
@@ -23,7 +23,7 @@ fn sheet_a() -> Bytes {
     )
 }
 
-/// As change 2 has it.
+/// As changes 2 and 3 have it.
 const REPORT_A: &str = "W 0 5\nT 0 1 0 0 12 0\nR 0 1 12 5 0 0 0 0 0\nE 12\n";
 
 #[test]
@@ -93,7 +93,7 @@ fn every_stored_report() {
             cases += 1;
         }
     }
-    assert_eq!(cases, 35);
+    assert_eq!(cases, 38);
 }
 
 #[test]

@@ -66,7 +66,7 @@ fn chart_options(name: &str) -> Option<Options> {
             ],
         ),
         "contended-transaction" => (
-            "Contended transactions: a stale version, then two rejected commits",
+            "Contended transactions: t0 loses three attempts, by a stale version and two rejected commits",
             &["t0=move", "t1=raise", "t2=grant", "b0=room 1", "b1=room 2"],
         ),
         _ => return None,

@@ -2,7 +2,7 @@
 
 use simulator::generator::{case, SEED};
 use simulator::machine::Machine;
-use simulator::observer::{Fate, NoObserver, Statement};
+use simulator::observer::{Cause, Fate, NoObserver, Statement};
 use simulator::report::render;
 use simulator::sheet::{parse, Sheet};
 use simulator::TOP_LIMIT;
@@ -11,6 +11,7 @@ use tools::chart::series::all_series;
 use tools::chart::statement::Kind;
 use tools::chart::subject::Subject;
 use tools::chart::{draw, Options};
+use tools::encode::encode;
 use tools::examples::folder;
 
 fn example(name: &str) -> Vec<u8> {
@@ -38,7 +39,7 @@ fn good_sheets() -> impl Iterator<Item = Sheet> {
 
 #[test]
 fn a_recording_has_the_figures_of_the_report() {
-    let (mut drops, mut waits) = (0, 0);
+    let (mut drops, mut waits, mut losses) = (0, 0, 0);
     for sheet in good_sheets() {
         let mut machine = Machine::new(&sheet);
         machine.run(TOP_LIMIT as u32, &mut NoObserver);
@@ -50,18 +51,11 @@ fn a_recording_has_the_figures_of_the_report() {
             assert_eq!(own().count(), counts.ticks as usize);
             let ended = own().filter(|done| done.ends_job).count();
             assert_eq!(ended, (counts.finished + counts.spent) as usize);
-            let rejected = own().filter(|done| {
-                let in_exchange = matches!(
-                    done.statement,
-                    Statement::CommitNo
-                        | Statement::CleanBackToInit
-                        | Statement::CleanNothing
-                        | Statement::CleanMark
-                );
-                done.restarts && in_exchange
-            });
-            assert_eq!(rejected.count(), counts.rejected as usize);
-            assert_eq!(recording.dropped[task], counts.dropped);
+            let losing: Vec<&Done> = own().filter(|done| done.lost.is_some()).collect();
+            assert_eq!(losing.len(), counts.lost as usize);
+            assert!(losing.iter().all(|done| done.lost == Some(cause_at(done.statement))));
+            losses += losing.len();
+            assert_eq!(recording.counts[task], *counts);
             let tasks = recording.ticks.iter().flat_map(|tick| tick.tasks_with(Fate::Dropped));
             let dropped = tasks.filter(|dropped| *dropped == task).count();
             assert_eq!(dropped, counts.dropped as usize);
@@ -85,7 +79,19 @@ fn a_recording_has_the_figures_of_the_report() {
             assert!(report.contains(&line), "{line} is not in\n{report}");
         }
     }
-    assert!(drops > 100 && waits > 1000, "{drops} drops, {waits} waits");
+    assert!(drops > 100 && waits > 1000 && losses > 50, "{drops}, {waits}, {losses}");
+}
+
+/// What a statement that loses an attempt loses it by.
+fn cause_at(statement: Statement) -> Cause {
+    match statement {
+        Statement::AgainLook | Statement::AgainFetch => Cause::StaleVersion,
+        Statement::CommitNo
+        | Statement::CleanBackToInit
+        | Statement::CleanNothing
+        | Statement::CleanMark => Cause::RejectedCommit,
+        _ => panic!("an attempt is lost at {statement:?}"),
+    }
 }
 
 #[test]
@@ -142,7 +148,8 @@ fn the_contended_example_changes_its_blocks_at_the_commits() {
     );
     assert_eq!(series[1].before(commits[1]), "version 200");
     assert_eq!(series[1].before(commits[1] + 1), "version 201");
-    assert_eq!(all_done(&recording).filter(|done| done.restarts).count(), 3);
+    let lost: Vec<Cause> = all_done(&recording).filter_map(|done| done.lost).collect();
+    assert_eq!(lost, [Cause::StaleVersion, Cause::RejectedCommit, Cause::RejectedCommit]);
 }
 
 fn cells_drawn(picture: &str) -> usize {
@@ -211,21 +218,35 @@ fn waiting_releases_are_drawn() {
     assert_eq!(bars(&picture("worked/p5")), []);
 }
 
-/// Each task's row has its own number, and none if it is 0; a part of the run shows the whole run's.
+/// The totals in the margin, from the top.
+fn totals(sheet: &[u8], options: &Options) -> Vec<String> {
+    let picture = draw(sheet, options).unwrap();
+    let texts = picture.split("</text>").filter_map(|text| text.rsplit('>').next());
+    texts.filter(|text| text.ends_with(" in all")).map(str::to_string).collect()
+}
+
+/// Each task's row has its own numbers, and none if they are 0; a part of the run shows the whole run's.
 #[test]
-fn dropped_releases_are_told_by_task() {
-    let numbers = |name: &str, options: &Options| -> Vec<String> {
-        let picture = draw(&example(name), options).unwrap();
-        let texts = picture.split("</text>").filter_map(|text| text.rsplit('>').next());
-        texts.filter(|text| text.ends_with("dropped in all")).map(str::to_string).collect()
-    };
+fn lost_attempts_and_dropped_releases_are_told_by_task() {
     let in_one_band = Options { ticks_in_band: 100, ..Options::default() };
-    let of_two = ["2 dropped in all", "1 dropped in all"];
-    assert_eq!(numbers("worked/drops-of-two-tasks", &in_one_band), of_two);
+    let of_example = |name: &str| totals(&example(name), &in_one_band);
+    let of_two = ["dropped 2 in all", "dropped 1 in all"];
+    assert_eq!(of_example("worked/drops-of-two-tasks"), of_two);
     let part = Options { first: 40, last: 50, ..Options::default() };
-    assert_eq!(numbers("worked/drops-of-two-tasks", &part), of_two);
-    assert_eq!(numbers("worked/release-dropped", &in_one_band), ["1 dropped in all"]);
-    assert!(numbers("worked/release-waits", &in_one_band).is_empty());
+    assert_eq!(totals(&example("worked/drops-of-two-tasks"), &part), of_two);
+    assert_eq!(of_example("worked/release-dropped"), ["dropped 1 in all"]);
+    assert_eq!(of_example("worked/stale-then-rejected"), ["lost 2 in all"]);
+    assert!(of_example("worked/release-waits").is_empty());
+}
+
+/// Two tasks U: t0's first job loses an attempt while four releases wait and a fifth is dropped.
+#[test]
+fn both_numbers_stand_side_by_side() {
+    let text = std::fs::read_to_string(folder().join("worked/two-tasks-u.txt")).unwrap();
+    let more: String = (0..6).map(|tick| format!("RELEASE {tick} t0\n")).collect();
+    let sheet = encode(&text.replace("RELEASE 0 t0\n", &more)).unwrap().bytes;
+    // 191 ticks, in four bands.
+    assert_eq!(totals(&sheet, &Options::default()), ["lost 1, dropped 1 in all"; 4]);
 }
 
 #[test]

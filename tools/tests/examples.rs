@@ -29,7 +29,7 @@ fn printed(name: &str) -> String {
 #[test]
 fn every_stored_file_is_made_from_its_text() {
     let names = names().unwrap();
-    assert_eq!(names.len(), 37);
+    assert_eq!(names.len(), 40);
     for name in names {
         for (path, bytes) in made_files(&name).unwrap() {
             let stored = fs::read(&path).unwrap();
@@ -106,11 +106,11 @@ fn other_reports_show_what_they_are_there_for() {
     for (name, figures) in OWN {
         assert_figures(name, figures);
     }
-    // All four releases of the guard became jobs, and no task's was dropped; the move was rejected twice.
+    // All four releases of the guard became jobs, and no task's was dropped; the move lost three attempts.
     let cold_room = task_lines(&printed("cold-room"));
     assert_eq!(cold_room[4].finished, 4);
     assert!(cold_room.iter().all(|task| task.dropped == 0));
-    assert_eq!(task_lines(&printed("contended-transaction"))[0].rejected, 2);
+    assert_eq!(task_lines(&printed("contended-transaction"))[0].lost, 3);
 }
 
 #[test]

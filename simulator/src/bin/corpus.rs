@@ -1,4 +1,5 @@
-//! Prints what the corpus covers, checks whole operations and drops over it, or exports small cases.
+//! Prints what the corpus covers, checks whole operations, drops and lost attempts over it, or
+//! exports small cases.
 //!
 //! corpus                        the default corpus
 //! corpus SEED COUNT             another one
@@ -10,6 +11,7 @@ use std::process::ExitCode;
 use simulator::coverage::Coverage;
 use simulator::drops::drops_counted;
 use simulator::generator::{case, Case, CASES, SEED};
+use simulator::lost::lost_counted;
 use simulator::machine::Machine;
 use simulator::observer::NoObserver;
 use simulator::plain::whole_operations;
@@ -46,7 +48,8 @@ fn cover(seed: u64, count: u64) -> ExitCode {
         let case = case(seed, index);
         coverage.take(&case);
         let checked = whole_operations(&case.sheet, case.limit)
-            .and_then(|()| drops_counted(&case.sheet, case.limit));
+            .and_then(|()| drops_counted(&case.sheet, case.limit))
+            .and_then(|()| lost_counted(&case.sheet, case.limit));
         if let Err(fault) = checked {
             println!("case {index} of seed {seed}: {fault}");
             return ExitCode::FAILURE;

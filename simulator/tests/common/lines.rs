@@ -7,7 +7,7 @@
 pub struct TaskLine {
     pub finished: u32,
     pub spent: u32,
-    pub rejected: u32,
+    pub lost: u32,
     pub ticks: u32,
     pub dropped: u32,
 }
@@ -22,22 +22,26 @@ impl TaskLine {
         TaskLine { spent, ticks, ..TaskLine::default() }
     }
 
+    pub fn losing(self, lost: u32) -> TaskLine {
+        TaskLine { lost, ..self }
+    }
+
     pub fn dropping(self, dropped: u32) -> TaskLine {
         TaskLine { dropped, ..self }
     }
 
     /// The line as a report must have it.
     pub fn written(self, task: u8) -> String {
-        let TaskLine { finished, spent, rejected, ticks, dropped } = self;
-        format!("T {task} {finished} {spent} {rejected} {ticks} {dropped}\n")
+        let TaskLine { finished, spent, lost, ticks, dropped } = self;
+        format!("T {task} {finished} {spent} {lost} {ticks} {dropped}\n")
     }
 
     pub fn of(report: &str, task: u8) -> TaskLine {
         let found = numbers(report, &format!("T {task}"));
-        let [finished, spent, rejected, ticks, dropped] = found[..] else {
+        let [finished, spent, lost, ticks, dropped] = found[..] else {
             panic!("the T line of task {task} has {found:?}");
         };
-        TaskLine { finished, spent, rejected, ticks, dropped }
+        TaskLine { finished, spent, lost, ticks, dropped }
     }
 }
 

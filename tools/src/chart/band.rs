@@ -2,6 +2,8 @@
 
 use std::ops::Range;
 
+use simulator::machine::Counts;
+
 use super::marks;
 use super::names::Names;
 use super::record::{Done, Recording, Tick};
@@ -16,11 +18,12 @@ pub const RIGHT: f32 = 64.0;
 pub const CELL_WIDTH: f32 = 14.0;
 const CELL_HEIGHT: f32 = 48.0;
 const SCALE_HEIGHT: f32 = 16.0;
-/// The height of a row's middle where its task does not run in the band.
+/// The height of a row's middle where its task does not run in the band, and with two lines of text.
 const EMPTY_HEIGHT: f32 = 8.0;
+const TWO_LINES_HEIGHT: f32 = 14.0;
 /// How far a release stands beside one that waited and starts in the same tick.
 const BESIDE: f32 = 9.0;
-/// The room above the cells for releases and commits, and below them for restarts.
+/// The room above the cells for releases and commits, and below them for lost attempts.
 const ABOVE: f32 = 15.0;
 const BELOW: f32 = 8.0;
 const SERIES_HEIGHT: f32 = 14.0;
@@ -81,8 +84,21 @@ impl Band<'_> {
         let runs = |done: &Done| done.task == task;
         if self.recorded().any(|(_, tick)| tick.done.as_ref().is_some_and(runs)) {
             CELL_HEIGHT
+        } else if self.totals(task).is_some() {
+            TWO_LINES_HEIGHT
         } else {
             EMPTY_HEIGHT
+        }
+    }
+
+    /// How many attempts and releases of the task are lost and dropped in the whole run, if any.
+    fn totals(&self, task: usize) -> Option<String> {
+        let Counts { lost, dropped, .. } = self.recording.counts[task];
+        match (lost, dropped) {
+            (0, 0) => None,
+            (_, 0) => Some(format!("lost {lost} in all")),
+            (0, _) => Some(format!("dropped {dropped} in all")),
+            _ => Some(format!("lost {lost}, dropped {dropped} in all")),
         }
     }
 
@@ -146,15 +162,15 @@ impl Band<'_> {
         }
     }
 
-    /// The task's name, and below it how many of its releases are dropped in the whole run.
+    /// The task's name, and its totals below it.
     fn draw_name(&self, svg: &mut Svg, task: usize, middle: f32) {
         // The name is in bold, so it takes more room than its width says.
         let name = shortened(&self.names.of(Subject::Task(task)), LEFT - 24.0);
-        match self.recording.dropped[task] {
-            0 => svg.text("task", 4.0, middle + 3.0, &name),
-            dropped => {
+        match self.totals(task) {
+            None => svg.text("task", 4.0, middle + 3.0, &name),
+            Some(totals) => {
                 svg.text("task", 4.0, middle - 2.0, &name);
-                svg.text("margin", 4.0, middle + 8.0, &format!("{dropped} dropped in all"));
+                svg.fitted_text("margin", 4.0, middle + 8.0, LEFT - 8.0, &totals);
             }
         }
     }
@@ -174,8 +190,8 @@ impl Band<'_> {
         if let Some(answer) = done.commit {
             marks::commit(svg, self.middle(tick), top - 1.0, answer);
         }
-        if done.restarts {
-            marks::restart(svg, x + CELL_WIDTH, top + CELL_HEIGHT);
+        if done.lost.is_some() {
+            marks::attempt_lost(svg, x + CELL_WIDTH, top + CELL_HEIGHT);
         }
         if done.ends_job {
             marks::job_end(svg, x + CELL_WIDTH, top, CELL_HEIGHT);

@@ -29,7 +29,10 @@ const SIGNS: [(Sign, &str); 10] = [
     ),
     (|svg, x, y| marks::commit(svg, x, y + 6.0, true), "Commit turns status 0 into 2: yes"),
     (|svg, x, y| marks::commit(svg, x, y + 6.0, false), "Commit finds status 1: no"),
-    (|svg, x, y| marks::restart(svg, x + 6.0, y - 4.0), "the transaction restarts"),
+    (
+        |svg, x, y| marks::attempt_lost(svg, x + 6.0, y - 4.0),
+        "an attempt is lost: the transaction restarts",
+    ),
     (|svg, x, y| marks::job_end(svg, x + 1.3, y - 4.0, 8.0), "the job ends"),
     (marks::change, "a current value changes"),
 ];

@@ -36,8 +36,8 @@ pub fn commit(svg: &mut Svg, x: f32, y: f32, answer: bool) {
     svg.circle(if answer { "yes" } else { "no" }, x, y - 6.0, 3.2);
 }
 
-/// An arrow back, below the cell whose right edge is at x.
-pub fn restart(svg: &mut Svg, x: f32, y: f32) {
+/// An arrow back, below the cell whose right edge is at x: the transaction restarts.
+pub fn attempt_lost(svg: &mut Svg, x: f32, y: f32) {
     svg.line("back", (x - 8.0, y + 4.5), (x, y + 4.5));
     svg.line("back", (x, y), (x, y + 5.0));
     svg.polygon("back-head", &[(x - 7.0, y + 1.5), (x - 7.0, y + 7.5), (x - 13.0, y + 4.5)]);

@@ -1,7 +1,7 @@
 //! What happened in each tick of a run, recorded for the chart.
 
-use simulator::machine::Machine;
-use simulator::observer::{Event, Fate, NoObserver, Observer, Statement};
+use simulator::machine::{Counts, Machine};
+use simulator::observer::{Cause, Event, Fate, NoObserver, Observer, Statement};
 use simulator::sheet::{Block, Sheet};
 use simulator::transaction::{bank_word, store_of, version_of};
 use simulator::TOP_LIMIT;
@@ -23,8 +23,8 @@ pub struct Done {
     pub subject: Option<Subject>,
     /// What Commit answered, if this was one.
     pub commit: Option<bool>,
-    /// The transaction goes back to the command after BEGIN.
-    pub restarts: bool,
+    /// Why an attempt is lost, if one is: the transaction goes back to the command after BEGIN.
+    pub lost: Option<Cause>,
     pub ends_job: bool,
 }
 
@@ -56,9 +56,9 @@ pub struct Recording {
     pub first: u32,
     pub before: Contents,
     pub ticks: Vec<Tick>,
-    /// The ticks of the whole run with limit 65,535, and for each task the releases dropped in it.
+    /// The ticks of the whole run with limit 65,535, and each task's counts of it.
     pub run_ticks: u32,
-    pub dropped: Vec<u32>,
+    pub counts: Vec<Counts>,
 }
 
 impl Recording {
@@ -77,8 +77,8 @@ impl Recording {
         }
         machine.run(limit, &mut NoObserver);
         let tasks = sheet.bodies.len();
-        let dropped = machine.counts[..tasks].iter().map(|counts| counts.dropped).collect();
-        Recording { tasks, first, before, ticks, run_ticks: machine.tick, dropped }
+        let counts = machine.counts[..tasks].to_vec();
+        Recording { tasks, first, before, ticks, run_ticks: machine.tick, counts }
     }
 }
 
@@ -96,11 +96,11 @@ fn record_tick(machine: &mut Machine, tick: u32) -> Option<Tick> {
         statement,
         subject: standings[task].subject(statement),
         commit: observed.commit,
-        restarts: observed.restarts,
+        lost: observed.lost,
         ends_job: machine.unfinished & 1 << task == 0,
     });
     let ran = |task: usize| done.as_ref().is_some_and(|done| done.task == task);
-    // Only the task that ran can have lost its job in this tick.
+    // Only the task that ran can have ended its job in this tick.
     let has_job = |task: &usize| machine.unfinished & 1 << task != 0;
     let preempted = (0..tasks).filter(|task| has_job(task) && !ran(*task)).collect();
     Some(Tick { done, releases: observed.releases, preempted, after: contents(machine) })
@@ -123,7 +123,7 @@ fn contents(machine: &Machine) -> Contents {
 struct Observed {
     statement: Option<(usize, Statement)>,
     commit: Option<bool>,
-    restarts: bool,
+    lost: Option<Cause>,
     releases: Vec<(usize, Fate)>,
 }
 
@@ -136,7 +136,7 @@ impl Observer for Observed {
         match event {
             Event::ExchangeCommits { answer } => self.commit = Some(answer),
             Event::CommitsNothing => self.commit = Some(true),
-            Event::Restarts => self.restarts = true,
+            Event::AttemptLost { cause } => self.lost = Some(cause),
             _ => {}
         }
     }

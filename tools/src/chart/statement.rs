@@ -10,7 +10,7 @@ pub enum Kind {
     Prepare,
     Values,
     WriteWord,
-    EndAttempt,
+    Fails,
     Commit,
     /// An Install or Clean that found another word than its own, and so wrote nothing.
     WriteNothing,
@@ -23,7 +23,7 @@ impl Kind {
         Kind::Prepare,
         Kind::Values,
         Kind::WriteWord,
-        Kind::EndAttempt,
+        Kind::Fails,
         Kind::Commit,
         Kind::WriteNothing,
     ];
@@ -36,7 +36,7 @@ impl Kind {
             Kind::Prepare => "prepare",
             Kind::Values => "values",
             Kind::WriteWord => "write-word",
-            Kind::EndAttempt => "end-attempt",
+            Kind::Fails => "fails",
             Kind::Commit => "commit",
             Kind::WriteNothing => "write-nothing",
         }
@@ -49,7 +49,7 @@ impl Kind {
             Kind::Prepare => "#e6c84a",
             Kind::Values => "#86b35f",
             Kind::WriteWord => "#d4681f",
-            Kind::EndAttempt => "#a51c30",
+            Kind::Fails => "#a51c30",
             Kind::Commit => "#1b2440",
         }
     }
@@ -61,7 +61,7 @@ impl Kind {
             Kind::Prepare => "prepare an exchange: gather, Start, Test, Save",
             Kind::Values => "block values: fetch (GET), copy and write (PUT)",
             Kind::WriteWord => "write a word: Install, Clean",
-            Kind::EndAttempt => "end an attempt: Fail, Mark; spent",
+            Kind::Fails => "an exchange fails: Fail, Mark; spent",
             Kind::Commit => "Commit; COMMIT with nothing touched",
             Kind::WriteNothing => "Install or Clean that finds another word",
         }
@@ -69,7 +69,7 @@ impl Kind {
 
     /// Is the cell so dark that its word must be light?
     pub fn is_dark(self) -> bool {
-        matches!(self, Kind::EndAttempt | Kind::Commit)
+        matches!(self, Kind::Fails | Kind::Commit)
     }
 }
 
@@ -107,9 +107,9 @@ fn shown(statement: Statement) -> (&'static str, Kind) {
         Statement::ExchangeStart => ("Start", Kind::Prepare),
         Statement::ExchangeTest => ("Test", Kind::Prepare),
         Statement::ExchangeSave => ("Save", Kind::Prepare),
-        Statement::FailAfterSave | Statement::FailAfterInstall => ("Fail", Kind::EndAttempt),
-        Statement::Mark | Statement::CleanMark => ("Mark", Kind::EndAttempt),
-        Statement::CommitSpent => ("spent", Kind::EndAttempt),
+        Statement::FailAfterSave | Statement::FailAfterInstall => ("Fail", Kind::Fails),
+        Statement::Mark | Statement::CleanMark => ("Mark", Kind::Fails),
+        Statement::CommitSpent => ("spent", Kind::Fails),
         Statement::InstallDone => ("Install", Kind::WriteWord),
         Statement::CleanAsNew | Statement::CleanBackToInit => ("Clean", Kind::WriteWord),
         Statement::InstallNotDone => ("Install", Kind::WriteNothing),

@@ -17,7 +17,7 @@ text { font-family: Helvetica, Arial, 'Liberation Sans', 'DejaVu Sans', sans-ser
 .grid { stroke: #ccc; stroke-width: 0.7; }
 .row-line { stroke: #bbb; stroke-width: 0.7; }
 .idle { fill: #ececec; }
-.plain, .read, .prepare, .values, .write-word, .end-attempt, .commit { stroke: #333; stroke-width: 0.6; }
+.plain, .read, .prepare, .values, .write-word, .fails, .commit { stroke: #333; stroke-width: 0.6; }
 .write-nothing { stroke: #c2410c; stroke-width: 1.6; stroke-dasharray: 3 2; }
 .arrow { stroke: #000; stroke-width: 1; fill: #000; }
 .dropped { stroke: #888; fill: #888; }
