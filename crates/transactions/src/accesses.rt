@@ -1,4 +1,4 @@
-// GET and PUT with all their ticks, by what the block is so far, and the attempt lost to a stale version.
+// GET and PUT with all their ticks, by what the block is so far, and what a lost attempt leaves.
 ghost use mathlib.Core.Path.{_≡_};
 ghost use Rattle.state.specs.State.{shared, own};
 ghost use Rattle.exchanges.specs.Places.{went, noted, left};
