@@ -37,11 +37,7 @@ lose-attempt-requires c κs = search needs
 
 returns-3 : tie.Need-returns-3
 unfolding committedBy
-returns-3 c = rw (
-  c .before .before .before .before .exchanged2 .given .1,
-  c .before .before .if1 .left,
-  ← c .lose-attempt .ensures,
-)
+returns-3 c = rw (c .before .before .before .before .exchanged2 .given .1, c .before .before .if1 .left) (c .lose-attempt .ensures)
 
 enum-known-exchanged-3 : tie.Need-enum-known-exchanged-3
 enum-known-exchanged-3 c = search needs
