@@ -39,8 +39,8 @@ finished = 0
 abbrev pub spent : ℕ
 spent = 1
 
-abbrev pub rejected : ℕ
-rejected = 2
+abbrev pub lost : ℕ
+lost = 2
 
 abbrev pub ticks : ℕ
 ticks = 3

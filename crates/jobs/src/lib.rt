@@ -86,7 +86,7 @@ pub const FINISHED: u8 = 0;
 
 pub const SPENT: u8 = 1;
 
-pub const REJECTED: u8 = 2;
+pub const LOST: u8 = 2;
 
 pub const TICKS: u8 = 3;
 

@@ -22,9 +22,10 @@ use Rattle.state.specs.State.{Shared, Own, withRegisters, setValue}
 use Rattle.state.specs.Held.{memoryOf}
 use Rattle.exchanges.specs.Places.{if, nextOf, Left, left}
 use Rattle.exchanges.specs.Reading.{afterReading}
+use Rattle.jobs.specs.Jobs.{lost}
 use Rattle.transactions.specs.Blocks.{bankOf, namedBlock, touchedAt, rememberedAt}
 use Rattle.transactions.specs.Accesses.{goesOn, firstRead, storeFor, gotBy, copyBy, afterCopy, afterPut}
-use Rattle.transactions.specs.Accesses.{onTask, onMemory, accessTick, restarted, checkedBy, againRead}
+use Rattle.transactions.specs.Accesses.{onTask, onMemory, accessTick, losesAttempt, checkedBy, againRead}
 use Rattle.machine.specs.Flat.{closed}
 use Rattle.program.specs.Program.{commandsIn}
 use Rattle.exchanges.specs.declared.read.Reading.the-variants.{Load}
@@ -40,7 +41,7 @@ use Rattle.state.proofs.Held.{rows-at}
 use Rattle.refinement.proofs.Memory.{rows-written}
 use Rattle.refinement.proofs.Reading.{read-tick}
 use Rattle.refinement.proofs.Blocks.{at-blocks, blocks-written, blocks-touched, value-remembered}
-use Rattle.refinement.proofs.Copied.{restored-all, cleared-blocks, restoring-sized, clearing-sized}
+use Rattle.refinement.proofs.Lost.{lost-refines}
 
 -- the task in a transaction, at command j
 abbrev pub inside : List BodyCommand → ℕ → List C.BodyCommand → Job → Own → J.Inner → J.Task
@@ -201,25 +202,15 @@ module _ (program : List BodyCommand) (size : length program ≡ 512) (end : ℕ
 
   -- THE SECOND READING
   abbrev Checks : Access → ℕ → Bool → Type 0
-  Checks c v b = Goal (onTask m (if b (checkedBy t j c v) (restarted t j))) (T.checkBy b (memoryOf m) z x (viewAccess c) v)
-
-  restarts : (c : Access) (v : ℕ) → Checks c v false
-  unfolding T.checkBy restarted
-  restarts c v =
-      record {
-        same = rw (restored-all t own, cleared-blocks t own);
-        sharedSized = shared;
-        ownSized = clearing-sized _ (restoring-sized t own 8) 16;
-        shape = record { inBody = begun; begun = begun };
-      }
+  Checks c v b = Goal (onTask m (if b (checkedBy t j c v) (losesAttempt t j))) (T.checkBy b (memoryOf m) z x (viewAccess c) v)
 
   check-by : (c : Access) → AccessFits c → touched? (T.touchedOf x (namedBlock c)) ≡ true → (put? (viewAccess c) ≡ true → j .used < 4)
-      → (v : ℕ) (b : Bool) → Checks c v b
+      → at 0 (t .counts) lost < 4294967295 → (v : ℕ) (b : Bool) → Checks c v b
   unfolding T.checkBy checkedBy
-  check-by c f g u v false = restarts c v
-  check-by (Get r b o) f g u v true =
+  check-by c f g u few v false = lost-refines program end body m t j (z .job) shared own begun few
+  check-by (Get r b o) f g u few v true =
       goes-on m shared (replace (t .registers) r v) (length-replace (t .registers) r v ∙ own .registers)
-  check-by (Put b o r) f g u v true =
+  check-by (Put b o r) f g u few v true =
       let room = u refl in
       let slot : j .used + 2 ≡ suc (suc (j .used)) = omega arith in
       let more : nextOf (j .used) ≡ suc (j .used) = omega arith in
@@ -239,9 +230,9 @@ module _ (program : List BodyCommand) (size : length program ≡ 512) (end : ℕ
       }
 
   pub again-read : (c : Access) → AccessFits c → touched? (T.touchedOf x (namedBlock c)) ≡ true
-      → (put? (viewAccess c) ≡ true → j .used < 4) → (v : ℕ) (o : Read)
+      → (put? (viewAccess c) ≡ true → j .used < 4) → at 0 (t .counts) lost < 4294967295 → (v : ℕ) (o : Read)
       → Goal (onTask m (againRead t j c v o)) (T.againRead (memoryOf m) z x (viewAccess c) v (readOf o))
   unfolding T.againRead againRead
-  again-read c f g u v (Reads r) = record { same = refl; sharedSized = shared; ownSized = own; shape = here _ refl refl }
-  again-read c f g u v (Gives o) =
-      rw (named-block c, value-at (namedBlock c) (f .block) g) (check-by c f g u v (eqb (o / 256) (rememberedAt t (namedBlock c) / 256)))
+  again-read c f g u few v (Reads r) = record { same = refl; sharedSized = shared; ownSized = own; shape = here _ refl refl }
+  again-read c f g u few v (Gives o) =
+      rw (named-block c, value-at (namedBlock c) (f .block) g) (check-by c f g u few v (eqb (o / 256) (rememberedAt t (namedBlock c) / 256)))

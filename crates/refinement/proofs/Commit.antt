@@ -18,9 +18,8 @@ use Rattle.commands.specs.declared.BodyCommand.{BodyCommand}
 use Rattle.state.specs.State.{Shared, Own}
 use Rattle.state.specs.Held.{memoryOf}
 use Rattle.exchanges.specs.Places.{if, Noted, noted}
-use Rattle.jobs.specs.Jobs.{jobAt, spent, rejected, counted, afterDone}
+use Rattle.jobs.specs.Jobs.{jobAt, spent, counted, afterDone}
 use Rattle.transactions.specs.Blocks.{touchedAt, rememberedAt, untouchedFrom, isSpent, spentFrom, gathering, gatheredTo, takingBack}
-use Rattle.transactions.specs.Accesses.{restarted}
 use Rattle.transactions.specs.Commits.{exchangeOf, commitBy, committedBy}
 use Rattle.machine.specs.Flat.{closed}
 use Rattle.exchanges.specs.declared.exchange.Exchanged.{Exchanged}
@@ -31,7 +30,6 @@ use Rattle.refinement.proofs.View.{entriesOf, blocksOf, transactionOf}
 use Rattle.state.specs.Sized.{SharedSized, OwnSized}
 use Rattle.refinement.proofs.Shape.{leaves, Refines}
 use Rattle.refinement.proofs.Sized.{entriesSized, copies-sized, entries-sized, counted-sized}
-use Rattle.refinement.proofs.Copied.{restored-all, cleared-blocks, restoring-sized, clearing-sized}
 use Rattle.refinement.proofs.Counted.{counted-counts}
 use Rattle.refinement.proofs.Entered.{no-pairs, none-unloaded}
 use Rattle.refinement.proofs.Blocks.{nothing-touched, some-spent}
@@ -39,6 +37,7 @@ use Rattle.refinement.proofs.Gather.{taken-all, taken-size, gathered-sa
 use Rattle.refinement.proofs.Done.{done-refines}
 use Rattle.refinement.proofs.Exchange.{exchangedOf}
 use Rattle.refinement.proofs.ExchangeKept.{loading, loading-sized}
+use Rattle.refinement.proofs.Lost.{lost-refines}
 use Rattle.refinement.proofs.Access.{inside}
 
 -- what is known of the task's blocks and copy slots
@@ -121,7 +120,7 @@ module _ (program : List BodyCommand) (size : length program ≡ 512) (end : ℕ
   pub committed-by : (v : X.Exchange) (m : Shared) (l o : List ℕ) → SharedSized m → length l ≡ 8 → length o ≡ 8 → (c : Exchanged)
       → Goal m (committedBy (loading t l o) j c)
       (T.committingBy z x v (exchangedOf (memoryOf m) (entriesOf (j .pairs) (loading t l o .entries)) (j .value) c))
-  unfolding T.committingBy committedBy restarted counted
+  unfolding T.committingBy committedBy
   committed-by v m l o s a b (Goes y) =
       record { same = refl; sharedSized = s; ownSized = loading-sized own l o a b; shape = record { inBody = omega arith; begun = begun } }
   committed-by v m l o s a b (Finds y) =
@@ -132,14 +131,4 @@ module _ (program : List BodyCommand) (size : length program ≡ 512) (end : ℕ
       (copies-sized (loading-sized own l o a b) _ (taken-size t 16 ∙ own .copies)) _ _ m s (few 0 (omega arith)) (none-unloaded _) []
       (sym (no-pairs (loading t l o .entries))))
   committed-by v m l o s a b (Ends false) =
-      let sized = counted-sized (loading-sized own l o a b) rejected in
-      record {
-        same = rw (
-          restored-all (counted (loading t l o) rejected) sized,
-          cleared-blocks (counted (loading t l o) rejected) sized,
-          counted-counts t (own .counts) J.rejected (few 2 (omega arith)),
-        );
-        sharedSized = s;
-        ownSized = clearing-sized _ (restoring-sized _ sized 8) 16;
-        shape = record { inBody = begun; begun = begun };
-      }
+      lost-refines program end body m (loading t l o) j (z .job) s (loading-sized own l o a b) begun (few 2 (omega arith))

@@ -27,7 +27,7 @@ use Rattle.refinement.proofs.Shape.{JobShape}
 abbrev pub countNumber : J.Count → ℕ
 countNumber J.finished = count.finished
 countNumber J.spent = count.spent
-countNumber J.rejected = count.rejected
+countNumber J.lost = count.lost
 countNumber J.ticks = count.ticks
 countNumber J.dropped = count.dropped
 
@@ -46,7 +46,7 @@ module _ (t : Own) (size : length (t .counts) ≡ 8) where
   pub counted-counts : (c : J.Count) → at 0 (t .counts) (countNumber c) < 4294967295 → countsOf (counted t (countNumber c)) ≡ J.raised c (countsOf t)
   counted-counts J.finished few = rw (same 0 refl few, other 0 1 refl, other 0 2 refl, other 0 3 refl, other 0 4 refl)
   counted-counts J.spent few = rw (other 1 0 refl, same 1 refl few, other 1 2 refl, other 1 3 refl, other 1 4 refl)
-  counted-counts J.rejected few = rw (other 2 0 refl, other 2 1 refl, same 2 refl few, other 2 3 refl, other 2 4 refl)
+  counted-counts J.lost few = rw (other 2 0 refl, other 2 1 refl, same 2 refl few, other 2 3 refl, other 2 4 refl)
   counted-counts J.ticks few = rw (other 3 0 refl, other 3 1 refl, other 3 2 refl, same 3 refl few, other 3 4 refl)
   counted-counts J.dropped few = rw (other 4 0 refl, other 4 1 refl, other 4 2 refl, other 4 3 refl, same 4 refl few)
 

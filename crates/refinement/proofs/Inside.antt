@@ -150,7 +150,7 @@ module _ (program : List BodyCommand) (size : length program ≡ 512) (end : ℕ
       (T.againRead (memoryOf m) (inside program end body j t (innerOf j t (Again c v z))) x (viewAccess c) v o))
       (sym (bank-read c z h))
       (again-read program size end bound body m t (inPhase j (Transaction (Again c v z))) (innerOf j t (Again c v z)) shared own inBody (w .begun) c
-      (record { block = h; offset = g .atWork .offset }) (again-touched c (g .again)) (again-room c (g .again)) v
+      (record { block = h; offset = g .atWork .offset }) (again-touched c (g .again)) (again-room c (g .again)) (few 2 (omega arith)) v
       (afterReading m (bankOf (namedBlock c)) z))
   inside-statement (Committing z) f r w =
       let g = f .inner in

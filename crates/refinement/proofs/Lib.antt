@@ -21,6 +21,7 @@ pub mod Done
 pub mod Answers
 pub mod Plain
 -- transactions
+pub mod Lost
 pub mod Access
 pub mod Gather
 pub mod Commit

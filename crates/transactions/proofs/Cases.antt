@@ -1,4 +1,4 @@
--- Small records worked out by hand: what COMMIT and the answer of its exchange leave of them. Each line is computed.
+-- Small records worked out by hand: what COMMIT, the answer of its exchange and a version read again leave of them. Each line is computed.
 use Prim.Native.Nat.{ℕ}
 use mathlib.Core.Path.{_≡_, refl}
 use mathlib.Core.Bool.{true, false}
@@ -6,10 +6,10 @@ use mathlib.Core.List.{List, [], _∷_}
 use lib.ListN.{replicate}
 use Rattle.model.specs.Lists.{at, replace}
 use Rattle.state.specs.State.{Entries, Blocks, Own}
-use Rattle.exchanges.specs.Places.{noted}
+use Rattle.exchanges.specs.Places.{Noted, noted}
 use Rattle.jobs.specs.Jobs.{job, counted, copied}
 use Rattle.transactions.specs.Blocks.{isSpent, newBank, takenOne, takenTo, zeroed}
-use Rattle.transactions.specs.Accesses.{restarted, checkedBy, againRead}
+use Rattle.transactions.specs.Accesses.{losesAttempt, checkedBy, againRead}
 use Rattle.transactions.specs.Commits.{committedBy}
 use Rattle.commands.specs.declared.Access.the-variants.{Get}
 use Rattle.exchanges.specs.declared.read.Read.the-variants.{Gives}
@@ -42,17 +42,24 @@ takes-back : takenTo blocks 3 (20 ∷ 21 ∷ 22 ∷ 23 ∷ []) ≡ 20 ∷ 9 ∷ 
 unfolding takenTo takenOne at replace
 takes-back = refl
 
--- a yes: the command is done, and no commit was rejected
+-- a yes: the command is done, and no attempt was lost
 says-yes : committedBy (record-of [] (20 ∷ 21 ∷ 22 ∷ 23 ∷ []) blocks (0 ∷ 0 ∷ 0 ∷ 0 ∷ [])) committing (Ends true)
     ≡ noted (job Plain 0 7 7 0 0) (record-of [] (20 ∷ 9 ∷ 22 ∷ 23 ∷ []) blocks (0 ∷ 0 ∷ 0 ∷ 0 ∷ []))
 unfolding committedBy takenTo takenOne at replace
 says-yes = refl
 
--- a no: one more commit was rejected; registers as kept, nothing touched, next the command after BEGIN
-says-no : committedBy (record-of (1 ∷ 2 ∷ 3 ∷ 4 ∷ 5 ∷ 6 ∷ 7 ∷ 8 ∷ []) (20 ∷ []) blocks (0 ∷ 0 ∷ 4 ∷ 0 ∷ [])) committing (Ends false)
-    ≡ noted (job (Transaction Between) 0 3 3 0 0)
+-- an attempt, and the same lost: one more counted, registers as kept, nothing touched, next the command after BEGIN
+abbrev attempt : Own
+attempt = record-of (1 ∷ 2 ∷ 3 ∷ 4 ∷ 5 ∷ 6 ∷ 7 ∷ 8 ∷ []) (20 ∷ []) blocks (0 ∷ 0 ∷ 4 ∷ 0 ∷ [])
+
+abbrev attempt-lost : Noted Job
+attempt-lost =
+    noted (job (Transaction Between) 0 3 3 0 0)
     (record-of (replicate 8 7) (20 ∷ []) (record { touched = 0 ∷ 0 ∷ 0 ∷ []; remembered = 775 ∷ 0 ∷ 1033 ∷ [] }) (0 ∷ 0 ∷ 5 ∷ 0 ∷ []))
-unfolding committedBy restarted counted copied zeroed at replace
+
+-- a no
+says-no : committedBy attempt committing (Ends false) ≡ attempt-lost
+unfolding committedBy losesAttempt counted copied zeroed at replace
 says-no = refl
 
 -- the bank word of a block that was PUT: one version more, in the copy's store; of one that was only read: itself
@@ -78,3 +85,8 @@ again-same : againRead (record-of (1 ∷ 2 ∷ []) [] blocks []) committing (Get
     ≡ noted (job (Transaction Between) 0 7 3 0 1) (record-of (1 ∷ 50 ∷ []) [] blocks [])
 unfolding againRead checkedBy at replace
 again-same = refl
+
+-- another version is stale
+again-stale : againRead attempt committing (Get 1 2 0) 50 (Gives 1300) ≡ attempt-lost
+unfolding againRead losesAttempt counted copied zeroed at replace
+again-stale = refl

@@ -8,7 +8,7 @@ use Rattle.commands.specs.declared.Access.the-variants.{Get, Put}
 use Rattle.state.specs.State.{Shared, Own, setValue, setRegister, setTouched, setRemembered}
 use Rattle.exchanges.specs.Places.{if, nextOf, Went, went, Noted, noted, Left, left}
 use Rattle.exchanges.specs.Reading.{afterReading}
-use Rattle.jobs.specs.Jobs.{job, jobAt, inPhase, nextLine, restoring}
+use Rattle.jobs.specs.Jobs.{job, jobAt, inPhase, nextLine, lost, counted, restoring}
 use Rattle.transactions.specs.Blocks.{bankOf, namedBlock, touchedAt, rememberedAt, clearing}
 use Rattle.exchanges.specs.declared.read.Reading.the-variants.{Load}
 use Rattle.exchanges.specs.declared.read.Read.{Read}
@@ -66,9 +66,9 @@ accessTick m t j a =
     if (eqb (touchedAt t (namedBlock a)) 0) (onTask m (firstRead t j a (afterReading m (bankOf (namedBlock a)) Load)))
     (touchedTick (eqb (touchedAt t (namedBlock a)) 1) m t j a)
 
--- registers as kept, nothing touched, next the command after BEGIN
-unfoldable pub restarted : Own → Job → Noted Job
-restarted t j = noted (jobAt (Transaction Between) (j .begin) 0) (clearing 16 (restoring 8 t))
+-- an attempt is lost and counted: registers as kept, nothing touched, next the command after BEGIN
+unfoldable pub losesAttempt : Own → Job → Noted Job
+losesAttempt t j = noted (jobAt (Transaction Between) (j .begin) 0) (clearing 16 (restoring 8 (counted t lost)))
 
 -- the version read again is the remembered one
 unfoldable pub checkedBy : Own → Job → Access → ℕ → Noted Job
@@ -78,4 +78,4 @@ checkedBy t j (Put b o r) v =
 
 unfoldable pub againRead : Own → Job → Access → ℕ → Read → Noted Job
 againRead t j a v (Reads s) = noted (inner j (Again a v s)) t
-againRead t j a v (Gives w) = if (eqb (w / 256) (rememberedAt t (namedBlock a) / 256)) (checkedBy t j a v) (restarted t j)
+againRead t j a v (Gives w) = if (eqb (w / 256) (rememberedAt t (namedBlock a) / 256)) (checkedBy t j a v) (losesAttempt t j)

@@ -3,9 +3,9 @@ use Prim.Native.Nat.{ℕ}
 use mathlib.Core.Bool.{true, false}
 use Rattle.state.specs.State.{Own, withEntries}
 use Rattle.exchanges.specs.Places.{if, Noted, noted}
-use Rattle.jobs.specs.Jobs.{job, jobAt, withValue, spent, rejected, counted, afterDone}
+use Rattle.jobs.specs.Jobs.{job, jobAt, withValue, spent, counted, afterDone}
 use Rattle.transactions.specs.Blocks.{untouchedFrom, spentFrom, Gathering, gathering, gatheredTo, takingBack}
-use Rattle.transactions.specs.Accesses.{inner, restarted}
+use Rattle.transactions.specs.Accesses.{inner, losesAttempt}
 use Rattle.exchanges.specs.declared.exchange.Step.the-variants.{Start, Save}
 use Rattle.exchanges.specs.declared.exchange.Exchanged.{Exchanged}
 use Rattle.exchanges.specs.declared.exchange.Exchanged.the-variants.{Goes, Finds, Ends}
@@ -31,4 +31,4 @@ unfoldable pub committedBy : Own → Job → Exchanged → Noted Job
 committedBy t j (Goes s) = noted (inner j (Committing s)) t
 committedBy t j (Finds f) = noted (withValue j (Transaction (Committing (Save (f .i)))) (f .value)) t
 committedBy t j (Ends true) = noted (afterDone j 0) (takingBack 16 t)
-committedBy t j (Ends false) = restarted (counted t rejected) j
+committedBy t j (Ends false) = losesAttempt t j

@@ -1,10 +1,10 @@
-// GET and PUT with all their ticks, by what the block is so far, and the stale restart.
+// GET and PUT with all their ticks, by what the block is so far, and what a lost attempt leaves.
 ghost use mathlib.Core.Path.{_≡_};
 ghost use Rattle.state.specs.State.{shared, own};
 ghost use Rattle.exchanges.specs.Places.{went, noted, left};
 ghost use Rattle.jobs.specs.Jobs.{inPhase};
 ghost use Rattle.transactions.specs.Blocks.{bankOf, namedBlock, clearing};
-ghost use Rattle.transactions.specs.Accesses.{goesOn, firstRead, storeFor, gotBy, afterCopy, afterPut, accessTick, restarted, checkedBy, againRead};
+ghost use Rattle.transactions.specs.Accesses.{goesOn, firstRead, storeFor, gotBy, afterCopy, afterPut, accessTick, losesAttempt, checkedBy, againRead};
 use commands::Access;
 use commands::ceilings::SheetCeilings;
 use exchanges::places;
@@ -169,10 +169,11 @@ pub fn access(memory: &mut Memory, task: &mut Task, job: Job, access: Access) ->
     }
 }
 
-// Registers as kept, nothing touched, next the command after BEGIN.
-pub fn restart(task: &mut Task, job: Job) -> Job
-    ensures { λ r. ⌜ noted r (own (now (task .exit))) ≡ restarted (own (now (task .entry))) job ⌝ }
+// An attempt is lost and counted: registers as kept, nothing touched, next the command after BEGIN.
+pub fn lose_attempt(task: &mut Task, job: Job) -> Job
+    ensures { λ r. ⌜ noted r (own (now (task .exit))) ≡ losesAttempt (own (now (task .entry))) job ⌝ }
 {
+    jobs::count(&mut *task, jobs::LOST);
     jobs::restore(&mut *task);
     clear(&mut *task);
     jobs::job_at(Phase::Transaction(Inner::Between), job.begin, 0)
@@ -220,7 +221,7 @@ pub fn again_read(task: &mut Task, job: Job, access: Access, value: u32, read: R
             if bank / 256 == task::remembered(&*task, block(access)) / 256 {
                 return check(&mut *task, job, access, value);
             }
-            return restart(&mut *task, job);
+            return lose_attempt(&mut *task, job);
         }
     }
 }

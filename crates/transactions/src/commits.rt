@@ -1,4 +1,4 @@
-// COMMIT: spent, the touched bank words gathered, and what its exchange's answer leaves: old stores taken back, or a restart.
+// COMMIT: spent, the touched bank words gathered, and what its exchange's answer leaves: old stores taken back, or a lost attempt.
 ghost use mathlib.Core.Path.{_≡_};
 ghost use Prim.Native.Nat.{_<_};
 ghost use Rattle.state.specs.State.{own, withEntries};
@@ -153,8 +153,7 @@ pub fn committed_by(task: &mut Task, job: Job, exchanged: Exchanged) -> Job
                 take_back(&mut *task);
                 return jobs::done(job, 0);
             }
-            jobs::count(&mut *task, jobs::REJECTED);
-            return accesses::restart(&mut *task, job);
+            return accesses::lose_attempt(&mut *task, job);
         }
         Exchanged::Finds(found) => {
             return jobs::with_value(

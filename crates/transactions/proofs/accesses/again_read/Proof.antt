@@ -37,8 +37,8 @@ returns-2 c = rw (
 )
     (c .check .ensures ∙ when-equal _ _ _ _ (c .before .before .if1 .taken))
 
-restart-requires : tie.Need-restart-requires
-restart-requires c κs = search needs
+lose-attempt-requires : tie.Need-lose-attempt-requires
+lose-attempt-requires c κs = search needs
 
 returns-3 : tie.Need-returns-3
 unfolding againRead
@@ -47,9 +47,9 @@ returns-3 c = rw (
   ← c .before .before .before .before .block .ensures,
   ← c .before .before .before .remembered .ensures,
 )
-    (c .restart .ensures ∙ when-not _ _ _ _ (c .before .before .if1 .left))
+    (c .lose-attempt .ensures ∙ when-not _ _ _ _ (c .before .before .if1 .left))
 
 pub again-read-spec : {M : Type 1} → statement M
 again-read-spec = tie.close
     (tie.spec enum-known-read inner-requires returns enum-known-read-2 block-requires remembered-requires check-requires returns-2
-    restart-requires returns-3)
+    lose-attempt-requires returns-3)

@@ -32,20 +32,12 @@ returns-2 c = rw (
   c .before .take-back .ensures,
 )
 
-count-requires : tie.Need-count-requires
-count-requires c κs = search needs
-
-restart-requires : tie.Need-restart-requires
-restart-requires c κs = search needs
+lose-attempt-requires : tie.Need-lose-attempt-requires
+lose-attempt-requires c κs = search needs
 
 returns-3 : tie.Need-returns-3
 unfolding committedBy
-returns-3 c = rw (
-  c .before .before .before .before .before .before .exchanged2 .given .1,
-  c .before .before .before .before .if1 .left,
-  ← c .before .before .count .ensures,
-  ← c .restart .ensures,
-)
+returns-3 c = rw (c .before .before .before .before .exchanged2 .given .1, c .before .before .if1 .left) (c .lose-attempt .ensures)
 
 enum-known-exchanged-3 : tie.Need-enum-known-exchanged-3
 enum-known-exchanged-3 c = search needs
@@ -59,5 +51,5 @@ returns-4 c = rw (c .before .before .exchanged3 .given .1, ← c .with-value .en
 
 pub committed-by-spec : {M : Type 1} → statement M
 committed-by-spec = tie.close
-    (tie.spec enum-known-exchanged inner-requires returns enum-known-exchanged-2 take-back-requires done-requires returns-2 count-requires
-    restart-requires returns-3 enum-known-exchanged-3 with-value-requires returns-4)
+    (tie.spec enum-known-exchanged inner-requires returns enum-known-exchanged-2 take-back-requires done-requires returns-2 lose-attempt-requires
+    returns-3 enum-known-exchanged-3 with-value-requires returns-4)
