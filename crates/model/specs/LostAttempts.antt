@@ -27,7 +27,7 @@ lostOf p [] = 0
 lostOf p (o ∷ l) = lostBy p o + lostOf p l
 
 -- A TRANSACTION RESTARTS
--- in a transaction that has touched a block, and in one that has touched none
+-- a task is in a transaction that has touched a block, or in one that has touched none
 abbrev pub touchedSome : Phase → Bool
 touchedSome idle = false
 touchedSome plain = false
@@ -45,7 +45,7 @@ touchedNone (transacting x s) = nothing? (x .blocks)
 abbrev pub phaseAt : Machine → ℕ → Phase
 phaseAt m p = taskAt (m .tasks) p .job .phase
 
--- that of task p does in tick u: all that it had touched is forgotten
+-- that of task p does in tick u: before the statement it had touched a block, and after it is in one that has touched none
 abbrev pub restarts : Machine → ℕ → ℕ → Bool
 restarts m p u = touchedSome (phaseAt (inTick m u) p) && touchedNone (phaseAt (run (suc u) m) p)
 
