@@ -20,6 +20,7 @@ pub mod Statement
 -- the history's side: one operation begun or amended a tick, the open operations of the tasks
 pub mod Noted
 pub mod Linked
+pub mod Notes
 pub mod Ticks
 pub mod Began
 -- the start of a run, what settles an operation, and the theorem

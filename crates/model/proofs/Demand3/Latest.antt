@@ -4,16 +4,13 @@ use mathlib.Core.Bool.{Bool}
 use mathlib.Core.Path.{_≡_}
 use mathlib.Core.Option.{Option, none, some}
 use lib.ListN.{length}
-use Rattle.model.specs.History.{Operation, History, operationAt, nothing, begins, amends, eventOf, noted}
-use Rattle.model.specs.Job.{Deed}
+use Rattle.model.specs.History.{Operation, History, operationAt, Event, nothing, begins, amends, noted}
 use Rattle.model.specs.Arguments.{Arguments, readOf}
 use Rattle.model.proofs.Transactions.Pass.{operationAfter}
-use Rattle.model.proofs.History.Moves.{Settling, Moves, staysOutside, begun, goesOn, gets, loses, readEnds}
-use Rattle.model.proofs.History.Moves.{swapCommits, swapEnds, swapCommitsAndEnds, swapRejected, transactionCommits}
-use Rattle.model.proofs.History.Moves.{transactionEnds, transactionCommitsAndEnds, nothingTouched, endsSpent}
 use Rattle.model.proofs.History.Noted.{latestOf, newOperation, noted-nothing, latest-nothing}
 use Rattle.model.proofs.History.Noted.{noted-begins, latest-begins, noted-amends, latest-amends}
-use Rattle.model.proofs.History.Linked.{Open, OpenBy}
+use Rattle.model.proofs.History.Notes.{Notes, notesNothing, notesBegun, staysOpen, ends}
+use Rattle.model.proofs.History.Linked.{Open}
 
 -- a task without operations has none that anything is said of
 abbrev pub operationOr : Option Operation → Operation
@@ -34,21 +31,9 @@ module _ (u p : ℕ) (h : History) (size : length (h .began) ≡ u) (below : p <
       → latestOperation (noted u p (amends f) h) p ≡ f (latestOperation h p)
   after-amends o f = rw (latest-amends u p h size f p, noted-amends u p h size f (o .is) .here, o .is)
 
-  pub latest-after : {g g′ : Option Arguments} {b b′ : Bool} {d : Deed} {s : Settling} → Moves g b d s g′ b′ → OpenBy h p g b
-      → latestOperation (noted u p (eventOf u d) h) p ≡ operationAfter p (eventOf u d) (latestOperation h p)
-  unfolding eventOf
-  latest-after staysOutside o = after-nothing
-  latest-after (begun {a = a}) o = after-begins a
-  latest-after goesOn o = after-nothing
-  latest-after (gets v) o = after-amends o _
-  latest-after loses o = after-amends o _
-  latest-after (readEnds v) o = after-amends o _
-  latest-after swapCommits o = after-amends o _
-  latest-after swapEnds o = after-amends o _
-  latest-after swapCommitsAndEnds o = after-amends o _
-  latest-after swapRejected o = after-amends o _
-  latest-after transactionCommits o = after-amends o _
-  latest-after transactionEnds o = after-amends o _
-  latest-after transactionCommitsAndEnds o = after-amends o _
-  latest-after nothingTouched o = after-amends o _
-  latest-after endsSpent o = after-amends o _
+  pub latest-after : {g g′ : Option Arguments} {e : Event} {l : Bool} → Notes u p h g e l g′
+      → latestOperation (noted u p e h) p ≡ operationAfter p e (latestOperation h p)
+  latest-after notesNothing = after-nothing
+  latest-after (notesBegun a) = after-begins a
+  latest-after (staysOpen o f k n) = after-amends o f
+  latest-after (ends o f k n) = after-amends o f

@@ -31,6 +31,7 @@ use Rattle.model.proofs.Transactions.Machine.{RunningTask}
 use Rattle.model.proofs.Fit.Running.{Foremost}
 use Rattle.model.proofs.History.Arrive.{JobArrived, TaskArrived, sameJob, newJob, Arrived}
 use Rattle.model.proofs.History.Statement.{moves}
+use Rattle.model.proofs.History.Notes.{notes}
 use Rattle.model.proofs.History.Moves.{given}
 use Rattle.model.proofs.History.Noted.{latestOf}
 use Rattle.model.proofs.History.Linked.{InOperation, givenTo}
@@ -150,7 +151,7 @@ module _ {s : Sheet} (c : SheetFit s) {values : ℕ → ℕ → ℕ} {m : Machin
   later = record {
     mine = λ x i e.
         latest-after (m .now) p h (linked .linked .size) (omega (arith, linked .linked .latest, linked .size, r .below))
-        (moves p (m .memory) (taskAt (m .tasks) p) (taskAt (m .tasks) p .job .phase) refl) (linked .linked .opened p);
+        (notes (m .now) p h (moves p (m .memory) (taskAt (m .tasks) p) (taskAt (m .tasks) p .job .phase) refl) (linked .linked .opened p));
     others = λ q ne x i e.
         ap operationOr (other-operation r (linked .linked) (statementOf p (m .memory) (m .tasks) .task) (next-of linked p r) q ne (rw e tt));
   }

@@ -1,6 +1,6 @@
 -- What is noted of a statement: its task's operations have lost one attempt more just where the statement lost one.
 use Prim.Native.Nat.{ℕ, zero, suc, _+_, _<_}
-use mathlib.Core.Path.{_≡_, refl, _∙_, ap}
+use mathlib.Core.Path.{_≡_, refl, sym, _∙_, ap}
 use mathlib.Core.Bool.{Bool, true, false}
 use mathlib.Core.List.{List, [], _∷_, _++_}
 use mathlib.Core.Option.{Option, none, some}
@@ -8,17 +8,13 @@ use native.Mathlib.Omega.{arith}
 use lib.Dec.{eqb}
 use lib.ListN.{length, length-append}
 use Rattle.model.specs.Lists.{at, replace}
-use Rattle.model.specs.Job.{Deed}
 use Rattle.model.specs.Arguments.{Arguments}
-use Rattle.model.specs.History.{Operation, History, nothing, begins, amends, losing, eventOf, noted}
+use Rattle.model.specs.History.{Operation, History, Event, nothing, begins, amends, noted}
 use Rattle.model.specs.Rates.{oneIf, onlyIf}
-use Rattle.model.specs.LostAttempts.{lostBy, lostOf}
-use Rattle.model.proofs.History.Moves.{Settling, Moves, staysOutside, begun, goesOn, gets, loses, readEnds}
-use Rattle.model.proofs.History.Moves.{swapCommits, swapEnds, swapCommitsAndEnds, swapRejected, transactionCommits}
-use Rattle.model.proofs.History.Moves.{transactionEnds, transactionCommitsAndEnds, nothingTouched, endsSpent}
+use Rattle.model.specs.LostAttempts.{lostBy, lostOf, itselfIf}
 use Rattle.model.proofs.History.Noted.{latestOf, number-below}
-use Rattle.model.proofs.History.Linked.{Open, OpenBy}
-use Rattle.model.proofs.LostAttempts.Statement.{lost?}
+use Rattle.model.proofs.History.Linked.{Open}
+use Rattle.model.proofs.History.Notes.{Amends, Notes, notesNothing, notesBegun, staysOpen, ends}
 
 -- HOW MANY, in a list of operations
 pub only-none : (b : Bool) → onlyIf b 0 ≡ 0
@@ -35,6 +31,20 @@ lost-replaced : (q : ℕ) (l : List (Option Operation)) (n : ℕ) (o : Option Op
 unfolding lostOf at replace
 lost-replaced q (x ∷ l) zero o h = omega arith
 lost-replaced q (x ∷ l) (suc n) o h = omega (arith, lost-replaced q l n o (omega arith))
+
+-- one more attempt or none, of an operation of task p
+one-more : (q p u : ℕ) (o o′ : Operation) (loses? : Bool) → o .task ≡ p → o′ .task ≡ o .task → o′ .lost ≡ o .lost ++ itselfIf loses? u
+    → lostBy q (some o′) ≡ lostBy q (some o) + onlyIf (eqb p q) (oneIf loses?)
+one-more q p u o o′ loses? e t l =
+    ap (λ (z : ℕ). onlyIf (eqb z q) (length (o′ .lost))) (t ∙ e)
+    ∙ ap (λ (z : List ℕ). onlyIf (eqb p q) (length z)) l
+    ∙ by (eqb p q) loses?
+    ∙ ap (λ (z : ℕ). onlyIf (eqb z q) (length (o .lost)) + onlyIf (eqb p q) (oneIf loses?)) (sym e)
+  where
+    by : (b c : Bool) → onlyIf b (length (o .lost ++ itselfIf c u)) ≡ onlyIf b (length (o .lost)) + onlyIf b (oneIf c)
+    by true true = length-append (o .lost) (u ∷ [])
+    by true false = length-append (o .lost) []
+    by false c = refl
 
 module _ (u p : ℕ) (h : History) (q : ℕ) where
   abbrev more : ℕ → ℕ
@@ -56,38 +66,14 @@ module _ (u p : ℕ) (h : History) (q : ℕ) where
         let e = lost-replaced q (h .began) n (some (f (o .operation))) (number-below h n (o .is)) in
         rw (o .is, lost-append q (replace (h .began) n (some (f (o .operation)))) none) (omega (arith, (rw (o .is) at e)))
 
-    -- one that loses none
-    keeps-lost : f (o .operation) .task ≡ o .operation .task → f (o .operation) .lost ≡ o .operation .lost
-        → lostOf q (noted u p (amends f) h .began) ≡ more 0
-    keeps-lost t l = rw (only-none (eqb p q)) (omega (arith, (rw (t, l) at amends-lost)))
+    amended-lost : {loses? : Bool} → Amends u p h o f loses? → lostOf q (noted u p (amends f) h .began) ≡ more (oneIf loses?)
+    amended-lost {loses?} k =
+        omega (arith, amends-lost, one-more q p u (o .operation) (f (o .operation)) loses? (o .task) (k .task) (k .lost))
 
-  loses-lost : {a : Arguments} {yes? : Bool} → Open h p a yes?
-      → lostOf q (noted u p (amends (losing u)) h .began) ≡ more 1
-  loses-lost o = omega (arith, amends-lost o (losing u), one-more (o .operation) (o .task))
-    where
-      by : (b : Bool) (l : List ℕ) → onlyIf b (length (l ++ (u ∷ []))) ≡ onlyIf b (length l) + onlyIf b 1
-      by true l = length-append l (u ∷ [])
-      by false l = refl
-
-      one-more : (o : Operation) → o .task ≡ p → lostBy q (some (losing u o)) ≡ lostBy q (some o) + onlyIf (eqb p q) 1
-      one-more o e = by (eqb (o .task) q) (o .lost) ∙ ap (λ (z : ℕ). lostBy q (some o) + onlyIf (eqb z q) 1) e
-
-  -- by what the statement of tick u did
-  pub lost-next : {g g′ : Option Arguments} {b b′ : Bool} {d : Deed} {s : Settling} → Moves g b d s g′ b′ → OpenBy h p g b
-      → lostOf q (noted u p (eventOf u d) h .began) ≡ more (oneIf (lost? d))
-  unfolding eventOf
-  lost-next staysOutside o = nothing-lost
-  lost-next (begun {a = a}) o = begins-lost a
-  lost-next goesOn o = nothing-lost
-  lost-next (gets v) o = keeps-lost o _ refl refl
-  lost-next loses o = loses-lost o
-  lost-next (readEnds v) o = keeps-lost o _ refl refl
-  lost-next swapCommits o = keeps-lost o _ refl refl
-  lost-next swapEnds o = keeps-lost o _ refl refl
-  lost-next swapCommitsAndEnds o = keeps-lost o _ refl refl
-  lost-next swapRejected o = keeps-lost o _ refl refl
-  lost-next transactionCommits o = keeps-lost o _ refl refl
-  lost-next transactionEnds o = keeps-lost o _ refl refl
-  lost-next transactionCommitsAndEnds o = keeps-lost o _ refl refl
-  lost-next nothingTouched o = keeps-lost o _ refl refl
-  lost-next endsSpent o = keeps-lost o _ refl refl
+  -- by what is noted in tick u
+  pub lost-next : {g g′ : Option Arguments} {e : Event} {loses? : Bool} → Notes u p h g e loses? g′
+      → lostOf q (noted u p e h .began) ≡ more (oneIf loses?)
+  lost-next notesNothing = nothing-lost
+  lost-next (notesBegun a) = begins-lost a
+  lost-next (staysOpen o f k n) = amended-lost o f k
+  lost-next (ends o f k n) = amended-lost o f k

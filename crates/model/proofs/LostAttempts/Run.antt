@@ -11,7 +11,7 @@ use lib.ListN.{length}
 use borrow.Author.Tests.{eq-eqb, ne-eqb}
 use Rattle.model.specs.Lists.{at}
 use Rattle.model.specs.Sheet.{Sheet}
-use Rattle.model.specs.Job.{Phase, idle, plain, reading, exchanging, transacting, Counts, counting, ticks, Task, nothingDone}
+use Rattle.model.specs.Job.{Phase, idle, plain, reading, exchanging, transacting, Counts, counting, ticks, Task}
 use Rattle.model.specs.Transaction.{nothing?}
 use Rattle.model.specs.Machine.{Machine, noTask, taskAt, turnOf, Running, nobody, running, runningOf, move}
 use Rattle.model.specs.Start.{startMachine}
@@ -24,15 +24,17 @@ use Rattle.model.proofs.Fit.Sheet.{SheetFit}
 use Rattle.model.proofs.Fit.Start.{start-counts}
 use Rattle.model.proofs.Fit.Running.{Foremost, running-foremost}
 use Rattle.model.proofs.History.Steps.{stateAfter, arrivedAt, historyAfter, state-next, history-next}
-use Rattle.model.proofs.History.Moves.{staysOutside, MovesBy, settling}
+use Rattle.model.proofs.History.Moves.{given}
 use Rattle.model.proofs.History.Statement.{moves}
 use Rattle.model.proofs.History.Noted.{latestOf}
+use Rattle.model.proofs.History.Linked.{givenTo}
+use Rattle.model.proofs.History.Notes.{lost?, Notes, notesNothing, notes}
 use Rattle.model.proofs.History.Ticks.{arrived-at, arrived-now, arrived-linked}
 use Rattle.model.proofs.History.Start.{started}
 use Rattle.model.proofs.Demand3.Always.{holds, holds-at, value-now}
 use Rattle.model.proofs.Demand3.State.{ready}
 use Rattle.model.proofs.Rates.Run.{rated}
-use Rattle.model.proofs.LostAttempts.Statement.{lost?, not-and, causeIn, Loses, statement-loses}
+use Rattle.model.proofs.LostAttempts.Statement.{not-and, causeIn, Loses, statement-loses}
 use Rattle.model.proofs.LostAttempts.Noted.{only-none, lost-next}
 use Rattle.model.proofs.LostAttempts.Ticks.{InTicks, ticks-noted}
 
@@ -132,21 +134,25 @@ module _ {s : Sheet} (c : SheetFit s) where
     unfolding observed
     seen p = ap (λ (u : ℕ). noted u p (eventOf u (turnOf now p .did)) h) (arrived-now (started c) t)
 
-    seen-idle : observed now nobody h ≡ noted t 0 (eventOf t nothingDone) h
-    unfolding observed eventOf
+    seen-idle : observed now nobody h ≡ noted t 0 nothing h
+    unfolding observed
     seen-idle = ap (λ (u : ℕ). noted u 0 nothing h) (arrived-now (started c) t)
 
-    moves-at : (p : ℕ) → MovesBy (phaseAt now p) (turnOf now p .did) (settling p (now .memory) (taskAt (now .tasks) p .job .commands) (phaseAt now p))
-        (turnOf now p .task .job .phase)
-    moves-at p = moves p (now .memory) (taskAt (now .tasks) p) (phaseAt now p) refl
+    abbrev NotesOf : ℕ → Type 0
+    NotesOf p =
+        Notes t p h (givenTo (now .tasks) p) (eventOf t (turnOf now p .did)) (lost? (turnOf now p .did)) (given (turnOf now p .task .job .phase))
+
+    noted-at : (p : ℕ) → NotesOf p
+    noted-at p =
+        notes t p h (moves p (now .memory) (taskAt (now .tasks) p) (phaseAt now p) refl) (arrived-linked (started c) t .linked .opened p)
 
     history-by : (r : Running) → runningOf now ≡ r → (q : ℕ) → lostOf q (observed now r h .began) ≡ lostOf q (h .began) + oneIf (restartsAt q t)
     history-by nobody e q =
         rw (seen-idle, idle-restarts t e q)
-        (lost-next t 0 h q (staysOutside {b = false} {c = false}) tt ∙ ap (λ (n : ℕ). lostOf q (h .began) + n) (only-none (eqb 0 q)))
+        (lost-next t 0 h q (notesNothing {g = none}) ∙ ap (λ (n : ℕ). lostOf q (h .began) + n) (only-none (eqb 0 q)))
     history-by (running p) e q =
         rw (seen p)
-        (lost-next t p h q (moves-at p) (arrived-linked (started c) t .linked .opened p)
+        (lost-next t p h q (noted-at p)
         ∙ ap (λ (n : ℕ). lostOf q (h .began) + n)
         (same? q p
         (λ z. rw (z, eq-eqb p p refl, own-restarts t p e) refl)
@@ -161,12 +167,9 @@ module _ {s : Sheet} (c : SheetFit s) where
     ticks-by : (r : Running) → runningOf now ≡ r → InTicks restartsAt (suc t) (observed now r h)
     ticks-by nobody e =
         rw seen-idle
-        (ticks-noted restartsAt t 0 h size (k .ticks) (λ q ne. idle-restarts t e q) latest (staysOutside {b = false} {c = false}) tt
-        (idle-restarts t e 0))
+        (ticks-noted restartsAt t 0 h size (k .ticks) (λ q ne. idle-restarts t e q) latest (notesNothing {g = none}) (idle-restarts t e 0))
     ticks-by (running p) e =
-        rw (seen p)
-        (ticks-noted restartsAt t p h size (k .ticks) (others-restart t p e) latest (moves-at p) (arrived-linked (started c) t .linked .opened p)
-        (own-restarts t p e))
+        rw (seen p) (ticks-noted restartsAt t p h size (k .ticks) (others-restart t p e) latest (noted-at p) (own-restarts t p e))
 
     accounted-next : Accounted (suc t)
     accounted-next =

@@ -14,8 +14,7 @@ use Rattle.model.specs.Word.{Memory, stored, setStored, loading, Read, r
 use Rattle.model.specs.Exchange.{Entry, Exchange, Exchanged, goes, ends, exchangeTick, commitSaidYes}
 use Rattle.model.specs.Job.{Touched, untouched, remembered, copied, Transaction, Inner, between, first, copying, again, committing}
 use Rattle.model.specs.Job.{Phase, idle, plain, reading, exchanging, transacting, Task, rest, doneBy, Turn, turn, losesAttempt}
-use Rattle.model.specs.Job.{Deed, nothingDone, began, readGave, swapCommitted, swapAnswered, getGave, attemptLost}
-use Rattle.model.specs.Job.{transactionCommitted, transactionEnded, endedUntouched, endedSpent}
+use Rattle.model.specs.Job.{Deed, nothingDone}
 use Rattle.model.specs.Transaction.{bank, blockOf, versionOf, storeOf, rememberedOf, touchedOf, touch, within, restarted}
 use Rattle.model.specs.Transaction.{firstRead, copyBy, copyTick, accessTick, checkBy, againRead, nothing?, spent?, gather}
 use Rattle.model.specs.Transaction.{commitCommandBy, committedIf, committingBy, insideTick, commandTick, transactionTick}
@@ -28,20 +27,8 @@ use Rattle.model.proofs.Fit.Transaction.{touched?, AgainFit, Transactio
 use Rattle.model.proofs.Fit.Machine.{PhaseFit}
 use Rattle.model.proofs.Fit.Pass.{PassFit, pass-of}
 use Rattle.model.proofs.Fit.TransactionTick.{at-work}
+use Rattle.model.proofs.History.Notes.{lost?}
 use Rattle.model.proofs.Transactions.Gather.{nothing-touched}
-
-abbrev pub lost? : Deed → Bool
-lost? nothingDone = false
-lost? (began a) = false
-lost? (readGave v) = false
-lost? swapCommitted = false
-lost? (swapAnswered yes?) = false
-lost? (getGave v) = false
-lost? attemptLost = true
-lost? transactionCommitted = false
-lost? transactionEnded = false
-lost? endedUntouched = false
-lost? endedSpent = false
 
 -- THE CAUSES, by what a statement finds: another version than the remembered one, a no
 abbrev pub staleBy : Transaction → Access → Read → Bool

@@ -1,7 +1,7 @@
 -- The ticks in which an operation has lost its attempts: just those of which a test holds, from its first tick to its last or so far.
 use Prim.Native.Nat.{ℕ, zero, suc, _≤_}
 use mathlib.Core.Path.{_≡_, refl, sym, _∙_, ap}
-use mathlib.Core.Bool.{Bool, true, false}
+use mathlib.Core.Bool.{Bool, false}
 use mathlib.Core.Logic.{_≢_}
 use mathlib.Core.List.{List, [], _++_, append-nil}
 use mathlib.Core.Option.{Option, none, some}
@@ -9,18 +9,15 @@ use native.Mathlib.Omega.{arith}
 use lib.Dec.{leb}
 use lib.ListN.{length}
 use borrow.Author.Tests.{le-leb, lt-leb}
-use Rattle.model.specs.Job.{Deed}
 use Rattle.model.specs.Arguments.{Arguments}
-use Rattle.model.specs.History.{Operation, History, operationAt, nothing, begins, amends, eventOf, noted}
+use Rattle.model.specs.History.{Operation, History, operationAt, Event, nothing, begins, amends, noted}
 use Rattle.model.specs.LostAttempts.{itselfIf, ticksWhere, afterLast}
 use Rattle.model.proofs.Lists.{same?}
-use Rattle.model.proofs.History.Moves.{Settling, Moves, staysOutside, begun, goesOn, gets, loses, readEnds}
-use Rattle.model.proofs.History.Moves.{swapCommits, swapEnds, swapCommitsAndEnds, swapRejected, transactionCommits}
-use Rattle.model.proofs.History.Moves.{transactionEnds, transactionCommitsAndEnds, nothingTouched, endsSpent}
 use Rattle.model.proofs.History.Noted.{latestOf, number-below, noted-nothing, noted-begins, noted-amends}
-use Rattle.model.proofs.History.Linked.{Open, OpenBy}
+use Rattle.model.proofs.History.Linked.{Open}
+use Rattle.model.proofs.History.Notes.{Amends, Notes, notesNothing, notesBegun, staysOpen, ends}
 use Rattle.model.proofs.Rates.Ended.{the-same}
-use Rattle.model.proofs.LostAttempts.Statement.{lost?, and-false}
+use Rattle.model.proofs.LostAttempts.Statement.{and-false}
 
 -- ONE TICK MORE
 module _ (is? : ℕ → Bool) (a : ℕ) where
@@ -70,17 +67,16 @@ module _ (is? : ℕ → ℕ → Bool) (u p : ℕ) (h : History) (size : length (
         }
 
   -- the open operation is amended
-  module _ {g : Arguments} {yes? : Bool} (o : Open h p g yes?) (f : Operation → Operation) (d : Bool) (here : is? p u ≡ d)
-      (task : f (o .operation) .task ≡ o .operation .task) (lost : f (o .operation) .lost ≡ o .operation .lost ++ itselfIf d u)
-      (last : afterLast (f (o .operation) .last) (suc u) ≡ suc u) where
+  module _ {g : Arguments} {yes? : Bool} (o : Open h p g yes?) (f : Operation → Operation) {loses? : Bool} (here : is? p u ≡ loses?)
+      (am : Amends u p h o f loses?) (last : afterLast (f (o .operation) .last) (suc u) ≡ suc u) where
     amended : f (o .operation) .lost ≡ ticksWhere (is? (f (o .operation) .task)) (latestOf h p) (afterLast (f (o .operation) .last) (suc u))
     amended =
         let n = latestOf h p in
         let before : n ≤ u = omega (arith, number-below h n (o .is)) in
         let was = k .each n (o .operation) (o .is) in
-        rw (last, task ∙ o .task)
-        (lost
-        ∙ ap (λ (l : List ℕ). l ++ itselfIf d u) (rw (o .unended, o .task) at was)
+        rw (last, am .task ∙ o .task)
+        (am .lost
+        ∙ ap (λ (l : List ℕ). l ++ itselfIf loses? u) (rw (o .unended, o .task) at was)
         ∙ ap (λ (b : Bool). ticksWhere (is? p) n u ++ itselfIf b u) (sym here)
         ∙ sym (ticks-next (is? p) n u before))
 
@@ -92,22 +88,10 @@ module _ (is? : ℕ → ℕ → Bool) (u p : ℕ) (h : History) (size : length (
               (λ ne. let was = sym (c .else a ne) ∙ is in left a q was (λ e n. absurd (ne (sym (rw e at (latest a q was n))))));
         }
 
-  -- by what the statement did
-  pub ticks-noted : {g g′ : Option Arguments} {b b′ : Bool} {d : Deed} {s : Settling} → Moves g b d s g′ b′ → OpenBy h p g b → is? p u ≡ lost? d
-      → InTicks is? (suc u) (noted u p (eventOf u d) h)
-  unfolding eventOf
-  ticks-noted staysOutside o e = nothing-ticks e
-  ticks-noted (begun {a = a}) o e = begins-ticks e a
-  ticks-noted goesOn o e = nothing-ticks e
-  ticks-noted (gets v) o e = amends-ticks o _ false e refl (sym (append-nil _)) (rw (o .unended) refl)
-  ticks-noted loses o e = amends-ticks o _ true e refl refl (rw (o .unended) refl)
-  ticks-noted (readEnds v) o e = amends-ticks o _ false e refl (sym (append-nil _)) refl
-  ticks-noted swapCommits o e = amends-ticks o _ false e refl (sym (append-nil _)) (rw (o .unended) refl)
-  ticks-noted swapEnds o e = amends-ticks o _ false e refl (sym (append-nil _)) refl
-  ticks-noted swapCommitsAndEnds o e = amends-ticks o _ false e refl (sym (append-nil _)) refl
-  ticks-noted swapRejected o e = amends-ticks o _ false e refl (sym (append-nil _)) refl
-  ticks-noted transactionCommits o e = amends-ticks o _ false e refl (sym (append-nil _)) (rw (o .unended) refl)
-  ticks-noted transactionEnds o e = amends-ticks o _ false e refl (sym (append-nil _)) refl
-  ticks-noted transactionCommitsAndEnds o e = amends-ticks o _ false e refl (sym (append-nil _)) refl
-  ticks-noted nothingTouched o e = amends-ticks o _ false e refl (sym (append-nil _)) refl
-  ticks-noted endsSpent o e = amends-ticks o _ false e refl (sym (append-nil _)) refl
+  -- by what is noted
+  pub ticks-noted : {g g′ : Option Arguments} {e : Event} {loses? : Bool} → Notes u p h g e loses? g′ → is? p u ≡ loses?
+      → InTicks is? (suc u) (noted u p e h)
+  ticks-noted notesNothing z = nothing-ticks z
+  ticks-noted (notesBegun a) z = begins-ticks z a
+  ticks-noted (staysOpen o f am n) z = amends-ticks o f z am (rw n refl)
+  ticks-noted (ends o f am n) z = amends-ticks o f z am (rw n refl)

@@ -5,17 +5,14 @@ use mathlib.Core.Path.{_≡_, refl, sym, _∙_}
 use mathlib.Core.Option.{Option, none, some}
 use lib.ListN.{length}
 use Rattle.model.specs.Machine.{Running}
-use Rattle.model.specs.Job.{Deed}
-use Rattle.model.specs.History.{Operation, History, operationAt, nothing, begins, amends, eventOf, noted}
+use Rattle.model.specs.History.{Operation, History, operationAt, Event, nothing, begins, amends, noted}
 use Rattle.model.specs.Rates.{ownBefore}
 use Rattle.model.specs.Arguments.{Arguments}
 use Rattle.model.proofs.Lists.{same?, impossible}
 use Rattle.model.proofs.History.Advance.{Changed}
-use Rattle.model.proofs.History.Moves.{Settling, Moves, staysOutside, begun, goesOn, gets, loses, readEnds}
-use Rattle.model.proofs.History.Moves.{swapCommits, swapEnds, swapCommitsAndEnds, swapRejected, transactionCommits}
-use Rattle.model.proofs.History.Moves.{transactionEnds, transactionCommitsAndEnds, nothingTouched, endsSpent}
 use Rattle.model.proofs.History.Noted.{latestOf, noted-nothing, noted-begins, noted-amends}
-use Rattle.model.proofs.History.Linked.{Open, OpenBy}
+use Rattle.model.proofs.History.Notes.{Notes, notesNothing, notesBegun, staysOpen, ends}
+use Rattle.model.proofs.History.Linked.{Open}
 use Rattle.model.proofs.Rates.Timely.{Rate, RateBy}
 
 -- `who` does the statements
@@ -59,21 +56,9 @@ module _ (who : ℕ → Running) (u p : ℕ) (h : History) (size : length (h .be
         (λ l z. let same : u ≡ l = the-same (sym e ∙ z) in rw (g ∙ o .arguments, t ∙ o .task, ← same) r)
 
   -- `rate` of the operation that this tick ends
-  pub in-time : {g g′ : Option Arguments} {b b′ : Bool} {d : Deed} {s : Settling} → Moves g b d s g′ b′ → OpenBy h p g b
-      → (g′ ≡ none → RateBy g (ownBefore who p (latestOf h p) (suc u))) → InTime who (noted u p (eventOf u d) h)
-  unfolding eventOf
-  in-time staysOutside o rate = nothing-in-time
-  in-time (begun {a = a}) o rate = begins-in-time a
-  in-time goesOn o rate = nothing-in-time
-  in-time (gets v) o rate = stays-in-time o _ (o .unended)
-  in-time loses o rate = stays-in-time o _ (o .unended)
-  in-time (readEnds v) o rate = ends-in-time o _ refl refl refl (rate refl)
-  in-time swapCommits o rate = stays-in-time o _ (o .unended)
-  in-time swapEnds o rate = ends-in-time o _ refl refl refl (rate refl)
-  in-time swapCommitsAndEnds o rate = ends-in-time o _ refl refl refl (rate refl)
-  in-time swapRejected o rate = ends-in-time o _ refl refl refl (rate refl)
-  in-time transactionCommits o rate = stays-in-time o _ (o .unended)
-  in-time transactionEnds o rate = ends-in-time o _ refl refl refl (rate refl)
-  in-time transactionCommitsAndEnds o rate = ends-in-time o _ refl refl refl (rate refl)
-  in-time nothingTouched o rate = ends-in-time o _ refl refl refl (rate refl)
-  in-time endsSpent o rate = ends-in-time o _ refl refl refl (rate refl)
+  pub in-time : {g g′ : Option Arguments} {e : Event} {l : Bool} → Notes u p h g e l g′
+      → (g′ ≡ none → RateBy g (ownBefore who p (latestOf h p) (suc u))) → InTime who (noted u p e h)
+  in-time notesNothing rate = nothing-in-time
+  in-time (notesBegun a) rate = begins-in-time a
+  in-time (staysOpen o f k n) rate = stays-in-time o f n
+  in-time (ends o f k n) rate = ends-in-time o f (k .task) (k .arguments) n (rate refl)

@@ -1,21 +1,18 @@
 -- An operation that has not ended is its task's latest, and its task is inside it: every tick keeps that.
 use Prim.Native.Nat.{ℕ, _<_}
 use mathlib.Core.Bool.{Bool}
-use mathlib.Core.Path.{_≡_, refl, sym, _∙_, ap}
+use mathlib.Core.Path.{_≡_, sym, _∙_, ap}
 use mathlib.Core.Logic.{_≢_}
 use mathlib.Core.Option.{Option, none, some}
 use lib.ListN.{length}
-use Rattle.model.specs.History.{Operation, History, operationAt, nothing, begins, amends, eventOf, noted}
-use Rattle.model.specs.Job.{Deed}
+use Rattle.model.specs.History.{Operation, History, operationAt, Event, nothing, begins, amends, noted}
 use Rattle.model.specs.Arguments.{Arguments}
 use Rattle.model.proofs.Lists.{same?}
 use Rattle.model.proofs.History.Advance.{Changed}
-use Rattle.model.proofs.History.Moves.{Settling, Moves, staysOutside, begun, goesOn, gets, loses, readEnds}
-use Rattle.model.proofs.History.Moves.{swapCommits, swapEnds, swapCommitsAndEnds, swapRejected, transactionCommits}
-use Rattle.model.proofs.History.Moves.{transactionEnds, transactionCommitsAndEnds, nothingTouched, endsSpent}
 use Rattle.model.proofs.History.Noted.{latestOf, newOperation, noted-nothing, latest-nothing, noted-begins}
 use Rattle.model.proofs.History.Noted.{latest-begins, latest-begins-else, noted-amends, latest-amends}
-use Rattle.model.proofs.History.Linked.{Open, OpenBy}
+use Rattle.model.proofs.History.Notes.{Notes, notesNothing, notesBegun, staysOpen, ends}
+use Rattle.model.proofs.History.Linked.{Open}
 use Rattle.model.proofs.Rates.Ended.{not-some, the-same}
 
 -- where operation a with task and arguments stands, the tasks being inside operations with the arguments `inside`
@@ -39,15 +36,8 @@ module _ (u p : ℕ) (h : History) (size : length (h .began) ≡ u) (below : p <
   outside-none : (a : ℕ) {o : Operation} → inside p ≡ none → operationAt h a ≡ some o → o .last ≡ none → o .task ≢ p
   outside-none a {o} g is n e = not-some (sym g ∙ (rw e at (k .stands a o is n .arguments)))
 
-  nothing-outside : inside p ≡ none → Unended (noted u p nothing h) inside′
-  nothing-outside g = record {
-    stands = λ a o is n.
-        let was = sym (noted-nothing u p h size a) ∙ is in
-        other-stands (λ q ne. latest-nothing u p h size q) was n (outside-none a g was n);
-  }
-
-  nothing-inside : inside′ p ≡ inside p → Unended (noted u p nothing h) inside′
-  nothing-inside g = record {
+  nothing-unended : inside′ p ≡ inside p → Unended (noted u p nothing h) inside′
+  nothing-unended g = record {
     stands = λ a o is n.
         let s = k .stands a o (sym (noted-nothing u p h size a) ∙ is) n in
         record {
@@ -99,21 +89,9 @@ module _ (u p : ℕ) (h : History) (size : length (h .began) ≡ u) (below : p <
           (λ ne. else-stands b q ne is n);
     }
 
-  pub unended : {g g′ : Option Arguments} {b b′ : Bool} {d : Deed} {s : Settling} → Moves g b d s g′ b′ → OpenBy h p g b → inside p ≡ g
-      → inside′ p ≡ g′ → Unended (noted u p (eventOf u d) h) inside′
-  unfolding eventOf
-  unended staysOutside o i i′ = nothing-outside i
-  unended (begun {a = a}) o i i′ = begins-unended a i i′
-  unended goesOn o i i′ = nothing-inside (i′ ∙ sym i)
-  unended (gets v) o i i′ = stays-unended o _ refl refl i′
-  unended loses o i i′ = stays-unended o _ refl refl i′
-  unended (readEnds v) o i i′ = ends-unended o _ refl
-  unended swapCommits o i i′ = stays-unended o _ refl refl i′
-  unended swapEnds o i i′ = ends-unended o _ refl
-  unended swapCommitsAndEnds o i i′ = ends-unended o _ refl
-  unended swapRejected o i i′ = ends-unended o _ refl
-  unended transactionCommits o i i′ = stays-unended o _ refl refl i′
-  unended transactionEnds o i i′ = ends-unended o _ refl
-  unended transactionCommitsAndEnds o i i′ = ends-unended o _ refl
-  unended nothingTouched o i i′ = ends-unended o _ refl
-  unended endsSpent o i i′ = ends-unended o _ refl
+  pub unended : {g g′ : Option Arguments} {e : Event} {l : Bool} → Notes u p h g e l g′ → inside p ≡ g → inside′ p ≡ g′
+      → Unended (noted u p e h) inside′
+  unended notesNothing i i′ = nothing-unended (i′ ∙ sym i)
+  unended (notesBegun a) i i′ = begins-unended a i i′
+  unended (staysOpen o f k n) i i′ = stays-unended o f (k .task) (k .arguments) i′
+  unended (ends o f k n) i i′ = ends-unended o f n

@@ -1,6 +1,5 @@
 -- Every tick of a run keeps its tasks in time, and every operation that has ended took no more ticks of its own than it may.
 use Prim.Native.Nat.{ℕ, zero, suc, _<_}
-use mathlib.Core.Bool.{false}
 use mathlib.Core.Path.{_≡_, refl, sym, _∙_, ap, subst, fun-ext}
 use mathlib.Core.Logic.{_⊎_, inl, inr}
 use mathlib.Core.List.{List}
@@ -12,7 +11,7 @@ use Rattle.model.specs.Sheet.{Sheet}
 use Rattle.model.specs.Job.{Phase, idle, plain, reading, exchanging, transacting, Task, Turn, counting, ticks}
 use Rattle.model.specs.Machine.{Machine, noTask, taskAt, Running, nobody, running, runningOf, move, statement}
 use Rattle.model.specs.Start.{startMachine}
-use Rattle.model.specs.History.{History, noHistory, observed}
+use Rattle.model.specs.History.{History, noHistory, eventOf, observed}
 use Rattle.model.specs.Rates.{ownBefore}
 use Rattle.model.specs.Arguments.{Arguments}
 use Rattle.model.proofs.Lists.{same?, replace-same, replace-other, impossible}
@@ -20,7 +19,8 @@ use Rattle.model.proofs.Fit.Sheet.{SheetFit}
 use Rattle.model.proofs.History.Steps.{stateAfter, arrivedAt, historyAfter, state-next, history-next}
 use Rattle.model.proofs.Fit.Running.{Foremost, running-foremost}
 use Rattle.model.proofs.History.Arrive.{JobArrived, sameJob, newJob, Arrived, none-runs}
-use Rattle.model.proofs.History.Moves.{given, staysOutside}
+use Rattle.model.proofs.History.Moves.{given}
+use Rattle.model.proofs.History.Notes.{lost?, Notes, notesNothing, notes}
 use Rattle.model.proofs.History.Statement.{moves}
 use Rattle.model.proofs.History.Noted.{latestOf}
 use Rattle.model.proofs.History.Linked.{InOperation, givenTo}
@@ -82,7 +82,7 @@ module _ {who : ℕ → Running} {h : History} where
       unended =
           unended (m .now) 0 h (linked .linked .size) (omega (arith, linked .linked .latest)) (givenTo (m .tasks)) (givenTo (m .tasks)) (λ q ne. refl)
           (k .unended)
-          (staysOutside {b = false} {c = false}) tt none-inside none-inside;
+          notesNothing none-inside none-inside;
     }
       where
         none-inside : givenTo (m .tasks) 0 ≡ none
@@ -126,11 +126,13 @@ module _ {who : ℕ → Running} {h : History} where
           (λ i. rw one-more (timely-next p (m .memory) task below _ (task .job .phase) refl (k .timely p) i .ended e))
           (λ o. rate-outside (given (task .job .phase)) _ o)
 
+      noted-runs : Notes (m .now) p h (given (task .job .phase)) (eventOf (m .now) (after .did)) (lost? (after .did)) (given (after .task .job .phase))
+      noted-runs = notes (m .now) p h (moves p (m .memory) task (task .job .phase) refl) (linked .linked .opened p)
+
       ended-runs : InTime who (observed m (running p) h)
       unfolding observed
       ended-runs =
-          in-time who (m .now) p h (linked .linked .size) (k .ended) (moves p (m .memory) task (task .job .phase) refl)
-          (linked .linked .opened p) rate
+          in-time who (m .now) p h (linked .linked .size) (k .ended) noted-runs rate
 
       abbrev next : List Task
       next = replace (m .tasks) p (counting ticks (after .task))
@@ -141,7 +143,7 @@ module _ {who : ℕ → Running} {h : History} where
           unended (m .now) p h (linked .linked .size) (omega (arith, linked .linked .latest, linked .size, r .below)) (givenTo (m .tasks))
           (givenTo next)
           (λ q ne. rw (replace-other noTask (m .tasks) p q (counting ticks (after .task)) ne) refl) (k .unended)
-          (moves p (m .memory) task (task .job .phase) refl) (linked .linked .opened p) refl
+          noted-runs refl
           (rw (replace-same noTask (m .tasks) p (counting ticks (after .task)) (r .below)) refl)
 
       rated-runs : Rated who (suc (m .now)) (move m (running p)) (observed m (running p) h)
