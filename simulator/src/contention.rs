@@ -29,6 +29,20 @@ pub enum Style {
     Tiny,
 }
 
+impl Style {
+    /// All but the one whose runs take long.
+    pub const SHORT: [Style; 8] = [
+        Style::Words,
+        Style::Blocks,
+        Style::Mixed,
+        Style::TopVersions,
+        Style::Nested,
+        Style::Bursts,
+        Style::Attempts,
+        Style::Tiny,
+    ];
+}
+
 /// Registers 0, 1 and 2 hold 0, 1 and 2; readings go to 3 to 6; answers go to 7.
 const SMALL_VALUES: usize = 3;
 const READINGS: [u8; 4] = [3, 4, 5, 6];

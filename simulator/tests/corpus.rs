@@ -32,18 +32,9 @@ fn demand_3_and_the_rates_hold() {
 /// Small contended sheets, cut short after every tick.
 #[test]
 fn demand_3_holds_after_every_tick() {
-    let styles = [
-        Style::Nested,
-        Style::Words,
-        Style::Blocks,
-        Style::Mixed,
-        Style::TopVersions,
-        Style::Bursts,
-        Style::Attempts,
-    ];
-    for index in 0..70 {
-        let mut random = Random::new(SEED, index);
-        let sheet = valid_sheet(&mut random, styles[index as usize % styles.len()]);
+    for index in 0..80 {
+        let style = Style::SHORT[index as usize % Style::SHORT.len()];
+        let sheet = valid_sheet(&mut Random::new(SEED, index), style);
         for limit in 0..400 {
             if let Err(fault) = whole_operations(&sheet, limit) {
                 panic!("sheet {index}, limit {limit}: {fault}");
@@ -55,17 +46,7 @@ fn demand_3_holds_after_every_tick() {
 /// The generator's valid sheets are accepted. Cut anywhere, they end too early and nothing else.
 #[test]
 fn valid_sheets_and_their_cuts() {
-    let styles = [
-        Style::Words,
-        Style::Blocks,
-        Style::Mixed,
-        Style::TopVersions,
-        Style::Nested,
-        Style::Bursts,
-        Style::Attempts,
-        Style::Long,
-        Style::Tiny,
-    ];
+    let styles = [&Style::SHORT[..], &[Style::Long]].concat();
     for index in 0..180 {
         let style = styles[index as usize % styles.len()];
         let sheet = valid_sheet(&mut Random::new(SEED, index), style);

@@ -119,18 +119,8 @@ fn the_counts_are_the_history_s_and_the_state_s_over_the_corpus() {
 
 #[test]
 fn the_counts_are_the_history_s_and_the_state_s_in_every_style() {
-    let styles = [
-        Style::Words,
-        Style::Blocks,
-        Style::Mixed,
-        Style::TopVersions,
-        Style::Nested,
-        Style::Bursts,
-        Style::Attempts,
-        Style::Tiny,
-    ];
     for index in 0..4000 {
-        let style = styles[index as usize % styles.len()];
+        let style = Style::SHORT[index as usize % Style::SHORT.len()];
         let sheet = valid_sheet(&mut Random::new(SEED ^ 3, index), style);
         assert_counted(&sheet, LIMIT, format_args!("{style:?} {index}"));
     }
