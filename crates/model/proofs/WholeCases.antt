@@ -202,7 +202,7 @@ table =
     ∷ slotsReused
     -- a restart that keeps the copies' slots as used
     ∷ restarting
-    -- answers of a lost pass kept
+    -- answers of a lost attempt kept
     ∷ lostAnswer
     -- a GET of a PUT block answered from the block
     ∷ ownCopy
