@@ -8,10 +8,11 @@
  *
  * What is proved, for every sheet, limit and buffer: both entries return; number, place and every byte of the report buffer
  * are those of the definitions in crates/model/specs (Answer.antt); an accepted run is a sequence of whole operations
- * (Claim.antt), and each task's drops are those of its releases that neither started a job nor wait (Drops.antt). What the
- * caller must see to: each pointer is valid for its length and for the whole call, and the sheet, the report buffer and *place
- * do not overlap. A pointer whose length is 0 is not read but must not be null. Neither entry keeps a pointer, allocates, or
- * uses more stack than docs/FIGURES.md states.
+ * (Claim.antt), each task's drops are those of its releases that neither started a job nor wait (Drops.antt), and its lost
+ * attempts are the ticks in which its transactions restarted (LostAttempts.antt). What the caller must see to: each pointer is
+ * valid for its length and for the whole call, and the sheet, the report buffer and *place do not overlap. A pointer whose
+ * length is 0 is not read but must not be null. Neither entry keeps a pointer, allocates, or uses more stack than
+ * docs/FIGURES.md states.
  */
 #ifndef HIZGRAEL_H
 #define HIZGRAEL_H
