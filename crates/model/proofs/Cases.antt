@@ -15,7 +15,7 @@ use Rattle.model.specs.Sheet.{sheetOf}
 use Rattle.model.specs.Answer.{Checked, checkAnswer, Answer, runAnswer, finalOf}
 use Rattle.model.proofs.WholeCases.{sameNumbers}
 use Rattle.model.proofs.Sheets.{body₁, bodyTwoWords, bodyRead, sheetA, sheetAAt, against, sheetU, sheetUAt, sheetUU, sheetTwoDrop}
-use Rattle.model.proofs.Sheets.{bodyTake, bodyTakeWrite, sheetSeven, sheetSpentAfterStale}
+use Rattle.model.proofs.Sheets.{bodyTake, bodyTakeWrite, sheetSeven, sheetSpentAfterStale, sheetUntouched}
 use Rattle.model.proofs.Bytes.{join, word, block, task, release, end, load, add, pair, begin, get}
 
 -- FIGURES of the machine when the run has stopped
@@ -267,6 +267,8 @@ table =
     ∷ figuresBy 97 (sheetSeven bodyTakeWrite 13 63) (lostAre 0 1 ∷ [])
     -- a stale version, in tick 37, and then a spent COMMIT, which is no lost attempt
     ∷ figures sheetSpentAfterStale (lostAre 0 1 ∷ spentAre 0 1 ∷ finishedAre 0 0 ∷ ticksUsed 0 27 ∷ ticksDone 52 ∷ versionIs 0 16777215 ∷ [])
+    -- BEGIN and COMMIT: nothing touched, nothing lost
+    ∷ figures sheetUntouched (lostAre 0 0 ∷ spentAre 0 0 ∷ finishedAre 0 1 ∷ ticksDone 2 ∷ [])
     ∷ []
 
 -- every sheet of the table is refused or accepted as it says, with these answers and figures

@@ -89,3 +89,7 @@ sheetSeven body t u = blockForty 3 ++ body ++ bodySeven ++ release 0 0 ++ releas
 
 abbrev pub sheetSpentAfterStale : List ℕ
 sheetSpentAfterStale = blockForty 16777214 ++ bodyZero ++ bodySeven ++ release 0 0 ++ release 3 1 ++ end
+
+-- a transaction that touches nothing
+abbrev pub sheetUntouched : List ℕ
+sheetUntouched = task ++ begin ++ commit ++ release 0 0 ++ end
