@@ -51,6 +51,9 @@ lastOffset = 7
 abbrev pub lastVersion : ℕ
 lastVersion = 16777215
 
+abbrev pub lastTick : ℕ
+lastTick = 65535
+
 -- values are 32-bit unsigned
 abbrev pub valueRange : ℕ
 valueRange = 4294967296

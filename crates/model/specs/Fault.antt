@@ -10,7 +10,7 @@ use Rattle.model.specs.Refusal.{Refusal, misplaced, ceilingPassed, outOf
 use Rattle.model.specs.Command.{Access, GET, PUT, Outside, READ, PAIR, SWAP, BEGIN, Inside, access, COMMIT}
 use Rattle.model.specs.Command.{BodyCommand, LOAD, ADD, outside, inside, Release, Command, WORD, BLOCK, TASK, RELEASE, END, body}
 use Rattle.model.specs.Ceilings.{maxWords, maxBlocks, maxTasks, maxCommands, maxReleases, maxPairs, maxTouched, maxPuts}
-use Rattle.model.specs.Ceilings.{lastRegister, lastOffset, lastVersion}
+use Rattle.model.specs.Ceilings.{lastRegister, lastOffset, lastVersion, lastTick}
 
 pub data Section : Type 0 where
   wordSection blockSection bodySection releaseSection : Section
@@ -189,7 +189,7 @@ unfolding inRangeBody
 inRange n (WORD v) = true
 inRange n (BLOCK b) = leb (b .version) lastVersion
 inRange n TASK = true
-inRange n (RELEASE r) = ltb (r .task) (n .tasks)
+inRange n (RELEASE r) = leb (r .tick) lastTick && ltb (r .task) (n .tasks)
 inRange n END = true
 inRange n (body c) = inRangeBody n c
 

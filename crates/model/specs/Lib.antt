@@ -4,6 +4,8 @@ pub mod Lists
 pub mod Command
 pub mod Fault
 pub mod Sheet
+pub mod Encoding
+pub mod WellFormed
 pub mod Word
 pub mod Exchange
 pub mod Arguments

@@ -1,4 +1,4 @@
--- When a sheet or a call is turned down: document 01's ten refusals and their numbers.
+-- When a sheet or a call is turned down: document 01's ten refusals, document 02's, and their numbers.
 use Prim.Native.Nat.{ℕ}
 
 pub data Refusal : Type 0 where
@@ -12,6 +12,7 @@ pub data Refusal : Type 0 where
   releasesNotRising : Refusal
   limitTooHigh : Refusal
   bufferTooShort : Refusal
+  bufferFull : Refusal
 
 abbrev pub number : Refusal → ℕ
 number noCommand = 1
@@ -24,3 +25,4 @@ number wordRepeated = 7
 number releasesNotRising = 8
 number limitTooHigh = 9
 number bufferTooShort = 10
+number bufferFull = 11

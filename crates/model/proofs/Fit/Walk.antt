@@ -5,7 +5,7 @@ use mathlib.Core.Bool.{true, false, not, _&&_, _||_, true≢false}
 use mathlib.Core.List.{List, []}
 use mathlib.Core.Option.{none}
 use native.Mathlib.Omega.{arith}
-use lib.Dec.{eqb, ltb}
+use lib.Dec.{eqb, ltb, leb}
 use lib.ListN.{length}
 use borrow.Author.Tests.{ltb-true, leb-true, eqb-true}
 use Rattle.model.specs.Lists.{at}
@@ -159,7 +159,7 @@ unfolding after declare inPlace underCeiling inRange
 release-step k r d q f =
     let p = passedOf k (RELEASE r) q in
     let room = ltb-true (k .counts .releases) 256 (p .underCeiling) in
-    let known = ltb-true (r .task) (k .counts .tasks) (p .inRange) in
+    let known = ltb-true (r .task) (k .counts .tasks) (and-right (leb (r .tick) 65535) _ (p .inRange)) in
     let g = f .section in
     record {
       words = f .words;
