@@ -13,6 +13,10 @@ pub mod Cases
 pub mod ArrivalCases
 pub mod AttemptCases
 pub mod Bounds
+-- the bytes of commands
+pub mod Encoding
+-- the sheet builder (`story` in Builder/Story.antt)
+pub mod Builder
 -- well formed machines
 pub mod Fit
 -- demand 3 (`demand-3` in Demand3/Theorem.antt): exchanges, transactions, history and order, and how they join

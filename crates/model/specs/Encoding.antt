@@ -1,5 +1,5 @@
 -- The bytes of a command: its byte and its operands, each as wide as the table says, big-endian; and the bytes of a list of commands.
-use Prim.Native.Nat.{ℕ, zero, suc, _/_, _%_, _<_}
+use Prim.Native.Nat.{ℕ, zero, suc, _/_, _%_, _^_, _<_}
 use mathlib.Core.Path.{_≡_}
 use mathlib.Core.List.{List, [], _∷_, _++_}
 use mathlib.Core.Option.{Option, none, some}
@@ -80,3 +80,13 @@ ValuesFit (body (LOAD r v)) = v < valueRange
 ValuesFit (body (ADD r q)) = Unit {0}
 ValuesFit (body (outside c)) = Unit {0}
 ValuesFit (body (inside c)) = Unit {0}
+
+-- each number fits its width
+abbrev pub Fits : List ℕ → List ℕ → Type 0
+Fits [] [] = Unit {0}
+Fits [] (v ∷ vs) = ⊥
+Fits (w ∷ ws) [] = ⊥
+Fits (w ∷ ws) (v ∷ vs) = (v < 256 ^ w) × Fits ws vs
+
+abbrev pub OperandsFit : Command → Type 0
+OperandsFit c = Fits (widthsOf c) (operandsOf c)

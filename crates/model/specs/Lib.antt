@@ -6,6 +6,7 @@ pub mod Fault
 pub mod Sheet
 pub mod Encoding
 pub mod WellFormed
+pub mod Builder
 pub mod Word
 pub mod Exchange
 pub mod Arguments

@@ -49,50 +49,54 @@ module _ (sheet : List ℕ) (place : ℕ) {c : Command} {next : ℕ} where
   found-at f = byte-found (ltb place (length sheet)) f
 
 -- nothing is found past the end
-none-past : (sheet : List ℕ) (place : ℕ) → length sheet ≤ place → (n : ℕ) → commandsFrom n sheet place ≡ []
+pub none-past : (sheet : List ℕ) (place : ℕ) → length sheet ≤ place → (n : ℕ) → commandsFrom n sheet place ≡ []
 unfolding commandsFrom commandAt foundByte
 none-past sheet place h zero = refl
 none-past sheet place h (suc n) = rw (le-ltb place (length sheet) h) refl
 
--- A GOOD SHEET'S COMMANDS, of each of which P holds
-pub data Good (P : Command → Type 0) : Known → List Command → Type 0 where
-  ending : {k : Known} → faultOf k END ≡ none → Good P k (END ∷ [])
-  going : {k : Known} {c : Command} {l : List Command} → faultOf k c ≡ none → end? c ≡ false → P c → Good P (after k c) l → Good P k (c ∷ l)
+-- AN ACCEPTED SHEET'S COMMANDS from a place on, with what is known there
+pub data ReadFrom (sheet : List ℕ) : ℕ → Known → List Command → Type 0 where
+  lastly : {place next : ℕ} {k : Known} → FoundAt sheet place END next → length sheet ≤ next → faultOf k END ≡ none → ReadFrom sheet place k (END ∷ [])
+  firstly : {place next : ℕ} {k : Known} {c : Command} {l : List Command} → FoundAt sheet place c next → faultOf k c ≡ none → end? c ≡ false
+      → ReadFrom sheet next (after k c) l → ReadFrom sheet place k (c ∷ l)
 
-module _ (sheet : List ℕ) (P : Command → Type 0) (holds : (place : ℕ) (c : Command) (next : ℕ) → FoundAt sheet place c next → P c) where
+module _ (sheet : List ℕ) where
   not-accepted : {f : Refusal} {place : ℕ} → {A : Type 0} → turnedDown f place ≡ accepted → A
   not-accepted e = impossible (cc)
 
   -- what the reading goes on to, from place and Known
   Onward : ℕ → Type 0
-  Onward n = (f place : ℕ) (k : Known) → verdictFrom n sheet place k ≡ accepted → length sheet ≤ place + f → Good P k (commandsFrom f sheet place)
+  Onward n = (f place : ℕ) (k : Known) → verdictFrom n sheet place k ≡ accepted → length sheet ≤ place + f
+      → ReadFrom sheet place k (commandsFrom f sheet place)
 
-  end-good : (f next : ℕ) (k : Known) → faultOf k END ≡ none → (b : Bool) → ltb next (length sheet) ≡ b → atEnd b next ≡ accepted
-      → Good P k (END ∷ commandsFrom f sheet next)
+  end-read : (f place next : ℕ) (k : Known) → FoundAt sheet place END next → faultOf k END ≡ none → (b : Bool) → ltb next (length sheet) ≡ b
+      → atEnd b next ≡ accepted → ReadFrom sheet place k (END ∷ commandsFrom f sheet next)
   unfolding atEnd
-  end-good f next k q true e a = not-accepted a
-  end-good f next k q false e a =
-      subst (λ (l : List Command). Good P k (END ∷ l)) (sym (none-past sheet next (ltb-false next (length sheet) e) f)) (ending q)
+  end-read f place next k at q true e a = not-accepted a
+  end-read f place next k at q false e a =
+      let past = ltb-false next (length sheet) e in
+      subst (λ (l : List Command). ReadFrom sheet place k (END ∷ l)) (sym (none-past sheet next past f)) (lastly at past q)
 
   end-step : (n : ℕ) → Onward n → (f place next : ℕ) (c : Command) (k : Known) → FoundAt sheet place c next → length sheet ≤ next + f
       → faultOf k c ≡ none → (b : Bool) → end? c ≡ b → judgeEnd (verdictFrom n sheet) sheet k c next b ≡ accepted
-      → Good P k (c ∷ commandsFrom f sheet next)
+      → ReadFrom sheet place k (c ∷ commandsFrom f sheet next)
   unfolding judgeEnd Onward
   end-step n on f place next c k at h q true e a =
       let s = is-end c e in
-      subst (λ (z : Command). Good P k (z ∷ commandsFrom f sheet next)) (sym s) (end-good f next k (rw s at q) (ltb next (length sheet)) refl a)
-  end-step n on f place next c k at h q false e a = going q e (holds place c next at) (on f next (after k c) a h)
+      subst (λ (z : Command). ReadFrom sheet place k (z ∷ commandsFrom f sheet next)) (sym s)
+      (end-read f place next k (rw s at at) (rw s at q) (ltb next (length sheet)) refl a)
+  end-step n on f place next c k at h q false e a = firstly at q e (on f next (after k c) a h)
 
   fault-step : (n : ℕ) → Onward n → (f place next : ℕ) (c : Command) (k : Known) → FoundAt sheet place c next → length sheet ≤ next + f
       → (o : Option Refusal) → faultOf k c ≡ o → judgeFault (verdictFrom n sheet) sheet place k c next o ≡ accepted
-      → Good P k (c ∷ commandsFrom f sheet next)
+      → ReadFrom sheet place k (c ∷ commandsFrom f sheet next)
   unfolding judgeFault
   fault-step n on f place next c k at h (some r) q a = not-accepted a
   fault-step n on f place next c k at h none q a = end-step n on f place next c k at h q (end? c) refl a
 
   -- a command takes one byte at least
   found-step : (n : ℕ) → Onward n → (f place : ℕ) (k : Known) → length sheet ≤ place + f → (o : Found) → commandAt sheet place ≡ o
-      → judge (verdictFrom n sheet) sheet place k o ≡ accepted → Good P k (commandsFrom f sheet place)
+      → judge (verdictFrom n sheet) sheet place k o ≡ accepted → ReadFrom sheet place k (commandsFrom f sheet place)
   unfolding judge commandsFrom
   found-step n on f place k h (refused r p) e a = not-accepted a
   found-step n on zero place k h (found c next) e a = let w = found-at sheet place e in absurd (omega (arith, w .onward, w .whole))
@@ -100,11 +104,24 @@ module _ (sheet : List ℕ) (P : Command → Type 0) (holds : (place : ℕ) (c :
       let w = found-at sheet place e in
       rw e (fault-step n on f place next c k w (omega (arith, w .onward)) (faultOf k c) refl a)
 
-  good-from : (n : ℕ) → Onward n
+  read-from : (n : ℕ) → Onward n
   unfolding verdictFrom Onward
-  good-from zero f place k a h = not-accepted a
-  good-from (suc n) f place k a h = found-step n (good-from n) f place k h (commandAt sheet place) refl a
+  read-from zero f place k a h = not-accepted a
+  read-from (suc n) f place k a h = found-step n (read-from n) f place k h (commandAt sheet place) refl a
+
+  pub read-all : verdict sheet ≡ accepted → ReadFrom sheet 0 nothingKnown (commandsFrom (length sheet) sheet 0)
+  unfolding verdict Onward
+  read-all a = read-from (suc (length sheet)) (length sheet) 0 nothingKnown a (omega arith)
+
+-- GOOD COMMANDS, of each of which P holds
+pub data Good (P : Command → Type 0) : Known → List Command → Type 0 where
+  ending : {k : Known} → faultOf k END ≡ none → Good P k (END ∷ [])
+  going : {k : Known} {c : Command} {l : List Command} → faultOf k c ≡ none → end? c ≡ false → P c → Good P (after k c) l → Good P k (c ∷ l)
+
+module _ (sheet : List ℕ) (P : Command → Type 0) (holds : (place : ℕ) (c : Command) (next : ℕ) → FoundAt sheet place c next → P c) where
+  pub read-good : {place : ℕ} {k : Known} {l : List Command} → ReadFrom sheet place k l → Good P k l
+  read-good (lastly at past q) = ending q
+  read-good {place} (firstly {next = next} {c = c} at q e r) = going q e (holds place c next at) (read-good r)
 
   pub good : verdict sheet ≡ accepted → Good P nothingKnown (commandsFrom (length sheet) sheet 0)
-  unfolding verdict Onward
-  good a = good-from (suc (length sheet)) (length sheet) 0 nothingKnown a (omega arith)
+  good a = read-good (read-all sheet a)

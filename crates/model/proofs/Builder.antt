@@ -1,0 +1,3 @@
+-- The story of calls of the sheet builder (`story` in Builder/Story.antt).
+pub mod Calls
+pub mod Story

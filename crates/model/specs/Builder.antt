@@ -1,0 +1,109 @@
+-- The sheet builder: commands are handed over one after another, and each is judged as the reader would judge it at that place.
+use Prim.Native.Nat.{ℕ, zero, suc, _+_, _<_, _≤_}
+use mathlib.Core.Path.{_≡_}
+use mathlib.Core.Logic.{_↔_}
+use mathlib.Core.Bool.{Bool, true, false}
+use mathlib.Core.List.{List, [], _∷_, _++_}
+use mathlib.Core.Option.{Option, none, some}
+use lib.Dec.{leb}
+use lib.ListN.{length, getD, take, drop}
+use Rattle.model.specs.Refusal.{Refusal, noCommand, byteAfterEnd, bufferFull, number}
+use Rattle.model.specs.Command.{Command}
+use Rattle.model.specs.Fault.{Known, nothingKnown, faultOf}
+use Rattle.model.specs.Sheet.{after, end?, accepted, turnedDown, verdict, commandsAt}
+use Rattle.model.specs.Encoding.{encode, encodeAll, ValuesFit, OperandsFit}
+
+-- what the last call left beside the buffer: what the reader knows after the filled part, its length, and whether END is taken
+pub record BuilderState : Type 0 where
+  pub known : Known
+  pub filled : ℕ
+  pub ended : Bool
+
+abbrev pub nothingFilled : BuilderState
+nothingFilled = record { known = nothingKnown; filled = 0; ended = false }
+
+-- THE ANSWER. A command that is taken has number 0, and its place is the length that is then filled.
+pub record Composed : Type 0 where
+  pub number : ℕ
+  pub place : ℕ
+  pub state : BuilderState
+  pub buffer : List ℕ
+
+-- a refusal, at the filled length, changes neither state nor buffer
+abbrev pub declined : Refusal → BuilderState → List ℕ → Composed
+declined f s b = record { number = number f; place = s .filled; state = s; buffer = b }
+
+-- the bytes of the buffer from a place on are these, the others as before
+unfoldable pub overwrite : List ℕ → ℕ → List ℕ → List ℕ
+overwrite b place bytes = take place b ++ bytes ++ drop (place + length bytes) b
+
+unfoldable pub taken : BuilderState → List ℕ → Command → Composed
+unfolding encode after overwrite
+taken s b c =
+    let next : ℕ = s .filled + length (encode c) in
+    record {
+      number = 0;
+      place = next;
+      state = record { known = after (s .known) c; filled = next; ended = end? c };
+      buffer = overwrite b (s .filled) (encode c);
+    }
+
+-- 11: fewer bytes are free than the command has
+unfoldable pub composeFree : Bool → BuilderState → List ℕ → Command → Composed
+unfolding taken
+composeFree true s b c = taken s b c
+composeFree false s b c = declined bufferFull s b
+
+-- the reader's faults
+unfoldable pub composeJudged : Option Refusal → BuilderState → List ℕ → Command → Composed
+unfolding composeFree encode
+composeJudged (some f) s b c = declined f s b
+composeJudged none s b c = composeFree (leb (s .filled + length (encode c)) (length b)) s b c
+
+-- 3: a byte follows END
+unfoldable pub composeAfter : Bool → BuilderState → List ℕ → Command → Composed
+unfolding composeJudged faultOf
+composeAfter true s b c = declined byteAfterEnd s b
+composeAfter false s b c = composeJudged (faultOf (s .known) c) s b c
+
+-- one more command
+unfoldable pub compose : BuilderState → List ℕ → Command → Composed
+unfolding composeAfter
+compose s b c = composeAfter (s .ended) s b c
+
+-- THE STORY of calls from nothing filled: the commands taken so far, the state and the buffer that is left
+pub data Calls (b : List ℕ) : List Command → BuilderState → List ℕ → Type 0 where
+  start : Calls b [] nothingFilled b
+  takes : {l : List Command} {s : BuilderState} {x : List ℕ} (c : Command) → Calls b l s x → ValuesFit c → compose s x c .number ≡ 0
+      → Calls b (l ++ (c ∷ [])) (compose s x c .state) (compose s x c .buffer)
+  declines : {l : List Command} {s : BuilderState} {x : List ℕ} {n : ℕ} (c : Command) → Calls b l s x → compose s x c .number ≡ suc n
+      → Calls b l (compose s x c .state) (compose s x c .buffer)
+
+-- the filled part
+abbrev pub filledPart : BuilderState → List ℕ → List ℕ
+filledPart s x = take (s .filled) x
+
+-- a whole sheet is composed by these commands
+pub record ComposedBy (b : List ℕ) (l : List Command) (sheet : List ℕ) : Type 0 where
+  pub state : BuilderState
+  pub buffer : List ℕ
+  pub calls : Calls b l state buffer
+  pub ended : state .ended ≡ true
+  pub filled : filledPart state buffer ≡ sheet
+
+pub record Story : Type 0 where
+  -- the filled part is the bytes of the commands taken, what lies past it is as it was
+  pub filled : {b x : List ℕ} {l : List Command} {s : BuilderState} → Calls b l s x → filledPart s x ≡ encodeAll l
+  pub past : {b x : List ℕ} {l : List Command} {s : BuilderState} → Calls b l s x → drop (s .filled) x ≡ drop (s .filled) b
+  -- a command whose operands fit is turned down with the reader's number and place, whatever would follow it
+  pub reader : {b x : List ℕ} {l : List Command} {s : BuilderState} → Calls b l s x → (c : Command) → OperandsFit c → (f : Refusal) → number f < 11
+      → (rest : List ℕ) → compose s x c .number ≡ number f ↔ verdict (filledPart s x ++ encode c ++ rest) ≡ turnedDown f (s .filled)
+  -- after END the filled part is a sheet that the reader accepts and hands out again as the same commands
+  pub sheet : {b x : List ℕ} {l : List Command} {s : BuilderState} → Calls b l s x → s .ended ≡ true
+      → (verdict (filledPart s x) ≡ accepted) × (commandsAt (filledPart s x) 0 ≡ l)
+  -- every accepted sheet that fits the buffer is composed by the commands that the reader hands out
+  pub every : (b sheet : List ℕ) → ((i : ℕ) → getD sheet i 0 < 256) → verdict sheet ≡ accepted → length sheet ≤ length b
+      → ComposedBy b (commandsAt sheet 0) sheet
+  -- equal bytes come from equal commands
+  pub once : {b x b′ x′ : List ℕ} {l l′ : List Command} {s s′ : BuilderState} → Calls b l s x → Calls b′ l′ s′ x′
+      → filledPart s x ≡ filledPart s′ x′ → l ≡ l′
