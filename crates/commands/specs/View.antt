@@ -5,7 +5,7 @@ use Rattle.model.specs.Refusal as R
 use Rattle.model.specs.Command as M
 use Rattle.commands.specs.declared.Refusal.{Refusal}
 use Rattle.commands.specs.declared.Refusal.the-variants.{NoCommand, CutShort, ByteAfterEnd, Misplaced, CeilingPassed}
-use Rattle.commands.specs.declared.Refusal.the-variants.{OutOfRange, WordRepeated, ReleasesNotRising, LimitTooHigh, BufferTooShort}
+use Rattle.commands.specs.declared.Refusal.the-variants.{OutOfRange, WordRepeated, ReleasesNotRising, LimitTooHigh, BufferTooShort, BufferFull}
 use Rattle.commands.specs.declared.Release.{Release}
 use Rattle.commands.specs.declared.Access.{Access}
 use Rattle.commands.specs.declared.Access.the-variants.{Get, Put}
@@ -31,6 +31,7 @@ viewRefusal WordRepeated = R.wordRepeated
 viewRefusal ReleasesNotRising = R.releasesNotRising
 viewRefusal LimitTooHigh = R.limitTooHigh
 viewRefusal BufferTooShort = R.bufferTooShort
+viewRefusal BufferFull = R.bufferFull
 
 abbrev pub viewRelease : Release → M.Release
 viewRelease r = record { tick = r .tick; task = r .task }

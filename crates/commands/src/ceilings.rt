@@ -14,6 +14,9 @@ impl SheetCeilings {
 
     pub const LAST_VERSION: u32 = 16777215;
 
+    // Two bytes hold a release's tick.
+    pub const LAST_TICK: u32 = 65535;
+
     // Each block has exactly as many values.
     pub const BLOCK_VALUES: usize = 8;
 }

@@ -68,6 +68,7 @@ pub enum Refusal {
     ReleasesNotRising,
     LimitTooHigh,
     BufferTooShort,
+    BufferFull,
 }
 
 pub struct Fault {
@@ -87,7 +88,7 @@ pub enum Decoded {
     Refused(Fault),
 }
 
-// Document 01's number of a refusal.
+// The number of a refusal in documents 01 and 02.
 pub fn number(f: Refusal) -> u8
     ensures { λ r. ⌜ r ≡ number (viewRefusal f) ⌝ }
 {
@@ -102,6 +103,7 @@ pub fn number(f: Refusal) -> u8
         Refusal::ReleasesNotRising => 8,
         Refusal::LimitTooHigh => 9,
         Refusal::BufferTooShort => 10,
+        Refusal::BufferFull => 11,
     }
 }
 

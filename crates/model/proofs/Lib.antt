@@ -32,3 +32,5 @@ pub mod Waiting
 pub mod Drops
 -- lost attempts (`lost-attempts` in LostAttempts/Theorem.antt)
 pub mod LostAttempts
+-- well-formed sheets (`good-written` in WellFormed/Written.antt, `rules-good` in WellFormed/Sections.antt)
+pub mod WellFormed

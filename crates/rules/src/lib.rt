@@ -183,7 +183,7 @@ fn in_range(n: SheetCounts, c: Command) -> bool
 {
     match c {
         Command::Block(version) => version <= SheetCeilings::LAST_VERSION,
-        Command::Release(r) => r.task < n.tasks,
+        Command::Release(r) => both(r.tick <= SheetCeilings::LAST_TICK, r.task < n.tasks),
         Command::Body(b) => in_range_body(n, b),
         _ => true,
     }

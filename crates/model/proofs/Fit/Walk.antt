@@ -72,7 +72,7 @@ block-step k b d q v f =
 
 -- BODIES
 -- a command of an open body
-body-section : (k : Known) (c : BodyCommand) → inPlaceBody k c ≡ true → body? (k .section) ≡ true
+pub body-section : (k : Known) (c : BodyCommand) → inPlaceBody k c ≡ true → body? (k .section) ≡ true
 unfolding inPlaceBody
 body-section k (LOAD r v) e = e
 body-section k (ADD r q) e = e

@@ -29,6 +29,9 @@ enum-known-c c = search needs
 enum-known-c-2 : tie.Need-enum-known-c-2
 enum-known-c-2 c = search needs
 
+both-requires : tie.Need-both-requires
+both-requires c κs = search needs
+
 enum-known-c-3 : tie.Need-enum-known-c-3
 enum-known-c-3 c = search needs
 
@@ -41,7 +44,7 @@ returns c = rw (c .before .c .given .1)
 
 returns-2 : tie.Need-returns-2
 unfolding inRange
-returns-2 c = rw (c .before .before .before .c2 .given .1)
+returns-2 c = rw (c .before .before .before .before .before .c2 .given .1) (c .both .ensures)
 
 returns-3 : tie.Need-returns-3
 unfolding inRange
@@ -56,6 +59,7 @@ in-range-spec =
     (tie.spec
     enum-known-c
     enum-known-c-2
+    both-requires
     enum-known-c-3
     in-range-body-requires
     returns
