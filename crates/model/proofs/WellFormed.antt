@@ -6,3 +6,5 @@ pub mod Written
 -- a well-formed sheet is read without fault (`rules-good`)
 pub mod Bodies
 pub mod Sections
+-- a sheet is accepted exactly when it is well formed
+pub mod Theorem

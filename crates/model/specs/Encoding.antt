@@ -8,7 +8,7 @@ use Rattle.model.specs.Ceilings.{valueRange, blockValues}
 use Rattle.model.specs.Command.{GET, PUT, READ, PAIR, SWAP, BEGIN, access, COMMIT, LOAD, ADD, outside, inside}
 use Rattle.model.specs.Command.{Command, WORD, BLOCK, TASK, RELEASE, END, body, Row, table, rowOf}
 
-unfoldable pub byteOf : Command → ℕ
+abbrev pub byteOf : Command → ℕ
 byteOf (WORD v) = 0x01
 byteOf (BLOCK b) = 0x02
 byteOf TASK = 0x03
@@ -24,7 +24,7 @@ byteOf (body (inside (access (GET r b o)))) = 0x21
 byteOf (body (inside (access (PUT b o r)))) = 0x22
 byteOf (body (inside COMMIT)) = 0x23
 
-unfoldable pub operandsOf : Command → List ℕ
+abbrev pub operandsOf : Command → List ℕ
 operandsOf (WORD v) = v ∷ []
 operandsOf (BLOCK b) = b .version ∷ b .values
 operandsOf TASK = []
@@ -46,7 +46,7 @@ widthsFrom (some r) = r .widths
 
 -- the widths that the table gives the command's operands
 unfoldable pub widthsOf : Command → List ℕ
-unfolding byteOf widthsFrom rowOf table
+unfolding widthsFrom rowOf table
 widthsOf c = widthsFrom (rowOf (byteOf c) table)
 
 -- a number in w bytes, big-endian
@@ -61,7 +61,7 @@ operandBytes (w ∷ ws) [] = []
 operandBytes (w ∷ ws) (v ∷ vs) = bytesOf w v ++ operandBytes ws vs
 
 unfoldable pub encode : Command → List ℕ
-unfolding byteOf operandsOf widthsOf operandBytes
+unfolding widthsOf operandBytes
 encode c = byteOf c ∷ operandBytes (widthsOf c) (operandsOf c)
 
 unfoldable pub encodeAll : List Command → List ℕ
