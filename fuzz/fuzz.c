@@ -1,97 +1,35 @@
-/* Fuzz harness of the proved library: any bytes become a sheet, a limit and a report buffer, and what both entries answer is
+/* Fuzz harness of the check and the run: any bytes become a sheet, a limit and a report buffer, and what both entries answer is
  * held to what the header promises and to the second simulator.
  *
- * Input: limit (2 bytes), flags (1), buffer length (2), then the sheet. The library itself is not instrumented, so its buffers lie
- * against pages that may not be touched: at the page after them, or with the flags' bits 2 and 3 at the page before them. */
-#include <stdint.h>
-#include <stdio.h>
-#include <stdlib.h>
+ * Input: limit (2 bytes), flags (1), buffer length (2), then the sheet. With the flags' bits 2 and 3 sheet and report lie at the page
+ * before them, else at the page after them. */
 #include <string.h>
-#include <sys/mman.h>
+#include "area.h"
+#include "commands.h"
 #include "hizgrael.h"
 
 uint8_t second_check(const uint8_t *sheet, size_t sheet_length, uint64_t *place);
 uint8_t second_run(const uint8_t *sheet, size_t sheet_length, uint64_t limit,
                    uint8_t *report, size_t report_length, uint64_t *place);
 
-#define PAGE 4096u
-#define AREA (4u * PAGE)
-#define HEADER 5u
 #define TOP_LIMIT 65535u
+
+const size_t input_header = 5, input_prefix = 0;
 
 enum { ABOVE_TOP = 1, FAR_ABOVE_TOP = 2, SHEET_AT_START = 4, REPORT_AT_START = 8 };
 
-/* Bytes that the library may use, between two pages that nobody may. */
-struct area {
-    uint8_t *start;
-};
-
-/* An answer, with bytes around the place that must stay. */
-struct answer {
-    uint64_t before;
-    uint64_t place;
-    uint64_t after;
-    uint8_t number;
-};
-
-static const struct answer no_answer = {0x1122334455667788u, 0xA5A5A5A5A5A5A5A5u, 0x8877665544332211u, 0xFF};
-
-#define EXPECT(claim) \
-    do { \
-        if (!(claim)) { \
-            fprintf(stderr, "fuzz.c:%d: not so: %s\n", __LINE__, #claim); \
-            abort(); \
-        } \
-    } while (0)
-
-static struct area new_area(void)
-{
-    struct area area;
-    uint8_t *pages = mmap(NULL, AREA + 2 * PAGE, PROT_NONE, MAP_PRIVATE | MAP_ANONYMOUS, -1, 0);
-    EXPECT(pages != MAP_FAILED);
-    area.start = pages + PAGE;
-    EXPECT(mprotect(area.start, AREA, PROT_READ | PROT_WRITE) == 0);
-    return area;
-}
-
-static uint8_t *place_in(struct area area, size_t length, int at_start)
-{
-    return at_start ? area.start : area.start + AREA - length;
-}
-
-/* No two neighbours are the same, so that a shifted write shows. */
-static uint8_t filled(size_t i)
-{
-    return (uint8_t)(i * 31u + 7u);
-}
-
-static void fill(struct area area)
-{
-    for (size_t i = 0; i < AREA; i++)
-        area.start[i] = filled(i);
-}
-
-static void expect_filled(struct area area, const uint8_t *from, const uint8_t *to)
-{
-    for (const uint8_t *at = from; at < to; at++)
-        EXPECT(*at == filled((size_t)(at - area.start)));
-}
-
 static uint64_t by_number[HIZGRAEL_BUFFER_TOO_SHORT + 1];
 
-static void print_counts(void)
+static void print_runs(void)
 {
-    fprintf(stderr, "runs by number, from 0:");
-    for (size_t i = 0; i <= HIZGRAEL_BUFFER_TOO_SHORT; i++)
-        fprintf(stderr, " %llu", (unsigned long long)by_number[i]);
-    fprintf(stderr, "\n");
+    print_counts("runs", by_number, sizeof by_number / sizeof *by_number);
 }
 
 static struct answer check_sheet(const uint8_t *sheet, size_t length)
 {
     struct answer answer = no_answer, other = no_answer;
     answer.number = hizgrael_check(sheet, length, &answer.place);
-    EXPECT(answer.before == no_answer.before && answer.after == no_answer.after);
+    expect_kept(&answer);
     EXPECT(answer.number <= HIZGRAEL_RELEASES_NOT_RISING);
     EXPECT(answer.number == 0 ? answer.place == 0 : answer.place <= length);
     EXPECT(answer.place < length || answer.number == 0 || answer.number == HIZGRAEL_CUT_SHORT);
@@ -113,7 +51,7 @@ static struct answer run_sheet(const uint8_t *sheet, size_t length, uint64_t lim
     size_t written;
     fill(area);
     answer.number = hizgrael_run(sheet, length, limit, report, report_length, &answer.place);
-    EXPECT(answer.before == no_answer.before && answer.after == no_answer.after);
+    expect_kept(&answer);
     EXPECT(answer.number <= HIZGRAEL_BUFFER_TOO_SHORT);
     if (answer.number == HIZGRAEL_ACCEPTED)
         EXPECT(answer.place <= report_length && answer.place <= HIZGRAEL_LONGEST_REPORT);
@@ -137,9 +75,9 @@ int LLVMFuzzerTestOneInput(const uint8_t *data, size_t size)
         sheets = new_area();
         reports = new_area();
         others = new_area();
-        atexit(print_counts);
+        atexit(print_runs);
     }
-    if (size < HEADER || size - HEADER > AREA)
+    if (size < input_header || size - input_header > AREA)
         return 0;
     limit = (uint64_t)data[0] << 8 | data[1];
     flags = data[2];
@@ -149,9 +87,9 @@ int LLVMFuzzerTestOneInput(const uint8_t *data, size_t size)
         limit = UINT64_MAX - limit;
     report_length = ((size_t)data[3] << 8 | data[4]) % PAGE;
     at_start = (flags & REPORT_AT_START) != 0;
-    length = size - HEADER;
+    length = size - input_header;
     sheet = place_in(sheets, length, flags & SHEET_AT_START);
-    memcpy(sheet, data + HEADER, length);
+    memcpy(sheet, data + input_header, length);
 
     checked = check_sheet(sheet, length);
     answer = run_sheet(sheet, length, limit, reports, report_length, at_start);
@@ -181,23 +119,6 @@ int LLVMFuzzerTestOneInput(const uint8_t *data, size_t size)
         again = run_sheet(sheet, length, limit, reports, needed - 1, at_start);
         EXPECT(again.number == HIZGRAEL_BUFFER_TOO_SHORT && again.place == needed);
     }
-    EXPECT(memcmp(sheet, data + HEADER, length) == 0);
+    EXPECT(memcmp(sheet, data + input_header, length) == 0);
     return 0;
 }
-
-#ifdef REPLAY
-/* Without libFuzzer: each file named is one input. */
-int main(int count, char **names)
-{
-    static uint8_t data[HEADER + AREA];
-    for (int i = 1; i < count; i++) {
-        FILE *file = fopen(names[i], "rb");
-        EXPECT(file != NULL);
-        size_t size = fread(data, 1, sizeof data, file);
-        fclose(file);
-        LLVMFuzzerTestOneInput(data, size);
-    }
-    printf("%d inputs, every answer as promised\n", count - 1);
-    return count > 1 ? 0 : 1;
-}
-#endif

@@ -1,17 +1,11 @@
 /* Mutates sheets command by command, so that many stay well formed; one time in four any bytes. */
-#include <stdint.h>
 #include <stdlib.h>
 #include <string.h>
+#include "commands.h"
 
 size_t LLVMFuzzerMutate(uint8_t *data, size_t size, size_t max_size);
 
-#define HEADER 5u
 #define MOST 4096
-
-static const uint8_t WIDTHS[14][2] = {
-    {0x01, 4}, {0x02, 36}, {0x03, 0}, {0x04, 3}, {0x05, 0}, {0x10, 5}, {0x11, 2},
-    {0x12, 2}, {0x13, 3}, {0x14, 1}, {0x20, 0}, {0x21, 3}, {0x22, 3}, {0x23, 0},
-};
 
 static unsigned state;
 
@@ -24,15 +18,13 @@ static size_t below(size_t bound)
 /* Where the commands start, up to the first that is none or is cut; starts[count] is where they end. */
 static size_t find_commands(const uint8_t *data, size_t size, size_t *starts)
 {
-    size_t count = 0, at = HEADER;
+    size_t count = 0, at = input_header;
     starts[0] = at;
-    while (at < size && count < MOST) {
-        size_t row = 0;
-        while (row < 14 && WIDTHS[row][0] != data[at])
-            row++;
-        if (row == 14 || size - at < 1u + WIDTHS[row][1])
+    while (at + input_prefix < size && count < MOST) {
+        const struct command *command = command_of(data[at + input_prefix]);
+        if (command == NULL || size - at < input_prefix + length_of(command))
             break;
-        at += 1u + WIDTHS[row][1];
+        at += input_prefix + length_of(command);
         starts[++count] = at;
     }
     return count;
@@ -58,7 +50,7 @@ static void shift_releases(uint8_t *data, const size_t *starts, size_t count, si
 {
     unsigned by = (unsigned)below(33) - 16u;
     for (size_t i = first; i < count; i++) {
-        uint8_t *release = data + starts[i];
+        uint8_t *release = data + starts[i] + input_prefix;
         if (release[0] == 0x04) {
             unsigned tick = ((unsigned)release[1] << 8 | release[2]) + by;
             release[1] = (uint8_t)(tick >> 8);
@@ -72,18 +64,18 @@ size_t LLVMFuzzerCustomMutator(uint8_t *data, size_t size, size_t max_size, unsi
     static size_t starts[MOST + 1];
     size_t count, one, other, start, length;
     state = seed;
-    count = size < HEADER ? 0 : find_commands(data, size, starts);
+    count = size < input_header ? 0 : find_commands(data, size, starts);
     if (count == 0 || below(4) == 0)
         return LLVMFuzzerMutate(data, size, max_size);
     one = below(count);
     other = below(count);
     start = starts[one];
     length = starts[one + 1] - start;
-    switch (below(6)) {
+    switch (below(input_prefix > 0 ? 7 : 6)) {
     case 0: /* an operand becomes a small number */
     case 1:
-        if (length > 1)
-            data[start + 1 + below(length - 1)] = (uint8_t)below(9);
+        if (length > input_prefix + 1)
+            data[start + input_prefix + 1 + below(length - input_prefix - 1)] = (uint8_t)below(9);
         return size;
     case 2: /* a command stands again before another */
         return size + length <= max_size ? insert(data, size, starts[other], data + start, length) : size;
@@ -92,8 +84,11 @@ size_t LLVMFuzzerCustomMutator(uint8_t *data, size_t size, size_t max_size, unsi
     case 4:
         shift_releases(data, starts, count, one);
         return size;
-    default: /* another limit or buffer length */
-        data[below(HEADER)] = (uint8_t)below(256);
+    case 6: /* another byte before the command */
+        data[start + below(input_prefix)] = (uint8_t)below(256);
+        return size;
+    default: /* another limit, buffer length or whatever else comes first */
+        data[below(input_header)] = (uint8_t)below(256);
         return size;
     }
 }

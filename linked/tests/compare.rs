@@ -4,18 +4,14 @@
 
 #[path = "../../simulator/tests/common/mod.rs"]
 mod common;
+mod shared;
 
 use common::{report, report_of_sheet_a, sheet_a_with, task_lines, TaskLine};
-use simulator::builder::*;
+use shared::{setting, CASES};
 use simulator::contention::Style;
 use simulator::generator::{case, valid_sheet, SEED};
 use simulator::random::Random;
-
-const CASES: u64 = 24_000;
-
-fn setting(name: &str, otherwise: u64) -> u64 {
-    std::env::var(name).map_or(otherwise, |text| text.parse().expect("a decimal number"))
-}
+use simulator::write::*;
 
 fn compare(seed: u64, index: u64) -> u8 {
     let case = case(seed, index);

@@ -1,12 +1,12 @@
 //! Releases that fall inside attempts of transactions, so that attempts are lost, and right after one
 //! is lost.
 
-use crate::builder::{end, Bytes};
 use crate::bursts::{commands, Releases};
 use crate::observer::{Event, Observer, Statement};
 use crate::random::Random;
 use crate::run_observed;
 use crate::sheet::MAX_TASKS;
+use crate::write::{end, Bytes};
 
 /// The ticks that are looked through for transactions.
 const LOOKED_THROUGH: u64 = 2000;

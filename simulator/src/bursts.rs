@@ -2,10 +2,10 @@
 
 use std::collections::BTreeSet;
 
-use crate::builder::{end, release, Bytes};
 use crate::observer::Observer;
 use crate::random::Random;
 use crate::run_observed;
+use crate::write::{end, release, Bytes};
 
 /// The ticks that are looked through for the end of a job.
 const LOOKED_THROUGH: u64 = 2000;

@@ -1,11 +1,11 @@
 //! Valid sheets made by chance: few words and blocks, many tasks, releases inside operations.
 
 use crate::attempts;
-use crate::builder::*;
 use crate::bursts;
 use crate::history::History;
 use crate::random::Random;
 use crate::sheet::{MAX_COMMANDS, MAX_PAIRS, MAX_PUT, MAX_RELEASES, MAX_TASKS, TOP_VERSION};
+use crate::write::*;
 use crate::{run_observed, TOP_LIMIT};
 
 /// What the bodies of a sheet are made of.

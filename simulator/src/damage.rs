@@ -1,8 +1,8 @@
 //! Sheets that are turned down: cut, flipped and doubled bytes, passed ceilings, two faults at once.
 
-use crate::builder::*;
 use crate::contention::{self, Style};
 use crate::random::Random;
+use crate::write::*;
 
 use crate::sheet::{MAX_BLOCKS, MAX_COMMANDS, MAX_PAIRS, MAX_RELEASES, MAX_TASKS, MAX_WORDS, PAIR};
 

@@ -5,7 +5,7 @@ use crate::damage;
 use crate::machine::Machine;
 use crate::observer::{Event, Fate, Observer};
 use crate::random::Random;
-use crate::{builder, report, sheet, TOP_LIMIT};
+use crate::{report, sheet, write, TOP_LIMIT};
 
 /// The corpus that the tests use.
 pub const SEED: u64 = 0x4869_7A67_7261_656C;
@@ -116,7 +116,7 @@ fn in_turn(mut sheets: Vec<Vec<u8>>, round: u64) -> Vec<u8> {
 }
 
 pub fn valid_sheet(random: &mut Random, style: Style) -> Vec<u8> {
-    builder::sheet(&contention::commands(random, style))
+    write::sheet(&contention::commands(random, style))
 }
 
 #[derive(Default)]

@@ -1,16 +1,18 @@
-//! The second simulator of the exchange engine: document 01 and changes 1 to 3 of document 02 in plain
+//! The second simulator of the exchange engine: document 01 and changes 1 to 4 of document 02 in plain
 //! Rust, with no part shared.
 //!
-//! `sheet` reads a sheet, `machine` runs it with `releases`, `reading`, `exchange` and
-//! `transaction`, `report` prints the end. `history` observes a run; `plain` checks it as whole
-//! operations, `drops` and `lost` check the counts of dropped releases and of lost attempts.
+//! `sheet` reads a sheet, `builder` composes one, `machine` runs it with `releases`, `reading`,
+//! `exchange` and `transaction`, `report` prints the end. `history` observes a run; `plain` checks it
+//! as whole operations, `drops` and `lost` check the counts of dropped releases and of lost attempts.
 //! `generator` makes cases from `contention` (good sheets, with `bursts` of releases and releases
 //! inside `attempts`) and `damage` (bad ones); `coverage`, `waiting_coverage`, `drop_coverage` and
-//! `lost_coverage` count them.
+//! `lost_coverage` count them. `compositions` makes lists of commands for the builder. `write` is for
+//! sheets in the code of tests and generators.
 
 pub mod attempts;
 pub mod builder;
 pub mod bursts;
+pub mod compositions;
 pub mod contention;
 pub mod coverage;
 pub mod damage;
@@ -31,6 +33,7 @@ pub mod report;
 pub mod sheet;
 pub mod transaction;
 pub mod waiting_coverage;
+pub mod write;
 
 use machine::Machine;
 use observer::{NoObserver, Observer};

@@ -119,7 +119,7 @@ fn release_of(operands: &[u8]) -> Release {
     Release { tick: u16::from_be_bytes([operands[0], operands[1]]), task: operands[2] }
 }
 
-#[derive(Clone, Copy, Default, PartialEq, Eq, PartialOrd, Ord)]
+#[derive(Clone, Copy, Debug, Default, PartialEq, Eq, PartialOrd, Ord)]
 enum Section {
     #[default]
     Words,
@@ -129,8 +129,8 @@ enum Section {
 }
 
 /// The sheet so far, and what the commands so far allow next.
-#[derive(Default)]
-struct Parser {
+#[derive(Clone, Debug, Default)]
+pub(crate) struct Parser {
     sheet: Sheet,
     section: Section,
     /// The words of the PAIRs that wait for their SWAP.
@@ -142,7 +142,7 @@ struct Parser {
 
 impl Parser {
     /// The lowest number that turns the command down. Numbers 1 and 2 are ruled out before.
-    fn judge(&self, byte: u8, operands: &[u8]) -> Result<(), u8> {
+    pub(crate) fn judge(&self, byte: u8, operands: &[u8]) -> Result<(), u8> {
         if self.misplaced(byte) {
             Err(4)
         } else if self.passes_ceiling(byte, operands) {
@@ -229,7 +229,7 @@ impl Parser {
     }
 
     /// Takes in a command that was judged good.
-    fn take(&mut self, byte: u8, operands: &[u8]) {
+    pub(crate) fn take(&mut self, byte: u8, operands: &[u8]) {
         match (byte, operands) {
             (WORD, _) => self.sheet.words.push(big_endian(operands)),
             (BLOCK, _) => {

@@ -7,13 +7,13 @@
 mod common;
 
 use common::*;
-use simulator::builder::*;
 use simulator::contention::Style;
 use simulator::drops::drops_counted;
 use simulator::generator::{case, valid_sheet, CASES, SEED};
 use simulator::history::run_with_history;
 use simulator::random::Random;
 use simulator::sheet::parse;
+use simulator::write::*;
 
 /// Task 0 and sheet A's task above it, with releases at these ticks.
 fn two_tasks(lower: &[u16], upper: &[u16]) -> Bytes {

@@ -9,7 +9,6 @@ use std::fs;
 use std::path::Path;
 
 use common::*;
-use simulator::builder::*;
 use simulator::contention::Style;
 use simulator::generator::{case, valid_sheet, CASES, SEED};
 use simulator::history::run_with_history;
@@ -17,6 +16,7 @@ use simulator::lost::lost_counted;
 use simulator::observer::Cause::{self, RejectedCommit, StaleVersion};
 use simulator::random::Random;
 use simulator::sheet::parse;
+use simulator::write::*;
 
 fn worked(name: &str) -> Bytes {
     let folder = Path::new(env!("CARGO_MANIFEST_DIR")).join("../examples/worked");

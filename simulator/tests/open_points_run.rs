@@ -3,7 +3,7 @@
 mod common;
 
 use common::*;
-use simulator::builder::*;
+use simulator::write::*;
 
 /// The job of sheet A ends in tick 11: a release before the next tick starts a job at once.
 #[test]

@@ -3,7 +3,7 @@
 mod common;
 
 use common::refusal;
-use simulator::builder::*;
+use simulator::write::*;
 use simulator::{check, damage};
 
 /// The commands before are good; the next one is turned down with this number, at its place.

@@ -7,10 +7,10 @@
 mod common;
 
 use common::*;
-use simulator::builder::*;
 use simulator::generator::{case, CASES, SEED};
 use simulator::history::{run_with_history, Arrived};
 use simulator::sheet::{parse, Release};
+use simulator::write::*;
 use simulator::TOP_LIMIT;
 
 /// The registers at the end of a job that answers no.

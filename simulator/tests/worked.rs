@@ -7,8 +7,8 @@ use std::fs;
 use std::path::Path;
 
 use common::*;
-use simulator::builder::*;
 use simulator::observer::NoObserver;
+use simulator::write::*;
 use simulator::{check, run, run_observed};
 
 fn bytes(hexadecimal: &str) -> Bytes {

@@ -36,59 +36,95 @@ impl fmt::Display for TextFault {
     }
 }
 
+/// A line of the text with a command, before it becomes bytes.
+#[derive(Clone, Debug, PartialEq, Eq)]
+pub struct Line {
+    /// From 1.
+    pub number: usize,
+    pub byte: u8,
+    /// As they are written; an operand may be too large for its bytes in the sheet.
+    pub operands: Vec<u32>,
+    /// The command of document 01; none for a bare byte.
+    pub row: Option<&'static Row>,
+}
+
+impl Line {
+    /// The bytes of the line in a sheet.
+    fn bytes(&self) -> Result<Vec<u8>, String> {
+        let mut bytes = vec![self.byte];
+        let Some(row) = self.row else { return Ok(bytes) };
+        for (&kind, &operand) in row.operands.iter().zip(&self.operands) {
+            if operand > kind.largest() {
+                return Err(format!("{}: {}", row.word, too_large(kind, &kind.written(operand))));
+            }
+            bytes.extend_from_slice(&operand.to_be_bytes()[4 - kind.width()..]);
+        }
+        Ok(bytes)
+    }
+}
+
+/// The lines with a command, one after another, up to the first that is none.
+pub fn lines(text: &str) -> impl Iterator<Item = Result<Line, TextFault>> + '_ {
+    let numbered = text.lines().enumerate().map(|(index, content)| (index + 1, content));
+    numbered.filter_map(|(number, content)| {
+        read_line(number, content).map_err(|reason| TextFault { line: number, reason }).transpose()
+    })
+}
+
 /// Encodes every line, or finds the first one at fault. Sheets that the check would refuse pass.
 pub fn encode(text: &str) -> Result<Encoded, TextFault> {
     let mut encoded = Encoded::default();
-    for (index, content) in text.lines().enumerate() {
-        let line = index + 1;
-        let bytes = encode_line(content).map_err(|reason| TextFault { line, reason })?;
-        if !bytes.is_empty() {
-            encoded.lines.push((encoded.bytes.len(), line));
-            encoded.bytes.extend(bytes);
-        }
+    for line in lines(text) {
+        let line = line?;
+        let bytes = line.bytes().map_err(|reason| TextFault { line: line.number, reason })?;
+        encoded.lines.push((encoded.bytes.len(), line.number));
+        encoded.bytes.extend(bytes);
     }
     Ok(encoded)
 }
 
 /// As `encode`, for text as it comes from a file.
 pub fn encode_utf8(text: &[u8]) -> Result<Encoded, TextFault> {
-    match std::str::from_utf8(text) {
-        Ok(text) => encode(text),
-        Err(error) => {
-            let before = &text[..error.valid_up_to()];
-            let line = 1 + before.iter().filter(|byte| **byte == b'\n').count();
-            Err(TextFault { line, reason: "the line is no UTF-8 text".to_string() })
-        }
-    }
+    encode(utf8(text)?)
 }
 
-fn encode_line(line: &str) -> Result<Vec<u8>, String> {
+/// The text of a file, or its first line that is none.
+pub fn utf8(text: &[u8]) -> Result<&str, TextFault> {
+    std::str::from_utf8(text).map_err(|error| {
+        let before = &text[..error.valid_up_to()];
+        let line = 1 + before.iter().filter(|byte| **byte == b'\n').count();
+        TextFault { line, reason: "the line is no UTF-8 text".to_string() }
+    })
+}
+
+fn read_line(number: usize, line: &str) -> Result<Option<Line>, String> {
     let content = line.split('#').next().unwrap_or_default();
     let mut parts = content.split_whitespace();
-    let Some(word) = parts.next() else { return Ok(Vec::new()) };
+    let Some(word) = parts.next() else { return Ok(None) };
     let operands: Vec<&str> = parts.collect();
     if word == BARE_BYTE {
-        return encode_operands(word, &[Operand::Byte], &operands);
+        let byte = read_operands(word, &[Operand::Byte], &operands)?[0];
+        let Ok(byte) = u8::try_from(byte) else {
+            return Err(format!("{word}: {}", too_large(Operand::Byte, operands[0])));
+        };
+        return Ok(Some(Line { number, byte, operands: Vec::new(), row: None }));
     }
-    let Some(&Row { byte, operands: kinds, .. }) = row_of_word(word) else {
+    let Some(row) = row_of_word(word) else {
         return Err(format!("'{word}' is no command"));
     };
-    let mut bytes = vec![byte];
-    bytes.extend(encode_operands(word, kinds, &operands)?);
-    Ok(bytes)
+    let operands = read_operands(word, row.operands, &operands)?;
+    Ok(Some(Line { number, byte: row.byte, operands, row: Some(row) }))
 }
 
-fn encode_operands(word: &str, kinds: &[Operand], operands: &[&str]) -> Result<Vec<u8>, String> {
+fn read_operands(word: &str, kinds: &[Operand], operands: &[&str]) -> Result<Vec<u32>, String> {
     if operands.len() != kinds.len() {
         let (wanted, given) = (kinds.len(), operands.len());
         return Err(format!("{word} takes {wanted} operand(s){}, not {given}", listed(kinds)));
     }
-    let mut bytes = Vec::new();
-    for (&kind, operand) in kinds.iter().zip(operands) {
-        let number = number_of(kind, operand).map_err(|reason| format!("{word}: {reason}"))?;
-        bytes.extend_from_slice(&number.to_be_bytes()[4 - kind.width()..]);
-    }
-    Ok(bytes)
+    let number = |(&kind, operand): (&Operand, &&str)| {
+        number_of(kind, operand).map_err(|reason| format!("{word}: {reason}"))
+    };
+    kinds.iter().zip(operands).map(number).collect()
 }
 
 fn listed(kinds: &[Operand]) -> String {
@@ -111,11 +147,10 @@ fn number_of(kind: Operand, operand: &str) -> Result<u32, String> {
             None => format!("'{operand}' is no decimal number ({})", kind.name()),
         });
     }
-    match digits.parse() {
-        Ok(number) if number <= kind.largest() => Ok(number),
-        _ => {
-            let largest = kind.written(kind.largest());
-            Err(format!("{operand} is too large for a {}, the largest is {largest}", kind.name()))
-        }
-    }
+    digits.parse().map_err(|_| too_large(kind, operand))
+}
+
+fn too_large(kind: Operand, operand: &str) -> String {
+    let largest = kind.written(kind.largest());
+    format!("{operand} is too large for a {}, the largest is {largest}", kind.name())
 }

@@ -55,17 +55,22 @@ pub fn reason(bytes: &[u8], refusal: Answer) -> String {
     if place == bytes.len() {
         return "the sheet ends before END".to_string();
     }
-    // The check took every command before the place, so they can be read.
-    let before = Before(commands(&bytes[..place]).unwrap_or_default());
     match command_at(bytes, place) {
         Err(fault) => fault.reason,
-        Ok(command) => match number {
-            4 => before.misplaced(&command),
-            5 => before.passes_ceiling(&command),
-            6 => before.out_of_range(&command),
-            7 => format!("w{} is already in the waiting PAIRs", command.operands[0]),
-            _ => before.does_not_rise(),
-        },
+        Ok(command) => reason_after(&bytes[..place], &command, number),
+    }
+}
+
+/// Why a command is turned down with a number from 4 to 8 after these bytes, which are good so far.
+pub fn reason_after(before: &[u8], command: &Command, number: u8) -> String {
+    // Every command before it was taken, so they can be read.
+    let before = Before(commands(before).unwrap_or_default());
+    match number {
+        4 => before.misplaced(command),
+        5 => before.passes_ceiling(command),
+        6 => before.out_of_range(command),
+        7 => format!("w{} is already in the waiting PAIRs", command.operands[0]),
+        _ => before.does_not_rise(),
     }
 }
 
@@ -161,6 +166,10 @@ impl Before {
             }
             Operand::Version if number > TOP_VERSION => {
                 Some(format!("version {written} is above {TOP_VERSION}"))
+            }
+            // Only the builder is handed such a tick.
+            Operand::Tick if number > kind.largest() => {
+                Some(format!("tick {written} is above {}", kind.largest()))
             }
             Operand::Word if beyond(self.count("WORD")) => Some(not_declared(kind, &written)),
             Operand::Block if beyond(self.count("BLOCK")) => Some(not_declared(kind, &written)),

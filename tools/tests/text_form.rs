@@ -1,10 +1,10 @@
 //! The text form: both directions, their refusals, and the round trip over the simulator's corpus.
 
-use simulator::builder::*;
 use simulator::check;
 use simulator::generator::{case, SEED};
+use simulator::write::*;
 use tools::decode::decode;
-use tools::encode::{encode, encode_utf8};
+use tools::encode::{encode, encode_utf8, lines, Line};
 use tools::form::TABLE;
 
 fn bytes_of(text: &str) -> Vec<u8> {
@@ -103,6 +103,18 @@ fn a_text_is_refused_with_its_line() {
     assert_eq!(fault_of("RELEASE 65536 t0"), format!("line 1: RELEASE: 65536 {reason}"));
     let fault = encode_utf8(b"WORD 1\nWORD \xFF").unwrap_err();
     assert_eq!(fault.to_string(), "line 2: the line is no UTF-8 text");
+}
+
+/// For the builder, which judges them itself.
+#[test]
+fn lines_have_operands_of_any_size() {
+    let read: Result<Vec<Line>, _> = lines("# a\nRELEASE 65536 t300\n\nBYTE 9\nEND").collect();
+    let found: Vec<_> =
+        read.unwrap().into_iter().map(|line| (line.number, line.byte, line.operands)).collect();
+    assert_eq!(found, [(2, 4, vec![65_536, 300]), (4, 9, vec![]), (5, 5, vec![])]);
+    // encode meets the first line at fault, whatever its fault is.
+    let reason = "is too large for a register, the largest is r255";
+    assert_eq!(fault_of("SWAP r256\nSWOP r0"), format!("line 1: SWAP: r256 {reason}"));
 }
 
 #[test]

@@ -117,14 +117,14 @@ module _ (vs : List ℕ) (eight : length vs ≡ 8) where
   unfolding widthsOf
   same-size c = ap (λ (b : ℕ). suc (total (widthsFrom (rowOf b table)))) (same-byte c)
 
-  pub operands-size : (c : Command) → suc (length (commandOperands (viewed c))) ≡ sizeOf (viewCommand [] c)
-  operands-size c = size-is (viewed c) (has-eight c) ∙ sym (same-size c)
+  pub operands-size : (c : Command) → suc (length (commandOperands (viewed c))) ≡ length (encode (viewed c))
+  operands-size c = sym (ap length (encode-is (viewed c) (has-eight c)))
 
   pub encode-size : (c : Command) → length (encode (viewed c)) ≡ sizeOf (viewCommand [] c)
-  encode-size c = ap length (encode-is (viewed c) (has-eight c)) ∙ operands-size c
+  encode-size c = ap length (encode-is (viewed c) (has-eight c)) ∙ size-is (viewed c) (has-eight c) ∙ sym (same-size c)
 
   -- the byte and the operands behind it
-  pub all-written : (c : Command) (b x y : List ℕ) (at : ℕ) → at + sizeOf (viewCommand [] c) ≤ length b
+  pub all-written : (c : Command) (b x y : List ℕ) (at : ℕ) → at + length (encode (viewed c)) ≤ length b
       → x ≡ sets b at (one (byteOf (viewCommand [] c))) → y ≡ sets x (at + 1) (commandOperands (viewed c))
       → y ≡ overwrite b at (encode (viewed c))
   unfolding overwrite
@@ -134,4 +134,4 @@ module _ (vs : List ℕ) (eight : length vs ≡ 8) where
       both-written (one (byteOf (viewCommand [] c))) (commandOperands (viewed c)) b x y at e f in
       let same : one (byteOf (viewCommand [] c)) ++ commandOperands (viewed c) ≡ encode (viewed c) =
       ap (λ (z : ℕ). one z ++ commandOperands (viewed c)) (same-byte c) ∙ sym text in
-      whole ∙ ap (λ (z : List ℕ). sets b at z) same ∙ sets-eq (encode (viewed c)) b at (omega (arith, h, encode-size c))
+      whole ∙ ap (λ (z : List ℕ). sets b at z) same ∙ sets-eq (encode (viewed c)) b at h

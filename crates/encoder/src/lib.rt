@@ -8,7 +8,7 @@ ghost use Rattle.model.specs.Command.{access, outside, inside, body};
 ghost use Rattle.model.specs.Encoding.{byteOf, encode};
 ghost use Rattle.model.specs.Builder.{overwrite};
 ghost use Rattle.commands.specs.View.{viewAccess, viewOutside, viewInside, viewBodyCommand, viewCommand};
-ghost use Rattle.encoder.specs.Operands.{sizeOf, one, two, four, fours};
+ghost use Rattle.encoder.specs.Operands.{one, two, four, fours};
 ghost use Rattle.encoder.specs.Operands.{outsideOperands, accessOperands, insideOperands, bodyOperands, commandOperands};
 use commands::Access;
 use commands::BodyCommand;
@@ -73,12 +73,14 @@ fn byte_of(c: Command) -> u8
 }
 
 // How many bytes the command has, by the table.
-pub fn size(c: Command) -> usize
-    ensures { λ r. ⌜ r ≡ sizeOf (viewCommand [] c) ⌝ }
+pub fn size(c: Command, values: [u32; SheetCeilings::BLOCK_VALUES]) -> usize
+    ensures { λ r. ⌜ r ≡ length (encode (viewCommand values c)) ⌝ }
 {
     let Named::By(e) = entry_of(byte_of(c)) else {
         return 1;
     };
+    // The proof learns an array's length from its slice.
+    let _eight: &[u32] = &values;
     1 + e.width as usize
 }
 
@@ -217,7 +219,7 @@ fn operands(buffer: &mut [u8], at: usize, c: Command, values: &[u32])
 
 // The bytes of a command, where the buffer has room for them.
 pub fn write(buffer: &mut [u8], at: usize, c: Command, values: [u32; SheetCeilings::BLOCK_VALUES])
-    requires { ⌜ at + sizeOf (viewCommand [] c) ≤ length (now buffer) ⌝ }
+    requires { ⌜ at + length (encode (viewCommand values c)) ≤ length (now buffer) ⌝ }
     ensures { λ r. ⌜ now (buffer .exit) ≡ overwrite (now (buffer .entry)) at (encode (viewCommand values c)) ⌝ }
 {
     put(&mut *buffer, at, byte_of(c));

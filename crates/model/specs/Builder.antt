@@ -1,5 +1,5 @@
 -- The sheet builder: commands are handed over one after another, and each is judged as the reader would judge it at that place.
-use Prim.Native.Nat.{ℕ, zero, suc, _+_, _<_, _≤_}
+use Prim.Native.Nat.{ℕ, zero, suc, _+_, min, _<_, _≤_}
 use mathlib.Core.Path.{_≡_}
 use mathlib.Core.Logic.{_↔_}
 use mathlib.Core.Bool.{Bool, true, false}
@@ -8,7 +8,7 @@ use mathlib.Core.Option.{Option, none, some}
 use lib.Dec.{leb}
 use lib.ListN.{length, getD, take, drop}
 use Rattle.model.specs.Refusal.{Refusal, noCommand, byteAfterEnd, bufferFull, number}
-use Rattle.model.specs.Command.{Command}
+use Rattle.model.specs.Command.{Command, Row, table, rowOf}
 use Rattle.model.specs.Fault.{Known, nothingKnown, faultOf}
 use Rattle.model.specs.Sheet.{after, end?, accepted, turnedDown, verdict, commandsAt}
 use Rattle.model.specs.Encoding.{encode, encodeAll, ValuesFit, OperandsFit}
@@ -70,6 +70,31 @@ composeAfter false s b c = composeJudged (faultOf (s .known) c) s b c
 unfoldable pub compose : BuilderState → List ℕ → Command → Composed
 unfolding composeAfter
 compose s b c = composeAfter (s .ended) s b c
+
+-- A COMMAND HANDED OVER by its byte and nine operands. One of a single byte that is above 255 counts as 255: no register, word, block, offset
+-- or task has that number either.
+abbrev pub narrowed : ℕ → ℕ → ℕ
+narrowed zero v = v
+narrowed (suc zero) v = min v 255
+narrowed (suc (suc w)) v = v
+
+unfoldable pub handedBy : Option Row → List ℕ → Option Command
+handedBy none operands = none
+handedBy (some r) operands = some (r .command (λ n. narrowed (getD (r .widths) n 0) (getD operands n 0)))
+
+unfoldable pub handed : ℕ → List ℕ → Option Command
+unfolding handedBy rowOf table
+handed byte operands = handedBy (rowOf byte table) operands
+
+-- 1: the byte names no command; after END it is 3, as for every other
+unfoldable pub composeUnnamed : Bool → BuilderState → List ℕ → Composed
+composeUnnamed true s b = declined byteAfterEnd s b
+composeUnnamed false s b = declined noCommand s b
+
+unfoldable pub composeHanded : BuilderState → List ℕ → Option Command → Composed
+unfolding compose composeUnnamed
+composeHanded s b none = composeUnnamed (s .ended) s b
+composeHanded s b (some c) = compose s b c
 
 -- THE STORY of calls from nothing filled: the commands taken so far, the state and the buffer that is left
 pub data Calls (b : List ℕ) : List Command → BuilderState → List ℕ → Type 0 where

@@ -24,7 +24,7 @@ pub enum Judged {
     Goes,
 }
 
-fn is_end(c: Command) -> bool
+pub fn is_end(c: Command) -> bool
     ensures { λ r. ⌜ r ≡ end? (viewCommand [] c) ⌝ }
 {
     match c {

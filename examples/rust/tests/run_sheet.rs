@@ -1,4 +1,4 @@
-//! The program as a user runs it: an accepted sheet, a refused one, a file that is not there.
+//! The programs as a user runs them: an accepted sheet, a refused one, a file that is not there, a sheet composed.
 
 use std::path::PathBuf;
 use std::process::{Command, Output};
@@ -32,4 +32,11 @@ fn a_missing_file_is_explained() {
     let output = run("no-such.sheet");
     assert!(String::from_utf8(output.stderr).unwrap().contains("No such file"));
     assert_eq!((output.status.code(), output.stdout.len()), (Some(1), 0));
+}
+
+#[test]
+fn sheet_a_is_composed_and_run() {
+    let output = Command::new(env!("CARGO_BIN_EXE_compose-sheet")).output().unwrap();
+    assert_eq!(output.stdout, std::fs::read(worked("sheet-a.report")).unwrap());
+    assert_eq!((output.status.code(), output.stderr.len()), (Some(0), 0));
 }

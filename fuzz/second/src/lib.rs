@@ -2,6 +2,7 @@
 
 use std::slice;
 
+use simulator::builder::{Builder, Call};
 use simulator::{check, run};
 
 /// # Safety
@@ -30,6 +31,36 @@ pub unsafe extern "C" fn second_run(
 ) -> u8 {
     let sheet = slice::from_raw_parts(sheet, sheet_length);
     let answer = run(sheet, limit, slice::from_raw_parts_mut(report, report_length));
+    *place = answer.place as u64;
+    answer.number
+}
+
+/// A builder with nothing filled.
+#[no_mangle]
+pub extern "C" fn second_builder() -> *mut Builder {
+    Box::into_raw(Box::default())
+}
+
+/// # Safety
+/// The builder comes from `second_builder` and is not used again.
+#[no_mangle]
+pub unsafe extern "C" fn second_builder_free(builder: *mut Builder) {
+    drop(Box::from_raw(builder));
+}
+
+/// # Safety
+/// As of `hizgrael_compose`, and the builder comes from `second_builder`.
+#[no_mangle]
+pub unsafe extern "C" fn second_compose(
+    builder: *mut Builder,
+    buffer: *mut u8,
+    buffer_length: usize,
+    command: u8,
+    operands: *const u32,
+    place: *mut u64,
+) -> u8 {
+    let call = Call { command, operands: *operands.cast() };
+    let answer = (*builder).compose(&call, slice::from_raw_parts_mut(buffer, buffer_length));
     *place = answer.place as u64;
     answer.number
 }

@@ -1,8 +1,11 @@
-//! Prints ns per tick of the proved engine and of the Rust simulator on the same long sheets, and ns per byte of the check.
+//! Prints ns per tick of the proved engine and of the Rust simulator on the same long sheets, and ns per byte of the check and of the
+//! builder.
 
 use std::hint::black_box;
 use std::time::{Duration, Instant};
 
+use simulator::builder::{Builder, Call};
+use simulator::compositions::of_sheet;
 use simulator::contention::Style;
 use simulator::generator::{valid_sheet, SEED};
 use simulator::machine::Machine;
@@ -53,6 +56,30 @@ fn main() {
     println!(
         "check of {} bytes: engine {:.2} ns/byte, simulator {:.2} ns/byte",
         longest.len(),
+        per_byte(engine),
+        per_byte(simulator)
+    );
+
+    let calls = of_sheet(longest);
+    let (engine, simulator) = best_of_both(
+        &mut buffer,
+        |buffer| {
+            let mut state: hizgrael::State = [0; 64];
+            for Call { command, operands } in black_box(&calls) {
+                let _ = black_box(hizgrael::compose(&mut state, buffer, *command, operands));
+            }
+        },
+        |buffer| {
+            let mut builder = Builder::default();
+            for call in black_box(&calls) {
+                black_box(builder.compose(call, buffer));
+            }
+        },
+    );
+    println!(
+        "composing of {} bytes, {} commands: engine {:.2} ns/byte, simulator {:.2} ns/byte",
+        longest.len(),
+        calls.len(),
         per_byte(engine),
         per_byte(simulator)
     );

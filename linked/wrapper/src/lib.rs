@@ -1,4 +1,4 @@
-//! A safe wrapper of the proved library's two C entries (include/hizgrael.h).
+//! A safe wrapper of the proved library's three C entries (include/hizgrael.h).
 //!
 //! ```
 //! let sheet = [0x03, 0x11, 0x08, 0x00];
@@ -6,17 +6,30 @@
 //! assert_eq!((refusal.number, refusal.place), (6, 1));
 //! ```
 
+mod builder;
+
+pub use builder::{Builder, Command};
+
 use std::error::Error;
 use std::fmt;
 
 /// No report is longer, so a buffer of this length is always enough.
 pub const LONGEST_REPORT: usize = 3925;
 
+/// No good sheet is longer, so a buffer of this length is always enough to compose one.
+pub const LONGEST_SHEET: usize = 4857;
+
 /// The first bytes of a longer input decide its answer, so a reader may stop there.
 pub const DECIDING_LENGTH: usize = 4893;
 
 /// The highest limit that `run` takes.
 pub const TOP_LIMIT: u64 = 65_535;
+
+/// What `compose` needs to know of the calls before. All bytes 0: nothing is filled yet.
+pub type State = [u8; 64];
+
+/// The operands of a command in document 01's order. Those that it does not have are not looked at.
+pub type Operands = [u32; 9];
 
 extern "C" {
     fn hizgrael_check(sheet: *const u8, sheet_length: usize, place: *mut u64) -> u8;
@@ -28,9 +41,17 @@ extern "C" {
         report_length: usize,
         place: *mut u64,
     ) -> u8;
+    fn hizgrael_compose(
+        state: *mut u8,
+        buffer: *mut u8,
+        buffer_length: usize,
+        command: u8,
+        operands: *const u32,
+        place: *mut u64,
+    ) -> u8;
 }
 
-/// What the library answers: number 0, or a refusal's number from 1 to 10, with its place.
+/// What the library answers: number 0, or a refusal's number from 1 to 11, with its place.
 #[derive(Clone, Copy, Debug, PartialEq, Eq)]
 #[must_use]
 pub struct Answer {
@@ -39,26 +60,28 @@ pub struct Answer {
 }
 
 impl Answer {
-    /// The place if the number is 0: of a run the report's length, of a check 0.
+    /// The place if the number is 0: of a run the report's length, of a composed command the new filled length, of a check 0.
     pub fn accepted(self) -> Result<usize, Refusal> {
         match self.number {
-            // A report is no longer than its buffer.
+            // Neither a report nor a filled part is longer than its buffer.
             0 => Ok(self.place as usize),
             number => Err(Refusal { number, place: self.place }),
         }
     }
 }
 
-/// Why a sheet or a call is turned down, and at which byte of the sheet (for 9: 0; for 10: the length that the report needs).
+/// Why a sheet or a call is turned down, and at which byte of the sheet (for 9: 0; for 10: the length that the report needs; for 11: the
+/// filled length).
 #[derive(Clone, Copy, Debug, PartialEq, Eq)]
 pub struct Refusal {
     pub number: u8,
     pub place: u64,
 }
 
-impl fmt::Display for Refusal {
-    fn fmt(&self, f: &mut fmt::Formatter) -> fmt::Result {
-        let meaning = match self.number {
+impl Refusal {
+    /// What the number says.
+    pub fn meaning(&self) -> &'static str {
+        match self.number {
             1 => "the byte names no command",
             2 => "the sheet ends inside a command or before END",
             3 => "a byte follows END",
@@ -68,9 +91,15 @@ impl fmt::Display for Refusal {
             7 => "the word is already in the waiting PAIRs",
             8 => "the releases do not rise",
             9 => "the tick limit is above 65,535",
-            _ => "the report buffer is too short",
-        };
-        write!(f, "refused as {} at {}: {meaning}", self.number, self.place)
+            10 => "the report buffer is too short",
+            _ => "fewer bytes are free in the buffer than the command has",
+        }
+    }
+}
+
+impl fmt::Display for Refusal {
+    fn fmt(&self, f: &mut fmt::Formatter) -> fmt::Result {
+        write!(f, "refused as {} at {}: {}", self.number, self.place, self.meaning())
     }
 }
 
@@ -96,6 +125,24 @@ pub fn run(sheet: &[u8], limit: u64, report: &mut [u8]) -> Answer {
             limit,
             report.as_mut_ptr(),
             report.len(),
+            &mut place,
+        )
+    };
+    Answer { number, place }
+}
+
+/// Hands over one more command of a sheet that is composed in the buffer; `Builder` does so more readably. State and buffer are as the
+/// last call left them. A refusal changes neither, and no call the bytes past what is then filled.
+pub fn compose(state: &mut State, buffer: &mut [u8], command: u8, operands: &Operands) -> Answer {
+    let mut place = 0;
+    // SAFETY: the arrays, the slice and the number are valid for the call and do not overlap, and the library keeps none.
+    let number = unsafe {
+        hizgrael_compose(
+            state.as_mut_ptr(),
+            buffer.as_mut_ptr(),
+            buffer.len(),
+            command,
+            operands.as_ptr(),
             &mut place,
         )
     };

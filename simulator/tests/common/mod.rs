@@ -4,7 +4,7 @@
 mod lines;
 
 pub use lines::*;
-use simulator::builder::*;
+use simulator::write::*;
 use simulator::{run, Answer};
 
 pub const LIMIT: u64 = 65_535;

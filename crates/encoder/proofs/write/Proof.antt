@@ -1,4 +1,6 @@
 -- `write` meets its contract.
+use Rattle.commands.specs.View.{viewCommand}
+use Rattle.model.proofs.Encoding.Verdict.{encode-some}
 use mathlib.Core.Path.{_≡_}
 use native.Mathlib.Omega.{arith}
 use lib.ListN.{length}
@@ -16,7 +18,9 @@ byte-of-requires : tie.Need-byte-of-requires
 byte-of-requires c κs = search needs
 
 put-requires : tie.Need-put-requires
-put-requires c κs = search needs
+put-requires c κs = 
+    let a = c .before .before .before .args in
+    omega (arith, c .before .before .before .pre, encode-some (viewCommand (a .t4) (a .c)))
 
 add-operands : tie.Need-add-operands
 add-operands c = search needs
