@@ -1,2 +1,4 @@
 pub mod View
 pub mod Composes
+pub mod Handed
+pub mod Packed

@@ -14,6 +14,9 @@ use rules::known::Known;
 use sheet::check::is_end;
 use sheet::learned;
 
+pub mod handed;
+pub mod packed;
+
 // What the last call left beside the buffer: what the reader knows after the filled part, its length, and whether END is taken.
 pub struct BuilderState {
     pub known: Known,
