@@ -1,7 +1,7 @@
--- The builder's state in 64 bytes.
-use Prim.Native.Nat.{ℕ, zero, suc, _+_}
+-- The builder's state in eight rows of eight bytes.
+use Prim.Native.Nat.{ℕ, zero, suc}
 use mathlib.Core.Bool.{Bool, true, false, not}
-use mathlib.Core.List.{List, [], _∷_}
+use mathlib.Core.List.{List, []}
 use lib.ListN.{getD, take}
 use Rattle.model.specs.Command.{bigEndian}
 use Rattle.model.specs.Fault.{Section, wordSection, blockSection, bodySection, releaseSection, SheetCounts, Body}
@@ -17,37 +17,37 @@ abbrev pub some? : ℕ → Bool
 some? zero = false
 some? (suc n) = true
 
--- as many numbers as the byte at a place says, from the eight bytes after it
-abbrev pub numbersAt : List ℕ → ℕ → List ℕ
-numbersAt s p =
-    take (getD s p 0) (getD s (p + 1) 0 ∷ getD s (p + 2) 0 ∷ getD s (p + 3) 0 ∷ getD s (p + 4) 0 ∷ getD s (p + 5) 0 ∷ getD s (p + 6) 0 ∷ getD s (p + 7) 0
-    ∷ getD s (p + 8) 0 ∷ [])
-
+-- row 0: the section, and how many there are of each
 unfoldable pub countsOf : List ℕ → SheetCounts
 unfolding bigEndian
-countsOf s = record { words = getD s 1 0; blocks = getD s 2 0; tasks = getD s 3 0; commands = bigEndian s 4 2; releases = bigEndian s 6 2 }
+countsOf r = record { words = getD r 1 0; blocks = getD r 2 0; tasks = getD r 3 0; commands = bigEndian r 4 2; releases = bigEndian r 6 2 }
 
-unfoldable pub bodyOf : List ℕ → Body
-bodyOf s =
+-- row 1: whether the body has commands, whether a transaction is open, how many of each list; rows 4, 5 and 6: the lists
+unfoldable pub bodyOf : List ℕ → List ℕ → List ℕ → List ℕ → Body
+bodyOf r pairs touched puts =
     record {
-      empty = not (some? (getD s 8 0));
-      pairs = numbersAt s 9;
-      inside = some? (getD s 18 0);
-      touched = numbersAt s 19;
-      puts = numbersAt s 28;
+      empty = not (some? (getD r 0 0));
+      pairs = take (getD r 1 0) pairs;
+      inside = some? (getD r 2 0);
+      touched = take (getD r 3 0) touched;
+      puts = take (getD r 4 0) puts;
     }
 
-unfoldable pub stateOf : List ℕ → BuilderState
+abbrev pub row : List (List ℕ) → ℕ → List ℕ
+row s n = getD s n []
+
+-- row 2: the tick of the last release; row 3: the filled length; the rest of row 1: the task of the last release, and whether END is taken
+unfoldable pub stateOf : List (List ℕ) → BuilderState
 unfolding bigEndian countsOf bodyOf
 stateOf s =
     record {
       known =
           record {
-            section = sectionOf (getD s 0 0);
-            counts = countsOf s;
-            body = bodyOf s;
-            last = record { tick = bigEndian s 37 4; task = getD s 41 0 };
+            section = sectionOf (getD (row s 0) 0 0);
+            counts = countsOf (row s 0);
+            body = bodyOf (row s 1) (row s 4) (row s 5) (row s 6);
+            last = record { tick = bigEndian (row s 2) 0 4; task = getD (row s 1) 5 0 };
           };
-      filled = bigEndian s 42 8;
-      ended = some? (getD s 50 0);
+      filled = bigEndian (row s 3) 0 8;
+      ended = some? (getD (row s 1) 6 0);
     }

@@ -5,10 +5,13 @@ ghost use lib.Dec.{ltb};
 ghost use Rattle.commands.specs.View.{viewRefusal, viewCommand};
 ghost use Rattle.model.specs.Builder as builder;
 ghost use Rattle.builder.specs.View.{viewState};
-ghost use Rattle.builder.specs.Composes.{Composes, Declined};
+ghost use Rattle.builder.specs.Composes.{Composes, ComposesHanded, Declined};
 use commands::Command;
 use commands::Refusal;
 use commands::ceilings::SheetCeilings;
+use commands::table::Named;
+use commands::table::entry_of;
+use crate::handed::OPERANDS;
 use rules::Flaw;
 use rules::known::Known;
 use sheet::check::is_end;
@@ -93,4 +96,19 @@ pub fn compose(state: BuilderState, buffer: &mut [u8], c: Command, values: [u32;
             ended: is_end(c),
         },
     }
+}
+
+// The same by the command's byte and nine operands: 1 where the byte names no command.
+pub fn compose_handed(state: BuilderState, buffer: &mut [u8], b: u8, operands: &[u32; OPERANDS]) -> Composed
+    ensures { λ r. ⌜ ComposesHanded (viewState state) (now (buffer .entry)) (builder.handed b (now (operands .entry))) r (now (buffer .exit)) ⌝ }
+{
+    if let Named::By(_) = entry_of(b) {
+        let c = handed::command(b, operands);
+        let values = handed::values(operands);
+        return compose(state, &mut *buffer, c, values);
+    }
+    if state.ended {
+        return declined(state, Refusal::ByteAfterEnd);
+    }
+    declined(state, Refusal::NoCommand)
 }

@@ -1,11 +1,10 @@
 // The builder's state in the 64 bytes that a C caller keeps between calls. All zero is nothing filled, and any bytes are some state.
 ghost use mathlib.Core.Path.{_≡_};
-ghost use Prim.Native.Nat.{_≤_};
-ghost use lib.ListN.{length, take};
+ghost use lib.ListN.{getD, take};
 ghost use Rattle.model.specs.Command.{bigEndian};
 ghost use Rattle.rules.specs.View.{viewSection, viewCounts, viewNumbers, viewBody};
 ghost use Rattle.builder.specs.View.{viewState};
-ghost use Rattle.builder.specs.Packed.{sectionOf, some?, numbersAt, countsOf, bodyOf, stateOf};
+ghost use Rattle.builder.specs.Packed.{sectionOf, some?, countsOf, bodyOf, stateOf};
 use crate::BuilderState;
 use commands::Release;
 use commands::byte;
@@ -16,11 +15,14 @@ use rules::known::Section;
 use rules::known::SheetCounts;
 use rules::known::Task;
 
-pub const STATE: usize = 64;
+pub const ROWS: usize = 8;
 
-fn section_of(b: u8) -> Section
-    ensures { λ r. ⌜ viewSection r ≡ sectionOf b ⌝ }
+pub const ROW: usize = 8;
+
+fn section_of(row: [u8; ROW]) -> Section
+    ensures { λ r. ⌜ viewSection r ≡ sectionOf (getD row 0 0) ⌝ }
 {
+    let b = row[0];
     match b {
         0 => Section::Words,
         1 => Section::Blocks,
@@ -29,73 +31,74 @@ fn section_of(b: u8) -> Section
     }
 }
 
-// As many numbers as the byte at a place says, from the bytes after it.
-fn numbers_at(s: &[u8], at: usize) -> Numbers
-    requires { ⌜ at ≤ 55 ⌝ }
-    ensures { λ r. ⌜ viewNumbers r ≡ numbersAt (now (s .entry)) at ⌝ }
+fn counts_of(row: [u8; ROW]) -> SheetCounts
+    ensures { λ n. ⌜ viewCounts n ≡ countsOf row ⌝ }
 {
-    Numbers {
-        values: [
-            byte(s, at + 1),
-            byte(s, at + 2),
-            byte(s, at + 3),
-            byte(s, at + 4),
-            byte(s, at + 5),
-            byte(s, at + 6),
-            byte(s, at + 7),
-            byte(s, at + 8),
-        ],
-        count: byte(s, at) as usize,
-    }
-}
-
-fn counts_at(s: &[u8]) -> SheetCounts
-    ensures { λ r. ⌜ viewCounts r ≡ countsOf (now (s .entry)) ⌝ }
-{
+    let r: &[u8] = &row;
     SheetCounts {
-        words: byte(s, 1),
-        blocks: byte(s, 2),
-        tasks: byte(s, 3),
-        commands: byte(s, 4) as u16 * 256 + byte(s, 5) as u16,
-        releases: byte(s, 6) as u16 * 256 + byte(s, 7) as u16,
+        words: byte(r, 1),
+        blocks: byte(r, 2),
+        tasks: byte(r, 3),
+        commands: byte(r, 4) as u16 * 256 + byte(r, 5) as u16,
+        releases: byte(r, 6) as u16 * 256 + byte(r, 7) as u16,
     }
 }
 
-fn body_at(s: &[u8]) -> Task
-    ensures { λ r. ⌜ viewBody r ≡ bodyOf (now (s .entry)) ⌝ }
+fn body_of(row: [u8; ROW], pairs: [u8; ROW], touched: [u8; ROW], puts: [u8; ROW]) -> Task
+    ensures { λ b. ⌜ viewBody b ≡ bodyOf row pairs touched puts ⌝ }
 {
+    let r: &[u8] = &row;
     Task {
-        empty: byte(s, 8) == 0,
-        pairs: numbers_at(s, 9),
-        inside: byte(s, 18) != 0,
-        touched: numbers_at(s, 19),
-        puts: numbers_at(s, 28),
+        empty: byte(r, 0) == 0,
+        pairs: Numbers {
+            values: pairs,
+            count: byte(r, 1) as usize,
+        },
+        inside: byte(r, 2) != 0,
+        touched: Numbers {
+            values: touched,
+            count: byte(r, 3) as usize,
+        },
+        puts: Numbers {
+            values: puts,
+            count: byte(r, 4) as usize,
+        },
     }
 }
 
-fn filled_at(s: &[u8]) -> usize
-    requires { ⌜ length (now s) ≡ 64 ⌝ }
-    ensures { λ r. ⌜ r ≡ bigEndian (now (s .entry)) 42 8 ⌝ }
+fn tick_of(row: [u8; ROW]) -> u32
+    ensures { λ n. ⌜ n ≡ bigEndian row 0 4 ⌝ }
 {
-    value4(s, 42) as usize * 4294967296 + value4(s, 46) as usize
+    value4(&row, 0)
 }
 
-pub fn unpack(s: &[u8]) -> BuilderState
-    requires { ⌜ length (now s) ≡ 64 ⌝ }
-    ensures { λ r. ⌜ viewState r ≡ stateOf (now (s .entry)) ⌝ }
+fn filled_of(row: [u8; ROW]) -> usize
+    ensures { λ n. ⌜ n ≡ bigEndian row 0 8 ⌝ }
 {
+    let r: &[u8] = &row;
+    value4(r, 0) as usize * 4294967296 + value4(r, 4) as usize
+}
+
+pub fn unpack(s: [[u8; ROW]; ROWS]) -> BuilderState
+    ensures { λ r. ⌜ viewState r ≡ stateOf s ⌝ }
+{
+    let counts = s[0];
+    let body = s[1];
+    let pairs = s[4];
+    let touched = s[5];
+    let puts = s[6];
     BuilderState {
         known: Known {
-            section: section_of(byte(s, 0)),
-            counts: counts_at(s),
-            body: body_at(s),
+            section: section_of(counts),
+            counts: counts_of(counts),
+            body: body_of(body, pairs, touched, puts),
             last: Release {
-                tick: value4(s, 37),
-                task: byte(s, 41),
+                tick: tick_of(s[2]),
+                task: body[5],
             },
         },
-        filled: filled_at(s),
-        ended: byte(s, 50) != 0,
+        filled: filled_of(s[3]),
+        ended: body[6] != 0,
     }
 }
 
@@ -124,8 +127,98 @@ fn count_byte(n: Numbers) -> u8
     let count = n.count;
     // The proof learns an array's length from its slice.
     let _eight: &[u8] = &values;
-    if count < 8 {
+    if count < ROW {
         return count as u8;
     }
     8
+}
+
+fn counts_row(section: Section, n: SheetCounts) -> [u8; ROW]
+    ensures { λ r. ⌜ (sectionOf (getD r 0 0) ≡ viewSection section) × (countsOf r ≡ viewCounts n) ⌝ }
+{
+    [
+        section_byte(section),
+        n.words,
+        n.blocks,
+        n.tasks,
+        (n.commands / 256) as u8,
+        (n.commands % 256) as u8,
+        (n.releases / 256) as u8,
+        (n.releases % 256) as u8,
+    ]
+}
+
+fn body_row(b: Task, task: u8, ended: bool) -> [u8; ROW]
+    ensures { λ r. ⌜ (bodyOf r (b .pairs .values) (b .touched .values) (b .puts .values) ≡ viewBody b) × (getD r 5 0 ≡ task) × (some? (getD r 6 0) ≡ ended) ⌝ }
+{
+    let pairs = b.pairs;
+    let touched = b.touched;
+    let puts = b.puts;
+    [
+        flag(!b.empty),
+        count_byte(pairs),
+        flag(b.inside),
+        count_byte(touched),
+        count_byte(puts),
+        task,
+        flag(ended),
+        0,
+    ]
+}
+
+fn tick_row(t: u32) -> [u8; ROW]
+    ensures { λ r. ⌜ bigEndian r 0 4 ≡ t ⌝ }
+{
+    [
+        (t / 256 / 256 / 256) as u8,
+        (t / 256 / 256 % 256) as u8,
+        (t / 256 % 256) as u8,
+        (t % 256) as u8,
+        0,
+        0,
+        0,
+        0,
+    ]
+}
+
+fn filled_row(f: usize) -> [u8; ROW]
+    ensures { λ r. ⌜ bigEndian r 0 8 ≡ f ⌝ }
+{
+    [
+        (f / 256 / 256 / 256 / 256 / 256 / 256 / 256) as u8,
+        (f / 256 / 256 / 256 / 256 / 256 / 256 % 256) as u8,
+        (f / 256 / 256 / 256 / 256 / 256 % 256) as u8,
+        (f / 256 / 256 / 256 / 256 % 256) as u8,
+        (f / 256 / 256 / 256 % 256) as u8,
+        (f / 256 / 256 % 256) as u8,
+        (f / 256 % 256) as u8,
+        (f % 256) as u8,
+    ]
+}
+
+pub fn pack(s: BuilderState) -> [[u8; ROW]; ROWS]
+    ensures { λ r. ⌜ stateOf r ≡ viewState s ⌝ }
+{
+    let k = s.known;
+    let section = k.section;
+    let counts = k.counts;
+    let body = k.body;
+    let last = k.last;
+    let pairs = body.pairs;
+    let touched = body.touched;
+    let puts = body.puts;
+    let words = pairs.values;
+    let blocks = touched.values;
+    let put_blocks = puts.values;
+    let rest = [0u8; ROW];
+    [
+        counts_row(section, counts),
+        body_row(body, last.task, s.ended),
+        tick_row(last.tick),
+        filled_row(s.filled),
+        words,
+        blocks,
+        put_blocks,
+        rest,
+    ]
 }

@@ -1,10 +1,13 @@
--- `filled_at` meets its contract.
+-- `filled_of` meets its contract.
 use mathlib.Core.Path.{sym}
 use Rattle.builder.proofs.StateBytes.{eight-bytes}
 use borrow.Author.Needs.{needs}
-use Rattle.builder.proofs.packed.filled_at.Statement.{statement}
-use Rattle.builder.proofs.packed.filled_at.Tie as tie
+use Rattle.builder.proofs.packed.filled_of.Statement.{statement}
+use Rattle.builder.proofs.packed.filled_of.Tie as tie
 use Rattle.commands.proofs.value4.Reads as value4-reads
+
+slice-aggregate-r : tie.Need-slice-aggregate-r
+slice-aggregate-r c = search needs
 
 value4-requires : tie.Need-value4-requires
 value4-requires c κs = search needs
@@ -25,12 +28,13 @@ add-result : tie.Need-add-result
 add-result c = search needs
 
 returns : tie.Need-returns
-returns c = rw (c .before .value4 .ensures, c .value42 .ensures) (sym (eight-bytes (c .before .before .before .args .s .now) 42))
+returns c = rw (c .before .value4 .ensures, c .value42 .ensures) (sym (eight-bytes (c .before .before .before .args .t1)))
 
-pub filled-at-spec : {M : Type 1} → statement M
-filled-at-spec =
+pub filled-of-spec : {M : Type 1} → statement M
+filled-of-spec =
     tie.close
     (tie.spec
+    slice-aggregate-r
     value4-requires
     cast-result
     mul-result
