@@ -2,7 +2,6 @@
 use Prim.Native.Nat.{ℕ}
 use mathlib.Core.Path.{_≡_}
 use mathlib.Core.List.{List}
-use mathlib.Core.Option.{Option}
 use Rattle.model.specs.Refusal as R
 use Rattle.model.specs.Command.{Command}
 use Rattle.model.specs.Builder as M
@@ -18,10 +17,6 @@ pub record Answers (a : M.Composed) (r : Composed) (after : List ℕ) : Type 0 w
 
 abbrev pub Composes : M.BuilderState → List ℕ → Command → Composed → List ℕ → Type 0
 Composes s before c r after = Answers (M.compose s before c) r after
-
--- the same of what is handed over by a byte and operands
-abbrev pub ComposesHanded : M.BuilderState → List ℕ → Option Command → Composed → List ℕ → Type 0
-ComposesHanded s before o r after = Answers (M.composeHanded s before o) r after
 
 -- a refusal, whatever the buffer
 abbrev pub Declined : R.Refusal → M.BuilderState → Composed → Type 0

@@ -1,4 +1,2 @@
 pub mod View
 pub mod Composes
-pub mod Handed
-pub mod Packed

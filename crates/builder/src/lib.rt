@@ -5,20 +5,14 @@ ghost use lib.Dec.{ltb};
 ghost use Rattle.commands.specs.View.{viewRefusal, viewCommand};
 ghost use Rattle.model.specs.Builder as builder;
 ghost use Rattle.builder.specs.View.{viewState};
-ghost use Rattle.builder.specs.Composes.{Composes, ComposesHanded, Declined};
+ghost use Rattle.builder.specs.Composes.{Composes, Declined};
 use commands::Command;
 use commands::Refusal;
 use commands::ceilings::SheetCeilings;
-use commands::table::Named;
-use commands::table::entry_of;
-use crate::handed::OPERANDS;
 use rules::Flaw;
 use rules::known::Known;
 use sheet::check::is_end;
 use sheet::learned;
-
-pub mod handed;
-pub mod packed;
 
 // What the last call left beside the buffer: what the reader knows after the filled part, its length, and whether END is taken.
 pub struct BuilderState {
@@ -47,7 +41,7 @@ impl BuilderState {
 }
 
 // A refusal lies at the filled length, and the state stays.
-fn declined(state: BuilderState, refusal: Refusal) -> Composed
+pub fn declined(state: BuilderState, refusal: Refusal) -> Composed
     ensures { λ r. ⌜ Declined (viewRefusal refusal) (viewState state) r ⌝ }
 {
     let place = state.filled;
@@ -69,7 +63,12 @@ fn is_full(length: usize, filled: usize, size: usize) -> bool
 }
 
 // One more command.
-pub fn compose(state: BuilderState, buffer: &mut [u8], c: Command, values: [u32; SheetCeilings::BLOCK_VALUES]) -> Composed
+pub fn compose(
+    state: BuilderState,
+    buffer: &mut [u8],
+    c: Command,
+    values: [u32; SheetCeilings::BLOCK_VALUES],
+) -> Composed
     ensures { λ r. ⌜ Composes (viewState state) (now (buffer .entry)) (viewCommand values c) r (now (buffer .exit)) ⌝ }
 {
     if state.ended {
@@ -96,19 +95,4 @@ pub fn compose(state: BuilderState, buffer: &mut [u8], c: Command, values: [u32;
             ended: is_end(c),
         },
     }
-}
-
-// The same by the command's byte and nine operands: 1 where the byte names no command.
-pub fn compose_handed(state: BuilderState, buffer: &mut [u8], b: u8, operands: &[u32; OPERANDS]) -> Composed
-    ensures { λ r. ⌜ ComposesHanded (viewState state) (now (buffer .entry)) (builder.handed b (now (operands .entry))) r (now (buffer .exit)) ⌝ }
-{
-    if let Named::By(_) = entry_of(b) {
-        let c = handed::command(b, operands);
-        let values = handed::values(operands);
-        return compose(state, &mut *buffer, c, values);
-    }
-    if state.ended {
-        return declined(state, Refusal::ByteAfterEnd);
-    }
-    declined(state, Refusal::NoCommand)
 }

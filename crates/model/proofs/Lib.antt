@@ -1,10 +1,11 @@
 pub mod Ends
+pub mod Refusals
 pub mod Lists
 pub mod Sums
 -- the decimal numbers of a report
 pub mod Decimal
--- by computation: demand 3 on small runs, document 01's figures, those of arrivals and of lost attempts, runs in which the bounds of the rates are
--- reached
+-- by computation: demand 3 on small runs, document 01's figures, those of arrivals, of lost attempts and of the sheet builder, runs in which the bounds
+-- of the rates are reached
 pub mod Bytes
 pub mod Sheets
 pub mod WholeCases
@@ -12,6 +13,7 @@ pub mod ClaimCases
 pub mod Cases
 pub mod ArrivalCases
 pub mod AttemptCases
+pub mod BuilderCases
 pub mod Bounds
 -- the bytes of commands
 pub mod Encoding

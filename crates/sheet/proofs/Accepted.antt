@@ -1,4 +1,4 @@
--- A sheet is accepted exactly when it is well formed, and turned down exactly where and for what is wrong.
+-- A sheet is accepted exactly when it is read to its end, and turned down exactly where and for what is wrong.
 use Prim.Native.Nat.{ℕ, zero, suc, _+_, _-_, _<_, _≤_}
 use mathlib.Core.Path.{_≡_, refl, sym, _∙_, ap, subst}
 use mathlib.Core.Bool.{Bool, true, false}
@@ -14,8 +14,8 @@ use Rattle.model.specs.Refusal.{Refusal}
 use Rattle.model.specs.Command.{Command, END, Found, found, refused, commandAt}
 use Rattle.model.specs.Fault.{Known, nothingKnown, faultOf}
 use Rattle.model.specs.Sheet.{Verdict, accepted, turnedDown, end?, atEnd, verdictFrom, verdict, after}
-use Rattle.sheet.specs.WellFormed.{Stand, nothing, first, Faultless, unread, good, Read}
-use Rattle.sheet.specs.WellFormed.{WellFormed, Wrong, missing, faulty, followed, TurnedDown}
+use Rattle.sheet.specs.ReadToEnd.{Stand, nothing, first, Faultless, unread, good, Read}
+use Rattle.sheet.specs.ReadToEnd.{ReadToEnd, Wrong, missing, faulty, followed, TurnedDown}
 use Rattle.model.proofs.Ends.{is-end}
 use Rattle.rules.proofs.Faults.{is-fault, is-broken}
 use Rattle.sheet.proofs.Gaps.{is-missing, is-refused-there}
@@ -38,7 +38,7 @@ more {c = c} r e f g = record { commands = _; stand = more-stand (r .stand) e; f
 
 -- FROM THE VERDICT
 data Outcome (s : List ℕ) : Verdict → Type 0 where
-  well : WellFormed s → Outcome s accepted
+  well : ReadToEnd s → Outcome s accepted
   wrong : {f : Refusal} {q : ℕ} → TurnedDown s f q → Outcome s (turnedDown f q)
 
 module _ (s : List ℕ) (p : ℕ) (k : Known) (r : Read s p k) where
@@ -91,7 +91,7 @@ outcome-of : (s : List ℕ) → Outcome s (verdict s)
 unfolding verdict
 outcome-of s = outcome (suc (length s)) s 0 nothingKnown (omega arith) (record { commands = []; stand = nothing; faultless = unread })
 
-if-accepted : {s : List ℕ} {v : Verdict} → Outcome s v → v ≡ accepted → WellFormed s
+if-accepted : {s : List ℕ} {v : Verdict} → Outcome s v → v ≡ accepted → ReadToEnd s
 if-accepted (well w) e = w
 if-accepted (wrong w) e = let z : _≡_ {A = ℕ} 0 1 = cc in absurd (omega arith)
 
@@ -140,8 +140,8 @@ module _ (s : List ℕ) (p : ℕ) (k : Known) (r : Read s p k) where
       ∙ ap (λ (b : Bool). atEnd b (length s)) (le-ltb (length s) (length s) (omega arith))
 
 -- THE THEOREMS
-pub accepted-when-well-formed : (s : List ℕ) → verdict s ≡ accepted ↔ WellFormed s
-accepted-when-well-formed s = (if-accepted (outcome-of s), λ w. ended s (w .place) (w .known) (w .read) (w .last) (w .ends))
+pub accepted-when-read : (s : List ℕ) → verdict s ≡ accepted ↔ ReadToEnd s
+accepted-when-read s = (if-accepted (outcome-of s), λ w. ended s (w .place) (w .known) (w .read) (w .last) (w .ends))
 
 pub turned-down-when-wrong : (s : List ℕ) (f : Refusal) (q : ℕ) → verdict s ≡ turnedDown f q ↔ TurnedDown s f q
 turned-down-when-wrong s f q = (if-turned-down (outcome-of s), λ w. turned-down s (w .place) (w .known) (w .read) (w .wrong))

@@ -8,13 +8,13 @@ use Rattle.model.specs.Command.{Block, Command, END, bigEndian, found, commandA
 use Rattle.model.specs.Fault.{Known}
 use Rattle.model.specs.Sheet.{Sheet, Declared, after, declared, verdict, accepted, sheetOf, commandsAt}
 use Rattle.commands.specs.Stages.{valuesFrom}
-use Rattle.sheet.specs.WellFormed.{Stand, nothing, first, Faultless, unread, good, WellFormed}
+use Rattle.sheet.specs.ReadToEnd.{Stand, nothing, first, Faultless, unread, good, ReadToEnd}
 use Rattle.commands.proofs.Decoding.{past-the-end}
 use Rattle.rules.proofs.Faults.{keeps}
 use Rattle.sheet.proofs.Reading.{next-after}
 use Rattle.sheet.proofs.Places.{commands-found, commands-refused, commands-stand, declared-is, sheet-is}
 use Rattle.sheet.proofs.Sections.{rank, Kind, isWord, isBlock, isTask, isRelease, isBody, kind, word-at, block-at}
-use Rattle.sheet.proofs.Accepted.{accepted-when-well-formed}
+use Rattle.sheet.proofs.Accepted.{accepted-when-read}
 
 -- what commands declare that END follows
 abbrev pub whole : List Command → Sheet
@@ -113,7 +113,7 @@ blocks-from {s} {o} {k = k} d (first {next = next} {c = c} {l = l} f r) (good g 
     blocks-by s o k l next d c (kind k c (keeps k c g .place) e) f h (blocks-from d r q) (words-none q) (blocks-none q) i less
 
 -- AN ACCEPTED SHEET
-pub whole-sheet : {s : List ℕ} (w : WellFormed s) → sheetOf s ≡ whole (w .read .commands)
+pub whole-sheet : {s : List ℕ} (w : ReadToEnd s) → sheetOf s ≡ whole (w .read .commands)
 whole-sheet {s} w =
     let last : commandsAt s (w .place) ≡ END ∷ [] = commands-found s (w .place) (w .last)
     ∙ ap (λ (l : List Command). END ∷ l) (commands-refused s (length s) (past-the-end s (length s) (omega arith))) in
@@ -124,13 +124,13 @@ whole-sheet {s} w =
 module _ (s : List ℕ) (e : verdict s ≡ accepted) (i : ℕ) where
   pub word-of : i < length (sheetOf s .words) → getD (sheetOf s .words) i 0 ≡ bigEndian s (suc (5 * i)) 4
   word-of h =
-      let w : WellFormed s = accepted-when-well-formed s .0 e in
+      let w : ReadToEnd s = accepted-when-read s .0 e in
       rw (whole-sheet w)
       (words-from (w .read .stand) (w .read .faultless) refl i (rw (whole-sheet w) at h) ∙ ap (λ (p : ℕ). bigEndian s (suc p) 4) (omega arith))
 
   pub block-of : (d : Block) → i < length (sheetOf s .blocks) → getD (sheetOf s .blocks) i d ≡ readBlock s (5 * length (sheetOf s .words) + 37 * i)
   block-of d h =
-      let w : WellFormed s = accepted-when-well-formed s .0 e in
+      let w : ReadToEnd s = accepted-when-read s .0 e in
       rw (whole-sheet w)
       (blocks-from d (w .read .stand) (w .read .faultless) (omega arith) i (rw (whole-sheet w) at h) ∙ ap (readBlock s) (omega arith))
 
@@ -157,5 +157,5 @@ fits-from {s} {o} {p} {k} (first {next = next} {c = c} {l = l} f r) (good g e q)
 
 pub fits : (s : List ℕ) → verdict s ≡ accepted → 5 * length (sheetOf s .words) + 37 * length (sheetOf s .blocks) < length s
 fits s e =
-    let w : WellFormed s = accepted-when-well-formed s .0 e in
+    let w : ReadToEnd s = accepted-when-read s .0 e in
     rw (whole-sheet w) (omega (arith, fits-from (w .read .stand) (w .read .faultless), next-after s (w .place) (w .last) .0))

@@ -10,7 +10,7 @@ use lib.Dec.{ltb, leb}
 use lib.ListN.{length, getD}
 use Rattle.model.specs.Refusal.{Refusal, noCommand, cutShort}
 use Rattle.model.specs.Command.{Row, table, rowOf, total, refused, foundWhole, foundRow, foundByte, commandAt}
-use Rattle.sheet.specs.WellFormed.{Missing, noRow, noByte, cut}
+use Rattle.sheet.specs.ReadToEnd.{Missing, noRow, noByte, cut}
 use Rattle.commands.proofs.Decoding as decoding
 
 module _ (s : List ℕ) (p : ℕ) where

@@ -13,11 +13,11 @@ use Rattle.model.specs.Command.{Block, Release, BodyCommand, Command, WORD, BLO
 use Rattle.model.specs.Fault.{SheetCounts, Known, nothingKnown, underCeiling}
 use Rattle.model.specs.Sheet as M
 use Rattle.model.specs.Sheet.{Declared, after, declared, verdict, accepted, sheetOf, declaredAt, bodyAt, releasesAt, commandsAt}
-use Rattle.sheet.specs.WellFormed.{Stand, nothing, first, Faultless, unread, good, WellFormed}
+use Rattle.sheet.specs.ReadToEnd.{Stand, nothing, first, Faultless, unread, good, ReadToEnd}
 use Rattle.sheet.specs.Indexed.{OnlyReleases, ReleasesStand, Indexed, emptyIndex, placeOr, counted, Room}
 use Rattle.sheet.specs.declared.index.Sheet.{Sheet}
 use Rattle.commands.proofs.Decoding.{past-the-end, cases}
-use Rattle.sheet.proofs.Accepted.{accepted-when-well-formed}
+use Rattle.sheet.proofs.Accepted.{accepted-when-read}
 use Rattle.rules.proofs.Faults.{keeps}
 use Rattle.sheet.proofs.Reading.{next-after}
 use Rattle.sheet.proofs.Passing.{Passed, passed-all, passed-here, passed-one, none-passed}
@@ -60,7 +60,7 @@ pub data Walk (s : List ℕ) (x : Sheet) : ℕ → Type 0 where
 
 pub begin : (s : List ℕ) (x : Sheet) → x ≡ emptyIndex → verdict s ≡ accepted → Walk s x 0
 begin s x is e =
-    let w : WellFormed s = accepted-when-well-formed s .0 e in
+    let w : ReadToEnd s = accepted-when-read s .0 e in
     let all : sheetOf s ≡ whole (w .read .commands) = whole-sheet w in
     subst (λ (y : Sheet). Walk s y 0) (sym is)
     (going

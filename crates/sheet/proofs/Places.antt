@@ -7,7 +7,7 @@ use lib.ListN.{length}
 use Rattle.model.specs.Refusal.{Refusal}
 use Rattle.model.specs.Command.{Command, Found, found, refused, commandAt}
 use Rattle.model.specs.Sheet.{listed, commandsFrom, declared, sheetOf, commandsAt, declaredAt}
-use Rattle.sheet.specs.WellFormed.{Stand, nothing, first}
+use Rattle.sheet.specs.ReadToEnd.{Stand, nothing, first}
 use Rattle.commands.proofs.Decoding.{past-the-end}
 use Rattle.sheet.proofs.Reading.{next-after}
 

@@ -1,4 +1,4 @@
 pub mod View
 pub mod Judgement
-pub mod WellFormed
+pub mod ReadToEnd
 pub mod Indexed

@@ -22,7 +22,7 @@ declined-requires : tie.Need-declined-requires
 declined-requires c κs = search needs
 
 returns : tie.Need-returns
-returns c = 
+returns c =
     let a = c .before .before .before .args in
     answers-end (viewState (a .state)) (a .buffer .now) (c .declined .result) (viewCommand (a .values) (a .c)) (c .before .if1 .taken)
     (c .declined .ensures)
@@ -37,7 +37,7 @@ declined-requires-2 : tie.Need-declined-requires-2
 declined-requires-2 c κs = search needs
 
 returns-2 : tie.Need-returns-2
-returns-2 c = 
+returns-2 c =
     let a = c .before .before .before .before .before .before .before .before .args in
     let known = c .before .before .f .given in
     answers-fault (viewState (a .state)) (a .buffer .now) (c .declined2 .result) (a .values) (a .c) (c .before .before .before .before .before .before .if1 .left) (viewRefusal (known .0 .0))
@@ -56,19 +56,19 @@ declined-requires-3 : tie.Need-declined-requires-3
 declined-requires-3 c κs = search needs
 
 returns-3 : tie.Need-returns-3
-returns-3 c = 
+returns-3 c =
     let a = c .before .before .before .before .before .before .before .before .before .before .args in
     let full = rw (c .before .before .before .size .ensures) at (sym (c .before .if2 .taken) ∙ c .before .before .is-full .ensures) in
     answers-full (viewState (a .state)) (a .buffer .now) (c .declined3 .result) (a .values) (a .c) (c .before .before .before .before .before .before .before .before .if1 .left)
     (rw (c .before .before .before .before .enum-told .given .1) at (c .before .before .before .before .before .before .fault .ensures)) full (c .declined3 .ensures)
 
 write-requires : tie.Need-write-requires
-write-requires c κs = 
+write-requires c κs =
     let free = rw (c .before .before .before .size .ensures) at (sym (c .before .if2 .left) ∙ c .before .before .is-full .ensures) in
     ltb-false _ _ (sym free)
 
 add-next : tie.Need-add-next
-add-next c = 
+add-next c =
     let a = c .before .before .before .before .before .before .before .before .before .before .before .before .before .args in
     let free = sym (c .before .before .before .before .if2 .left) ∙ c .before .before .before .before .before .is-full .ensures in
     omega (arith, ltb-false (length (a .buffer .now)) (a .state .filled + c .before .before .before .before .before .before .size .result) (sym free))
@@ -83,7 +83,7 @@ same-length : tie.Need-same-length
 same-length c = search needs
 
 returns-4 : tie.Need-returns-4
-returns-4 c = 
+returns-4 c =
     let a = c .before .before .before .before .before .before .before .before .before .before .before .before .before .before .before .args in
     let size = c .before .before .before .before .before .before .before .before .size .ensures in
     let next = ap (λ (n : ℕ). a .state .filled + n) size in

@@ -27,7 +27,7 @@ add-put-values : tie.Need-add-put-values
 add-put-values c = search needs
 
 put-values-requires : tie.Need-put-values-requires
-put-values-requires c κs = 
+put-values-requires c κs =
     let known = c .before .before .before .before .before .before .c2 .given in
     let a = c .before .before .before .before .before .before .before .before .before .before .args in
     let room = rw (known .1) at (c .before .before .before .before .before .before .before .before .before .before .pre) in
@@ -46,7 +46,7 @@ add-put : tie.Need-add-put
 add-put c = search needs
 
 put-requires : tie.Need-put-requires
-put-requires c κs = 
+put-requires c κs =
     let known = c .before .before .before .before .before .before .c3 .given in
     let a = c .before .before .before .before .before .before .before .before .before .before .args in
     let room = rw (known .1) at (c .before .before .before .before .before .before .before .before .before .before .pre) in
@@ -71,7 +71,7 @@ same-length-2 : tie.Need-same-length-2
 same-length-2 c = search needs
 
 returns-2 : tie.Need-returns-2
-returns-2 c = 
+returns-2 c =
     let known = c .before .before .before .before .before .before .before .before .before .c2 .given in
     let a = c .before .before .before .before .before .before .before .before .before .before .before .before .before .args in
     rw (known .1)
@@ -84,7 +84,7 @@ same-length-3 : tie.Need-same-length-3
 same-length-3 c = search needs
 
 returns-4 : tie.Need-returns-4
-returns-4 c = 
+returns-4 c =
     let known = c .before .before .before .before .before .before .before .before .before .c3 .given in
     let a = c .before .before .before .before .before .before .before .before .before .before .before .before .before .args in
     rw (known .1)

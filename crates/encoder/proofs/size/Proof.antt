@@ -28,7 +28,7 @@ enum-told : tie.Need-enum-told
 enum-told c = search needs
 
 returns : tie.Need-returns
-returns c = 
+returns c =
     let a = c .before .before .before .before .args in
     let none : entryOf (byteOf (viewCommand [] (a .c))) ≡ Nothing = cc in
     let some = entry-is (viewCommand [] (a .c)) in
@@ -44,7 +44,7 @@ add-result : tie.Need-add-result
 add-result c = search needs
 
 returns-2 : tie.Need-returns-2
-returns-2 c = 
+returns-2 c =
     let a = c .before .before .before .before .before .before .before .args in
     let by : entryOf (byteOf (viewCommand [] (a .c))) ≡ By (c .before .before .before .e .given .0 .0) = cc in
     let some = entry-is (viewCommand [] (a .c)) in

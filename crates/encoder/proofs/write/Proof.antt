@@ -18,7 +18,7 @@ byte-of-requires : tie.Need-byte-of-requires
 byte-of-requires c κs = search needs
 
 put-requires : tie.Need-put-requires
-put-requires c κs = 
+put-requires c κs =
     let a = c .before .before .before .args in
     omega (arith, c .before .before .before .pre, encode-some (viewCommand (a .t4) (a .c)))
 
@@ -29,17 +29,21 @@ slice-aggregate-operands : tie.Need-slice-aggregate-operands
 slice-aggregate-operands c = search needs
 
 operands-requires : tie.Need-operands-requires
-operands-requires c κs = 
+operands-requires c κs =
     let a = c .before .before .before .before .before .before .before .before .args in
     let eight : length (a .t4) ≡ 8 = search needs in
-    omega (arith, c .before .before .before .before .before .before .before .before .pre, operands-size (a .t4) eight (a .c),
-    still-room (one _) (a .buffer .now) (c .before .before .before .before .put .last .0) (a .at) (c .before .before .before .before .put .ensures) (c .before .before .before .before .before .before .before .before .pre))
+    omega (
+      arith,
+      c .before .before .before .before .before .before .before .before .pre,
+      operands-size (a .t4) eight (a .c),
+      still-room (one _) (a .buffer .now) (c .before .before .before .before .put .last .0) (a .at) (c .before .before .before .before .put .ensures) (c .before .before .before .before .before .before .before .before .pre),
+    )
 
 same-length : tie.Need-same-length
 same-length c = search needs
 
 returns : tie.Need-returns
-returns c = 
+returns c =
     let a = c .before .before .before .before .before .before .before .before .before .before .before .args in
     let eight : length (a .t4) ≡ 8 = search needs in
     all-written (a .t4) eight (a .c) (a .buffer .now) (c .before .before .before .before .before .before .before .put .last .0) _ (a .at) (c .before .before .before .before .before .before .before .before .before .before .before .pre) (rw (c .before .before .before .before .before .before .before .before .byte-of .ensures) at (c .before .before .before .before .before .before .before .put .ensures))

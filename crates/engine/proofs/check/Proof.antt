@@ -1,4 +1,7 @@
 -- `check` meets its contract.
+use Prim.Native.Nat.{ℕ, _<_}
+use native.Mathlib.Omega.{arith}
+use lib.ListN.{getD}
 use Rattle.engine.proofs.Answers.{checks-accepted, checks-refused}
 use borrow.Author.Needs.{needs}
 use Rattle.engine.proofs.check.Statement.{statement}
@@ -17,12 +20,15 @@ refused-requires : tie.Need-refused-requires
 refused-requires c κs = search needs
 
 returns : tie.Need-returns
-returns c = checks-accepted (rw (c .enum-told .given .1) at (c .before .before .check .ensures))
+returns c =
+    let small : (i : ℕ) → getD (c .before .before .before .before .args .sheet .now) i 0 < 256 = λ i. omega (arith, c .before .before .before .shared-slice-known .given i) in
+    checks-accepted small (rw (c .enum-told .given .1) at (c .before .before .check .ensures))
 
 returns-2 : tie.Need-returns-2
 returns-2 c =
+    let small : (i : ℕ) → getD (c .before .before .before .before .before .before .args .sheet .now) i 0 < 256 = λ i. omega (arith, c .before .before .before .before .before .shared-slice-known .given i) in
     rw (c .refused .ensures)
-    (checks-refused (c .before .before .v .given .0 .0) (rw (c .before .before .v .given .1) at (c .before .before .before .before .check .ensures)))
+    (checks-refused small (c .before .before .v .given .0 .0) (rw (c .before .before .v .given .1) at (c .before .before .before .before .check .ensures)))
 
 pub check-spec : {M : Type 1} → statement M
 check-spec =

@@ -9,8 +9,7 @@ use borrow.Author.Tests.{leb-true, leb-false}
 use lib.Dec.{leb}
 use lib.ListN.{length, take, drop, length-append, length-drop}
 use lib.Seq.{take-append-seam, drop-append-add, drop-drop}
-use Rattle.model.specs.Refusal.{Refusal, noCommand, cutShort, byteAfterEnd, misplaced, ceilingPassed, outOfRange, wordRepeated, releasesNotRising}
-use Rattle.model.specs.Refusal.{limitTooHigh, bufferTooShort, bufferFull, number}
+use Rattle.model.specs.Refusal.{Refusal, byteAfterEnd, bufferFull, number}
 use Rattle.model.specs.Command.{Command, END}
 use Rattle.model.specs.Fault.{Known, nothingKnown, faultOf}
 use Rattle.model.specs.Sheet.{after, end?}
@@ -19,6 +18,7 @@ use Rattle.model.specs.Builder.{BuilderState, nothingFilled, Composed, d
 use Rattle.model.specs.Builder.{Calls, start, takes, declines}
 use Rattle.model.proofs.Lists.{impossible}
 use Rattle.model.proofs.Ends.{is-end}
+use Rattle.model.proofs.Refusals.{number-some}
 use Rattle.model.proofs.Encoding.Ranges.{Bounded, nothing-bounded, after-bounded, faultless-fits}
 use Rattle.model.proofs.Encoding.Reading.{Passes, nothing, one-more, encode-append, encode-one}
 
@@ -63,19 +63,6 @@ pub record Left (b : List ℕ) (l : List Command) (s : BuilderState) (x : List �
   pub filled : s .filled ≡ length (encodeAll l)
   pub room : length (encodeAll l) ≤ length b
   pub buffer : x ≡ encodeAll l ++ drop (length (encodeAll l)) b
-
-number-some : (f : Refusal) → number f ≡ 0 → ⊥
-number-some noCommand e = absurd (omega arith)
-number-some cutShort e = absurd (omega arith)
-number-some byteAfterEnd e = absurd (omega arith)
-number-some misplaced e = absurd (omega arith)
-number-some ceilingPassed e = absurd (omega arith)
-number-some outOfRange e = absurd (omega arith)
-number-some wordRepeated e = absurd (omega arith)
-number-some releasesNotRising e = absurd (omega arith)
-number-some limitTooHigh e = absurd (omega arith)
-number-some bufferTooShort e = absurd (omega arith)
-number-some bufferFull e = absurd (omega arith)
 
 -- a refusal leaves what was there
 declined-left : {b : List ℕ} {l : List Command} {s : BuilderState} {x : List ℕ} (c : Command) (a : Composed) {n : ℕ} → Outcome s x c a
@@ -129,9 +116,9 @@ stands-more {l} c n (going {k = k} m p w) e f v = go (end? c) refl
 taken-left : {b : List ℕ} {l : List Command} {s : BuilderState} {x : List ℕ} (c : Command) (a : Composed) → Outcome s x c a → a .number ≡ 0
     → ValuesFit c → Left b l s x → Left b (l ++ (c ∷ [])) (a .state) (a .buffer)
 unfolding taken
-taken-left c a (afterEnd e) q v h = absurd (number-some byteAfterEnd q)
-taken-left c a (faulty f e g) q v h = absurd (number-some f q)
-taken-left c a (full e g r) q v h = absurd (number-some bufferFull q)
+taken-left c a (afterEnd e) q v h = absurd (omega (arith, q))
+taken-left c a (faulty f e g) q v h = absurd (omega (arith, q, number-some f))
+taken-left c a (full e g r) q v h = absurd (omega (arith, q))
 taken-left {b} {l} {s} {x} c a (takesIt e g r) q v h =
     let size : length x ≡ length b = ap length (h .buffer) ∙ fits-behind b l c (h .room) in
     record {

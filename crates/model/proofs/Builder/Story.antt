@@ -8,8 +8,7 @@ use mathlib.Core.Option.{none, some}
 use native.Mathlib.Omega.{arith}
 use lib.ListN.{length, getD, take, drop, length-append}
 use lib.Seq.{take-append-seam, drop-append-seam}
-use Rattle.model.specs.Refusal.{Refusal, noCommand, cutShort, byteAfterEnd, misplaced, ceilingPassed, outOfRange, wordRepeated, releasesNotRising}
-use Rattle.model.specs.Refusal.{limitTooHigh, bufferTooShort, bufferFull, number}
+use Rattle.model.specs.Refusal.{Refusal, byteAfterEnd, number}
 use Rattle.model.specs.Command.{Command, END}
 use Rattle.model.specs.Fault.{Known, nothingKnown, faultOf}
 use Rattle.model.specs.Sheet.{after, end?, accepted, turnedDown, verdict, commandsFrom, commandsAt}
@@ -17,7 +16,7 @@ use Rattle.model.specs.WellFormed.{Each}
 use Rattle.model.specs.Encoding.{operandsOf, widthsOf, encode, encodeAll, OperandsFit}
 use Rattle.model.specs.Builder.{BuilderState, nothingFilled, Composed, declined, taken, compose, Calls, start, takes, filledPart, ComposedBy, Story}
 use Rattle.model.proofs.Lists.{impossible}
-use Rattle.model.proofs.Ends.{is-end}
+use Rattle.model.proofs.Refusals.{number-some, same-number}
 use Rattle.model.proofs.Fit.Reading.{FoundAt, ReadFrom, lastly, firstly, read-all}
 use Rattle.model.proofs.Encoding.Numbers.{append-assoc, Bytes}
 use Rattle.model.proofs.Encoding.Commands.{found-fits}
@@ -25,41 +24,6 @@ use Rattle.model.proofs.Encoding.Reading.{Passes, nothing, first, encod
 use Rattle.model.proofs.Encoding.Verdict.{encode-some, refused-here, not-refused-here, end-fits, accepted-sheet, byte-after, nothing-written, handed-out}
 use Rattle.model.proofs.Encoding.Sheets.{sheet-bytes, fits-values}
 use Rattle.model.proofs.Builder.Calls.{Outcome, afterEnd, faulty, full, takesIt, outcome, Stands, going, ended, Left, fits-behind, longer, left-by}
-
--- the refusal of a number
-abbrev numbered : ℕ → Refusal
-numbered n =
-    getD (noCommand ∷ noCommand ∷ cutShort ∷ byteAfterEnd ∷ misplaced ∷ ceilingPassed ∷ outOfRange ∷ wordRepeated ∷ releasesNotRising ∷ limitTooHigh
-    ∷ bufferTooShort ∷ bufferFull ∷ []) n noCommand
-
-back : (f : Refusal) → numbered (number f) ≡ f
-back noCommand = refl
-back cutShort = refl
-back byteAfterEnd = refl
-back misplaced = refl
-back ceilingPassed = refl
-back outOfRange = refl
-back wordRepeated = refl
-back releasesNotRising = refl
-back limitTooHigh = refl
-back bufferTooShort = refl
-back bufferFull = refl
-
-same-number : (f g : Refusal) → number f ≡ number g → f ≡ g
-same-number f g e = sym (back f) ∙ ap numbered e ∙ back g
-
-number-some : (f : Refusal) → 1 ≤ number f
-number-some noCommand = omega arith
-number-some cutShort = omega arith
-number-some byteAfterEnd = omega arith
-number-some misplaced = omega arith
-number-some ceilingPassed = omega arith
-number-some outOfRange = omega arith
-number-some wordRepeated = omega arith
-number-some releasesNotRising = omega arith
-number-some limitTooHigh = omega arith
-number-some bufferTooShort = omega arith
-number-some bufferFull = omega arith
 
 -- THE READER'S NUMBER
 module _ (c : Command) (fits : OperandsFit c) (f : Refusal) (before : number f < 11) (rest : List ℕ) where

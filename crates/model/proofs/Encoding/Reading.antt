@@ -93,4 +93,3 @@ passed {k} (first {c = c} {l = l} e f w r) n p q =
     let there : (p ++ encode c) ++ encodeAll l ≡ p ++ encodeAll (c ∷ l) =
     append-assoc p (encode c) (encodeAll l) ∙ ap (λ (x : List ℕ). p ++ x) (sym (encode-cons c l)) in
     rw (more, goes-on (length l + n) _ (length p) k (first-found p c l q w) e f, shifted p c l q, ← there) (passed r n (p ++ encode c) q)
-

@@ -123,9 +123,12 @@ module _ {l : List Command} {m : Known} (r : Passes nothingKnown l m) (c : Comma
       go : (b : Bool) → end? c ≡ b → ⊥
       go true w = not-there f _ (sym (verdict-after r (encode c ++ q) ∙ ends _ sheet here m next-found e w) ∙ v)
       go false w =
-          absurd (omega (arith, encode-some c,
-          verdict-behind sheet f here (left r (encode c ++ q)) (here + length (encode c)) (after m c) (omega (arith, size))
-          (sym (verdict-after r (encode c ++ q) ∙ goes-on _ sheet here m next-found e w) ∙ v)))
+          absurd (omega (
+            arith,
+            encode-some c,
+            verdict-behind sheet f here (left r (encode c ++ q)) (here + length (encode c)) (after m c) (omega (arith, size))
+                (sym (verdict-after r (encode c ++ q) ∙ goes-on _ sheet here m next-found e w) ∙ v),
+          ))
 
 -- END
 pub end-fits : OperandsFit END
