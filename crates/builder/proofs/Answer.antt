@@ -14,7 +14,7 @@ use Rattle.model.specs.Fault.{Known, faultOf, underCeiling}
 use Rattle.model.specs.Sheet.{after, end?}
 use Rattle.model.specs.Command as M
 use Rattle.model.specs.Encoding.{encode}
-use Rattle.model.specs.Builder.{BuilderState, Composed, declined, overwrite, taken, composeFree, composeJudged, composeAfter, compose}
+use Rattle.model.specs.Builder.{BuilderState, Composed, declined, overwrite, taken, composeBy, compose}
 use Rattle.model.proofs.Fit.Body.{passedOf}
 use Rattle.commands.specs.View.{viewCommand}
 use Rattle.commands.specs.declared.Command.{Command}
@@ -35,41 +35,33 @@ some-free length filled size h = go (ltb (length - filled) size) refl
 
 -- THE ANSWER
 module _ (s : BuilderState) (b : List ℕ) where
-  module _ (c : M.Command) where
-    by-end : {t : Bool} → s .ended ≡ t → compose s b c ≡ composeAfter t s b c
-    unfolding compose
-    by-end e = ap (λ (t : Bool). composeAfter t s b c) e
-
-    by-fault : {o : Option R.Refusal} → s .ended ≡ false → faultOf (s .known) c ≡ o → compose s b c ≡ composeJudged o s b c
-    unfolding composeAfter
-    by-fault e f = by-end e ∙ ap (λ (o : Option R.Refusal). composeJudged o s b c) f
-
-    by-free : {t : Bool} → s .ended ≡ false → faultOf (s .known) c ≡ none → leb (s .filled + length (encode c)) (length b) ≡ t
-        → compose s b c ≡ composeFree t s b c
-    unfolding composeJudged
-    by-free e f h = by-fault e f ∙ ap (λ (t : Bool). composeFree t s b c) h
+  -- the answer by the three tests
+  by : {e f : Bool} {o : Option R.Refusal} (c : M.Command) → s .ended ≡ e → faultOf (s .known) c ≡ o
+      → leb (s .filled + length (encode c)) (length b) ≡ f → compose s b c ≡ composeBy e o f s b c
+  unfolding compose
+  by c e o f = rw (e, o, f) refl
 
   -- a code's answer that is the model's
   module _ (r : Code.Composed) where
     pub answers-end : (c : M.Command) → s .ended ≡ true → Declined byteAfterEnd s r → Composes s b c r b
-    unfolding composeAfter
-    answers-end c e d = subst (λ (a : Composed). Answers a r b) (sym (by-end c e)) (d b)
+    unfolding composeBy
+    answers-end c e d = subst (λ (a : Composed). Answers a r b) (sym (by c e refl refl)) (d b)
 
     module _ (vs : List ℕ) (c : Command) (going : s .ended ≡ false) where
       pub answers-fault : (f : R.Refusal) → some f ≡ faultOf (s .known) (viewCommand [] c) → Declined f s r → Composes s b (viewCommand vs c) r b
-      unfolding composeJudged
+      unfolding composeBy
       answers-fault f e d =
-          subst (λ (a : Composed). Answers a r b) (sym (by-fault (viewCommand vs c) going (fault-values vs (s .known) c ∙ sym e))) (d b)
+          subst (λ (a : Composed). Answers a r b) (sym (by (viewCommand vs c) going (fault-values vs (s .known) c ∙ sym e) refl)) (d b)
 
       module _ (good : none ≡ faultOf (s .known) (viewCommand [] c)) where
         abbrev size : ℕ
         size = length (encode (viewCommand vs c))
 
-        free : {t : Bool} → leb (s .filled + size) (length b) ≡ t → compose s b (viewCommand vs c) ≡ composeFree t s b (viewCommand vs c)
-        free e = by-free (viewCommand vs c) going (fault-values vs (s .known) c ∙ sym good) e
+        free : {t : Bool} → leb (s .filled + size) (length b) ≡ t → compose s b (viewCommand vs c) ≡ composeBy false none t s b (viewCommand vs c)
+        free e = by (viewCommand vs c) going (fault-values vs (s .known) c ∙ sym good) e
 
         pub answers-full : true ≡ ltb (length b) (s .filled + size) → Declined bufferFull s r → Composes s b (viewCommand vs c) r b
-        unfolding composeFree
+        unfolding composeBy
         answers-full e d =
             let more = ltb-true (length b) (s .filled + size) (sym e) in
             subst (λ (a : Composed). Answers a r b) (sym (free (lt-leb (s .filled + size) (length b) more))) (d b)
@@ -81,7 +73,7 @@ module _ (s : BuilderState) (b : List ℕ) where
 
         pub answers-taken : {x : List ℕ} → false ≡ ltb (length b) (s .filled + size) → x ≡ overwrite b (s .filled) (encode (viewCommand vs c))
             → Answers (takenSo (after (s .known) (viewCommand [] c)) (end? (viewCommand [] c)) x) r x → Composes s b (viewCommand vs c) r x
-        unfolding composeFree taken
+        unfolding composeBy taken
         answers-taken {x} e w a =
             let known = after (s .known) (viewCommand [] c) in
             let room = ltb-false (length b) (s .filled + size) (sym e) in

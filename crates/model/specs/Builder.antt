@@ -48,28 +48,18 @@ taken s b c =
       buffer = overwrite b (s .filled) (encode c);
     }
 
--- 11: fewer bytes are free than the command has
-unfoldable pub composeFree : Bool → BuilderState → List ℕ → Command → Composed
+-- by: END is taken already, the reader's fault, as many bytes are free as the command has
+unfoldable pub composeBy : Bool → Option Refusal → Bool → BuilderState → List ℕ → Command → Composed
 unfolding taken
-composeFree true s b c = taken s b c
-composeFree false s b c = declined bufferFull s b
-
--- the reader's faults
-unfoldable pub composeJudged : Option Refusal → BuilderState → List ℕ → Command → Composed
-unfolding composeFree encode
-composeJudged (some f) s b c = declined f s b
-composeJudged none s b c = composeFree (leb (s .filled + length (encode c)) (length b)) s b c
-
--- 3: a byte follows END
-unfoldable pub composeAfter : Bool → BuilderState → List ℕ → Command → Composed
-unfolding composeJudged faultOf
-composeAfter true s b c = declined byteAfterEnd s b
-composeAfter false s b c = composeJudged (faultOf (s .known) c) s b c
+composeBy true fault free s b c = declined byteAfterEnd s b
+composeBy false (some f) free s b c = declined f s b
+composeBy false none false s b c = declined bufferFull s b
+composeBy false none true s b c = taken s b c
 
 -- one more command
 unfoldable pub compose : BuilderState → List ℕ → Command → Composed
-unfolding composeAfter
-compose s b c = composeAfter (s .ended) s b c
+unfolding composeBy faultOf encode
+compose s b c = composeBy (s .ended) (faultOf (s .known) c) (leb (s .filled + length (encode c)) (length b)) s b c
 
 -- A COMMAND HANDED OVER by its byte and nine operands. One of a single byte that is above 255 counts as 255: no register, word, block, offset
 -- or task has that number either.
@@ -85,6 +75,15 @@ handedBy (some r) operands = some (r .command (λ n. narrowed (getD (r .widths) 
 unfoldable pub handed : ℕ → List ℕ → Option Command
 unfolding handedBy rowOf table
 handed byte operands = handedBy (rowOf byte table) operands
+
+-- the same with the operands as they are given
+unfoldable pub givenBy : Option Row → List ℕ → Option Command
+givenBy none operands = none
+givenBy (some r) operands = some (r .command (λ n. getD operands n 0))
+
+unfoldable pub given : ℕ → List ℕ → Option Command
+unfolding givenBy rowOf table
+given byte operands = givenBy (rowOf byte table) operands
 
 -- 1: the byte names no command; after END it is 3, as for every other
 unfoldable pub composeUnnamed : Bool → BuilderState → List ℕ → Composed
@@ -123,6 +122,9 @@ pub record Story : Type 0 where
   -- a command whose operands fit is turned down with the reader's number and place, whatever would follow it
   pub reader : {b x : List ℕ} {l : List Command} {s : BuilderState} → Calls b l s x → (c : Command) → OperandsFit c → (f : Refusal) → number f < 11
       → (rest : List ℕ) → compose s x c .number ≡ number f ↔ verdict (filledPart s x ++ encode c ++ rest) ≡ turnedDown f (s .filled)
+  -- what is taken by its byte and operands has the operands as they were given
+  pub exact : {b x : List ℕ} {l : List Command} {s : BuilderState} → Calls b l s x → (byte : ℕ) (operands : List ℕ) (c : Command)
+      → handed byte operands ≡ some c → compose s x c .number ≡ 0 → given byte operands ≡ some c
   -- after END the filled part is a sheet that the reader accepts and hands out again as the same commands
   pub sheet : {b x : List ℕ} {l : List Command} {s : BuilderState} → Calls b l s x → s .ended ≡ true
       → (verdict (filledPart s x) ≡ accepted) × (commandsAt (filledPart s x) 0 ≡ l)

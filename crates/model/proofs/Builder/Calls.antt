@@ -14,7 +14,7 @@ use Rattle.model.specs.Command.{Command, END}
 use Rattle.model.specs.Fault.{Known, nothingKnown, faultOf}
 use Rattle.model.specs.Sheet.{after, end?}
 use Rattle.model.specs.Encoding.{encode, encodeAll, ValuesFit}
-use Rattle.model.specs.Builder.{BuilderState, nothingFilled, Composed, declined, overwrite, taken, composeFree, composeJudged, composeAfter, compose}
+use Rattle.model.specs.Builder.{BuilderState, nothingFilled, Composed, declined, overwrite, taken, composeBy, compose}
 use Rattle.model.specs.Builder.{Calls, start, takes, declines}
 use Rattle.model.proofs.Lists.{impossible}
 use Rattle.model.proofs.Ends.{is-end}
@@ -30,25 +30,17 @@ pub data Outcome (s : BuilderState) (x : List ℕ) (c : Command) : Composed → 
   takesIt : s .ended ≡ false → faultOf (s .known) c ≡ none → s .filled + length (encode c) ≤ length x → Outcome s x c (taken s x c)
 
 module _ (s : BuilderState) (x : List ℕ) (c : Command) where
-  on-free : s .ended ≡ false → faultOf (s .known) c ≡ none → (b : Bool) → leb (s .filled + length (encode c)) (length x) ≡ b
-      → Outcome s x c (composeFree b s x c)
-  unfolding composeFree
-  on-free e f true h = takesIt e f (leb-true _ _ h)
-  on-free e f false h = full e f (leb-false _ _ h)
-
-  on-judged : s .ended ≡ false → (o : Option Refusal) → faultOf (s .known) c ≡ o → Outcome s x c (composeJudged o s x c)
-  unfolding composeJudged
-  on-judged e none f = on-free e f (leb (s .filled + length (encode c)) (length x)) refl
-  on-judged e (some g) f = faulty g e f
-
-  on-ended : (b : Bool) → s .ended ≡ b → Outcome s x c (composeAfter b s x c)
-  unfolding composeAfter
-  on-ended true e = afterEnd e
-  on-ended false e = on-judged e (faultOf (s .known) c) refl
+  by : (e : Bool) → s .ended ≡ e → (o : Option Refusal) → faultOf (s .known) c ≡ o → (f : Bool) → leb (s .filled + length (encode c)) (length x) ≡ f
+      → Outcome s x c (composeBy e o f s x c)
+  unfolding composeBy
+  by true e o g f h = afterEnd e
+  by false e (some r) g f h = faulty r e g
+  by false e none g false h = full e g (leb-false _ _ h)
+  by false e none g true h = takesIt e g (leb-true _ _ h)
 
   pub outcome : Outcome s x c (compose s x c)
   unfolding compose
-  outcome = on-ended (s .ended) refl
+  outcome = by (s .ended) refl (faultOf (s .known) c) refl (leb (s .filled + length (encode c)) (length x)) refl
 
 -- WHAT IS LEFT
 -- the reader passes the commands taken, and after END it has come to the end

@@ -14,11 +14,14 @@ use Rattle.model.specs.Fault.{Known, nothingKnown, faultOf}
 use Rattle.model.specs.Sheet.{after, end?, accepted, turnedDown, verdict, commandsFrom, commandsAt}
 use Rattle.model.specs.WellFormed.{Each}
 use Rattle.model.specs.Encoding.{operandsOf, widthsOf, encode, encodeAll, OperandsFit}
-use Rattle.model.specs.Builder.{BuilderState, nothingFilled, Composed, declined, taken, compose, Calls, start, takes, filledPart, ComposedBy, Story}
+use Rattle.model.specs.Builder.{BuilderState, nothingFilled, Composed, declined, taken, compose, handed, given, Calls, start, takes, filledPart, ComposedBy, Story}
 use Rattle.model.proofs.Lists.{impossible}
 use Rattle.model.proofs.Refusals.{number-some, same-number}
 use Rattle.model.proofs.Fit.Reading.{FoundAt, ReadFrom, lastly, firstly, read-all}
+use Rattle.model.proofs.Fit.Body.{passedOf}
+use Rattle.model.proofs.Builder.Handed.{handed-exact}
 use Rattle.model.proofs.Encoding.Numbers.{append-assoc, Bytes}
+use Rattle.model.proofs.Encoding.Ranges.{Bounded}
 use Rattle.model.proofs.Encoding.Commands.{found-fits}
 use Rattle.model.proofs.Encoding.Reading.{Passes, nothing, first, encode-cons, encode-one}
 use Rattle.model.proofs.Encoding.Verdict.{encode-some, refused-here, not-refused-here, end-fits, accepted-sheet, byte-after, nothing-written, handed-out}
@@ -174,6 +177,25 @@ module _ (b sheet : List ℕ) (small : Bytes sheet) where
       subst (ComposedBy b (commandsAt sheet 0)) (sym same)
       (build start refl refl (read-all sheet e) (omega (arith, h, ap length same, nothing-written)))
 
+-- A COMMAND TAKEN by its byte and operands
+module _ (b : ℕ) (o : List ℕ) (c : Command) (is : handed b o ≡ some c) (x : List ℕ) (k : Known) (n : ℕ) where
+  going-exact : Bounded (k .counts) → (a : Composed) → Outcome (record { known = k; filled = n; ended = false }) x c a → a .number ≡ 0 → given b o ≡ some c
+  going-exact w a (afterEnd f) z = impossible (cc)
+  going-exact w a (faulty f g h) z = absurd (omega (arith, z, number-some f))
+  going-exact w a (full f g h) z = absurd (omega (arith, z))
+  going-exact w a (takesIt f g h) z = handed-exact (k .counts) w b o c (passedOf k c g .inRange) is
+
+  ended-exact : (a : Composed) → Outcome (record { known = k; filled = n; ended = true }) x c a → a .number ≡ 0 → given b o ≡ some c
+  ended-exact a (afterEnd f) z = absurd (omega (arith, z))
+  ended-exact a (faulty f g h) z = impossible (cc)
+  ended-exact a (full f g h) z = impossible (cc)
+  ended-exact a (takesIt f g h) z = impossible (cc)
+
+exact-by : {l : List Command} {s : BuilderState} (x : List ℕ) → Stands l s → (b : ℕ) (o : List ℕ) (c : Command) → handed b o ≡ some c
+    → compose s x c .number ≡ 0 → given b o ≡ some c
+exact-by {s = s} x (going {k = k} n p w) b o c e z = going-exact b o c e x k n w (compose s x c) (outcome s x c) z
+exact-by {s = s} x (ended {k = k} n p g) b o c e z = ended-exact b o c e x k n (compose s x c) (outcome s x c) z
+
 -- THE STORY
 pub story : Story
 story =
@@ -181,6 +203,7 @@ story =
       filled = filled-is;
       past = past-is;
       reader = λ {b} {x} {l} {s} calls c fits f before rest. reader calls c fits f before rest;
+      exact = λ {b} {x} {l} {s} calls byte operands c e z. exact-by x (left-by calls .stands) byte operands c e z;
       sheet = λ calls e. (rw (filled-is calls) (stands-accepted (left-by calls .stands) e), again calls);
       every = composed;
       once = λ a b e. sym (again a) ∙ ap (λ (z : List ℕ). commandsAt z 0) e ∙ again b;
