@@ -13,7 +13,7 @@ pub mod ClaimCases
 pub mod Cases
 pub mod ArrivalCases
 pub mod AttemptCases
-pub mod BuilderCases
+pub mod BuildCases
 pub mod Bounds
 -- the bytes of commands
 pub mod Encoding

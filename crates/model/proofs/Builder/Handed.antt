@@ -60,8 +60,11 @@ module _ (n : SheetCounts) (h : Bounded n) (o : List ℕ) where
       → _≡_ {A = Command} (body (outside (PAIR (byte 0) (byte 1) (byte 2)))) (body (outside (PAIR (getD o 0 0) (getD o 1 0) (getD o 2 0))))
   pair-row e =
       let front = and-left (ltb (byte 0) (n .words) && leb (byte 1) 7) (leb (byte 2) 7) e in
-      rw (below (n .words) (getD o 0 0) words (and-left _ (leb (byte 1) 7) front), seven (getD o 1 0) (and-right (ltb (byte 0) (n .words)) _ front),
-      seven (getD o 2 0) (and-right (ltb (byte 0) (n .words) && leb (byte 1) 7) _ e)) refl
+      rw (
+        below (n .words) (getD o 0 0) words (and-left _ (leb (byte 1) 7) front),
+        seven (getD o 1 0) (and-right (ltb (byte 0) (n .words)) _ front),
+        seven (getD o 2 0) (and-right (ltb (byte 0) (n .words) && leb (byte 1) 7) _ e),
+      ) refl
 
   swap-row : leb (byte 0) 7 ≡ true → _≡_ {A = Command} (body (outside (SWAP (byte 0)))) (body (outside (SWAP (getD o 0 0))))
   swap-row e = rw (seven (getD o 0 0) e) refl
@@ -70,15 +73,21 @@ module _ (n : SheetCounts) (h : Bounded n) (o : List ℕ) where
       → _≡_ {A = Command} (body (inside (access (GET (byte 0) (byte 1) (byte 2))))) (body (inside (access (GET (getD o 0 0) (getD o 1 0) (getD o 2 0)))))
   get-row e =
       let front = and-left (leb (byte 0) 7 && ltb (byte 1) (n .blocks)) (leb (byte 2) 7) e in
-      rw (seven (getD o 0 0) (and-left _ (ltb (byte 1) (n .blocks)) front), below (n .blocks) (getD o 1 0) blocks (and-right (leb (byte 0) 7) _ front),
-      seven (getD o 2 0) (and-right (leb (byte 0) 7 && ltb (byte 1) (n .blocks)) _ e)) refl
+      rw (
+        seven (getD o 0 0) (and-left _ (ltb (byte 1) (n .blocks)) front),
+        below (n .blocks) (getD o 1 0) blocks (and-right (leb (byte 0) 7) _ front),
+        seven (getD o 2 0) (and-right (leb (byte 0) 7 && ltb (byte 1) (n .blocks)) _ e),
+      ) refl
 
   put-row : (ltb (byte 0) (n .blocks) && leb (byte 1) 7) && leb (byte 2) 7 ≡ true
       → _≡_ {A = Command} (body (inside (access (PUT (byte 0) (byte 1) (byte 2))))) (body (inside (access (PUT (getD o 0 0) (getD o 1 0) (getD o 2 0)))))
   put-row e =
       let front = and-left (ltb (byte 0) (n .blocks) && leb (byte 1) 7) (leb (byte 2) 7) e in
-      rw (below (n .blocks) (getD o 0 0) blocks (and-left _ (leb (byte 1) 7) front), seven (getD o 1 0) (and-right (ltb (byte 0) (n .blocks)) _ front),
-      seven (getD o 2 0) (and-right (ltb (byte 0) (n .blocks) && leb (byte 1) 7) _ e)) refl
+      rw (
+        below (n .blocks) (getD o 0 0) blocks (and-left _ (leb (byte 1) 7) front),
+        seven (getD o 1 0) (and-right (ltb (byte 0) (n .blocks)) _ front),
+        seven (getD o 2 0) (and-right (ltb (byte 0) (n .blocks) && leb (byte 1) 7) _ e),
+      ) refl
 
 all-exact : EachRow Exact table
 unfolding table inRange

@@ -24,7 +24,7 @@ use Rattle.model.proofs.Fit.Machine.{OutsideFit, PhaseFit}
 use Rattle.model.proofs.Fit.Outside.{first-fits, some-pairs}
 use Rattle.model.proofs.Exchanges.Act.{Act, free, actOf, memoryAfter, started?, Distinct}
 use Rattle.model.proofs.Exchanges.Act.{exchanging as exchangingAct}
-use Rattle.model.proofs.Exchanges.Invariant.{WellFormed, Knows, Invariant, Order, Rank, itself, lower, Situation, Room}
+use Rattle.model.proofs.Exchanges.Invariant.{ValidOrHeld, Knows, Invariant, Order, Rank, itself, lower, Situation, Room}
 use Rattle.model.proofs.Exchanges.Invariant.{idle as idleRank}
 use Rattle.model.proofs.Exchanges.Frame.{Frame, same, frame-none, frame-status, own-frame, current-frame}
 use Rattle.model.proofs.Exchanges.Outcome.{outcome}
@@ -169,7 +169,7 @@ yes-act {f = f} {x} y = exchange-act f x (y .exchange) ∙ rw (y .step)
 
 -- WHAT A READING HAS LOADED
 module _ (of : ℕ → Type 0) (status : List ℕ) (saves : List (List ℕ)) (acts : List Act) (q : ℕ) where
-  loaded-in : (c : ℕ) (r : Reading) (w : Word) → loadedBy r ≡ some w → Knows of status saves acts q (readAct c r) → (c : ℕ) × WellFormed of acts c w
+  loaded-in : (c : ℕ) (r : Reading) (w : Word) → loadedBy r ≡ some w → Knows of status saves acts q (readAct c r) → (c : ℕ) × ValidOrHeld of acts c w
   loaded-in c loading w e k = impossible (cc)
   loaded-in c (looking v) w e k = let z : v ≡ w = cc in (c, rw z at k)
   loaded-in c (fetching v) w e k = let z : v ≡ w = cc in (c, rw z at (k .0))
@@ -178,7 +178,7 @@ module _ (of : ℕ → Type 0) (status : List ℕ) (saves : List (List ℕ)) (ac
   nothing-loaded e = impossible (cc)
 
   loaded-content : (f : Phase) (w : Word) → loadedBy (readingIn f) ≡ some w → Knows of status saves acts q (actIn f)
-      → (c : ℕ) × WellFormed of acts c w
+      → (c : ℕ) × ValidOrHeld of acts c w
   loaded-content idle w e k = nothing-loaded e
   loaded-content plain w e k = nothing-loaded e
   loaded-content (readingPhase r c s) w e k = loaded-in c s w e k

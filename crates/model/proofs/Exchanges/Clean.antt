@@ -12,7 +12,7 @@ use Rattle.model.specs.Word.{Word, Memory, cellOf, statusOf, saved, setC
 use Rattle.model.specs.Exchange.{Step, commit, clean, cleanMark, Exchange, entryAt, installed, cleaned, to}
 use Rattle.model.proofs.Lists.{replace-same, replace-other, same?}
 use Rattle.model.proofs.Exchanges.Act.{Act, free, exchanging, stageOf, stage, undecided, uncleaned, covering}
-use Rattle.model.proofs.Exchanges.Invariant.{WellFormed, valid, held, Anyone, Settled, AtStep, Situation, Room}
+use Rattle.model.proofs.Exchanges.Invariant.{ValidOrHeld, valid, held, Anyone, Settled, AtStep, Situation, Room}
 use Rattle.model.proofs.Exchanges.Outcome.{Decides, commits, refuses, Cleans, renews, passes, gives-back, leaves, marks-after}
 use Rattle.model.proofs.Exchanges.Frame.{Frame, frame-none, frame-cell, frame-status, frame-mark}
 use Rattle.model.proofs.Exchanges.Frame.{mark-keeps, kept-two, settled-frame, Moved, below-clear}
@@ -28,7 +28,7 @@ module _ {below : ℕ → ℕ → Type 0} {m : Memory} {acts : List Act} {p : �
   -- the exchange goes on to step s of Clean, all contents being well formed and those of p not behind s
   cleaning-moved : {n : Memory} {yes? : Bool} (s : Step) → Answered p m n yes? → undecided (stageOf s) ≡ false
       → covering (stage x) ≤ covering (stageOf s)
-      → ((c : ℕ) → WellFormed Anyone acts c (cellOf n c))
+      → ((c : ℕ) → ValidOrHeld Anyone acts c (cellOf n c))
       → ((c e : ℕ) → uncleaned (stage x) ≤ e → entryAt x e .cell ≡ c → cellOf n c ≡ installed p (entryAt x e) e → uncleaned (stageOf s) ≤ e)
       → AtStep (λ r. below r p) (n .status) (n .saves) (replace acts p (exchanging (to x s))) p (to x s) s
       → Moved below m n acts p (exchanging (to x s))
@@ -47,7 +47,7 @@ module _ {below : ℕ → ℕ → Type 0} {m : Memory} {acts : List Act} {p : �
       }
 
   -- the exchange ends: no content is p's
-  ending-moved : {n : Memory} {yes? : Bool} → Answered p m n yes? → ((c : ℕ) → WellFormed Anyone acts c (cellOf n c))
+  ending-moved : {n : Memory} {yes? : Bool} → Answered p m n yes? → ((c : ℕ) → ValidOrHeld Anyone acts c (cellOf n c))
       → ((c e : ℕ) → uncleaned (stage x) ≤ e → e < x .i → entryAt x e .cell ≡ c → cellOf n c ≡ installed p (entryAt x e) e → ⊥)
       → Moved below m n acts p free
   ending-moved A contents none =
@@ -78,7 +78,7 @@ module _ {below : ℕ → ℕ → Type 0} {m : Memory} {acts : List Act} {p : �
     pub entry-done : j < x .i
     pub low : covering (stage x) ≤ suc j
     pub answered : Answered p m n yes?
-    pub contents : (c : ℕ) → WellFormed Anyone acts c (cellOf n c)
+    pub contents : (c : ℕ) → ValidOrHeld Anyone acts c (cellOf n c)
     pub past : (c e : ℕ) → uncleaned (stage x) ≤ e → entryAt x e .cell ≡ c → cellOf n c ≡ installed p (entryAt x e) e → suc j ≤ e
 
   pub cleans-moved : {n : Memory} (j : ℕ) (yes? : Bool) → CleanedAt j yes? n → suc j ≢ x .i
@@ -89,7 +89,7 @@ module _ {below : ℕ → ℕ → Type 0} {m : Memory} {acts : List Act} {p : �
   pub cleans-last-moved : {n : Memory} (j : ℕ) (yes? : Bool) → CleanedAt j yes? n → suc j ≡ x .i → Moved below m n acts p free
   cleans-last-moved j yes? C k = ending-moved (C .answered) (C .contents) (λ c e l h d i. omega (arith, C .past c e l d i))
 
-  weaken : {c : ℕ} {w : Word} → WellFormed (λ r. below r p) acts c w → WellFormed Anyone acts c w
+  weaken : {c : ℕ} {w : Word} → ValidOrHeld (λ r. below r p) acts c w → ValidOrHeld Anyone acts c w
   weaken (valid h) = valid h
   weaken (held b H) = held tt H
 
@@ -100,7 +100,7 @@ module _ {below : ℕ → ℕ → Type 0} {m : Memory} {acts : List Act} {p : �
     pub clean-settled : Settled (λ r. below r p) (m .status) (m .saves) acts p (entryAt x j) j
     clean-settled = mine S .settled j (rw s (omega arith)) clean-entry
 
-    pub not-mine : {w : Word} → WellFormed (λ r. below r p) acts (entryAt x j .cell) w → w ≢ installed p (entryAt x j) j
+    pub not-mine : {w : Word} → ValidOrHeld (λ r. below r p) acts (entryAt x j .cell) w → w ≢ installed p (entryAt x j) j
     not-mine (valid h) k = true≢false (sym h ∙ ap (λ (w : Word). w .valid) k)
     not-mine {w} (held b H) k = below-clear S (w .task) b (ap (λ (w : Word). w .task) k)
 
@@ -120,7 +120,7 @@ module _ {below : ℕ → ℕ → Type 0} {m : Memory} {acts : List Act} {p : �
     cleaned-none gone =
         record { entry-done = clean-entry; low = rw s (omega arith); answered = clean-same; contents = S .invariant .contents; past = past-by (m .cells) gone }
 
-    cleaned-cell : Room m p (x .entries) → (w : Word) → WellFormed (λ r. below r p) acts (entryAt x j .cell) w
+    cleaned-cell : Room m p (x .entries) → (w : Word) → ValidOrHeld (λ r. below r p) acts (entryAt x j .cell) w
         → CleanedAt j yes? (setCell m (entryAt x j .cell) w)
     cleaned-cell R w h =
         let c₀ = entryAt x j .cell in
@@ -144,7 +144,7 @@ module _ {below : ℕ → ℕ → Type 0} {m : Memory} {acts : List Act} {p : �
   pub cleaned-at : {n : Memory} (j : ℕ) (yes? : Bool) → Room m p (x .entries) → Cleans p m x j yes? n → CleanedAt j yes? n
   cleaned-at j yes? R (renews s e h) = cleaned-cell j yes? s R (cleaned p (entryAt x j)) (valid refl)
   cleaned-at j yes? R (passes s e h) = cleaned-none j yes? s h
-  cleaned-at j yes? R (gives-back s e h) = cleaned-cell j yes? s R (entryAt x j .init) (clean-settled j yes? s .found .loaded .well-formed)
+  cleaned-at j yes? R (gives-back s e h) = cleaned-cell j yes? s R (entryAt x j .init) (clean-settled j yes? s .found .loaded .valid-or-held)
   cleaned-at j yes? R (leaves s e h o) = cleaned-none j yes? s h
   cleaned-at j yes? R (marks-after s) =
       let h = at-step-as S (cleanMark j yes?) s in

@@ -15,7 +15,7 @@ use Rattle.model.specs.Exchange.{Exchange, Exchanged, entryAt, changing,
 use Rattle.model.proofs.Lists.{replace-same, replace-other, same?}
 use Rattle.model.proofs.Fit.Elements.{and-left}
 use Rattle.model.proofs.Exchanges.Act.{Act, exchanging, memoryAfter, Quiet, here}
-use Rattle.model.proofs.Exchanges.Invariant.{WellFormed, valid, held, Anyone, Situation, Room}
+use Rattle.model.proofs.Exchanges.Invariant.{ValidOrHeld, valid, held, Anyone, Situation, Room}
 use Rattle.model.proofs.Exchanges.Words.{unchanging, own-valid, own-same, current-own, current-same, installed-new, installed-old, cleaned-new}
 use Rattle.model.proofs.Exchanges.Outcome.{Decides, commits, refuses, Cleans, renews, passes, gives-back, leaves, marks-after, Outcome, starts}
 use Rattle.model.proofs.Exchanges.Outcome.{tests-done, tests-on, loads, looks-own, looks-other, fetches, saves-differing, saves-to-mark, saves}
@@ -40,14 +40,14 @@ module _ {below : ℕ → ℕ → Type 0} {m : Memory} {acts : List Act} {p : �
   -- a content keeps its current value if p's own do
   content-current : {n : Memory} → Frame p m n → {c : ℕ} {w : Word}
       → (w .task ≡ p → (l : w .count < x .i) → entryAt x (w .count) .cell ≡ c → current (n .status) (n .saves) w ≡ current (m .status) (m .saves) w)
-      → WellFormed Anyone acts c w → current (n .status) (n .saves) w ≡ current (m .status) (m .saves) w
+      → ValidOrHeld Anyone acts c w → current (n .status) (n .saves) w ≡ current (m .status) (m .saves) w
   content-current {n} F {c} {w} f (valid h) =
       current-own (n .status) (n .saves) w (own-valid (n .status) w h) ∙ sym (current-own (m .status) (m .saves) w (own-valid (m .status) w h))
   content-current {n} F {c} {w} f (held o H) = same? (w .task) p
       (λ k. let y : H .exchange ≡ x = cc (S .act, H .at-work) in f k (rw (← y) (H .high)) (rw (← y) (H .cell)))
       (λ ne. current-frame F (λ r (k : r ≡ w .task) z. ne (sym k ∙ z)) alone)
     where
-      alone : WellFormed (λ r. r ≡ w .task) acts c w
+      alone : ValidOrHeld (λ r. r ≡ w .task) acts c w
       alone = held refl H
 
   -- the cells stay, and of p's own contents status and save places stay

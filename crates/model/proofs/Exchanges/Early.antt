@@ -12,7 +12,7 @@ use Rattle.model.specs.Word.{Word, Memory, statusOf, saved}
 use Rattle.model.specs.Exchange.{Entry, entry, Step, Exchange, entryAt, installed, to, onward, withInit, initLoaded}
 use Rattle.model.proofs.Lists.{replace-same, replace-other, length-replace, at-below, same?, impossible}
 use Rattle.model.proofs.Exchanges.Act.{Act, free, exchanging, working, stage, undecided, uncleaned, undecided-all, here, stageOf}
-use Rattle.model.proofs.Exchanges.Invariant.{Held, WellFormed, valid, held, Anyone, Loaded, AtStep}
+use Rattle.model.proofs.Exchanges.Invariant.{Held, ValidOrHeld, valid, held, Anyone, Loaded, AtStep}
 use Rattle.model.proofs.Exchanges.Invariant.{InExchange, Knows, Rank, itself, idle, lower, Situation}
 use Rattle.model.proofs.Exchanges.Words.{own-valid, not-own}
 use Rattle.model.proofs.Exchanges.Frame.{Frame, frame-none, settled-frame, Moved, below-clear}
@@ -70,7 +70,7 @@ module _ {below : ℕ → ℕ → Type 0} {m : Memory} {acts : List Act} {p : �
   pub keep-content : (v : Act) {c : ℕ} {w : Word}
       → ((e : ℕ) → uncleaned (stage x) ≤ e → e < x .i → entryAt x e .cell ≡ c → w ≡ installed p (entryAt x e) e
       → Held (replace acts p v) c (installed p (entryAt x e) e))
-      → WellFormed Anyone acts c w → WellFormed Anyone (replace acts p v) c w
+      → ValidOrHeld Anyone acts c w → ValidOrHeld Anyone (replace acts p v) c w
   keep-content v keep (valid h) = valid h
   keep-content v {w = w} keep (held o H) = same? (w .task) p
       (λ e.
@@ -92,12 +92,12 @@ module _ {below : ℕ → ℕ → Type 0} {m : Memory} {acts : List Act} {p : �
       record { exchange = x′; at-work = replace-same free acts p (exchanging x′) (S .task); low = l; high = h; cell = f .cell e ∙ d; is = rw (f .new e) }
 
   -- nobody above p has put a content there, and p has not either: its own entries are at other cells
-  pub loaded-content : x .i < length (x .entries) → {w : Word} → WellFormed Anyone acts (here x .cell) w
-      → WellFormed (λ r. below r p) acts (here x .cell) w
+  pub loaded-content : x .i < length (x .entries) → {w : Word} → ValidOrHeld Anyone acts (here x .cell) w
+      → ValidOrHeld (λ r. below r p) acts (here x .cell) w
   loaded-content l (valid h) = valid h
   loaded-content l {w} (held o H) = go (S .rank (w .task))
     where
-      go : Rank below acts p (w .task) → WellFormed (λ r. below r p) acts (here x .cell) w
+      go : Rank below acts p (w .task) → ValidOrHeld (λ r. below r p) acts (here x .cell) w
       go (lower b) = held b H
       go (idle i) = impossible (cc (H .at-work))
       go (itself e) =
@@ -109,9 +109,9 @@ module _ {below : ℕ → ℕ → Type 0} {m : Memory} {acts : List Act} {p : �
   -- the task whose content an overlapped entry replaces: it is in an exchange, and its status is not 2
   pub replaced-held : {n : Entry} → Loaded (λ r. below r p) (m .status) acts n → n .overlapped ≡ true
       → below (n .init .task) p × Held acts (n .cell) (n .init)
-  replaced-held {n} L o = go (L .well-formed)
+  replaced-held {n} L o = go (L .valid-or-held)
     where
-      go : WellFormed (λ r. below r p) acts (n .cell) (n .init) → below (n .init .task) p × Held acts (n .cell) (n .init)
+      go : ValidOrHeld (λ r. below r p) acts (n .cell) (n .init) → below (n .init .task) p × Held acts (n .cell) (n .init)
       go (valid h) = absurd (true≢false (sym o ∙ L .looked ∙ ap not (own-valid (m .status) (n .init) h)))
       go (held b H) = (b, H)
 

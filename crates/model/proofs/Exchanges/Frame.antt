@@ -14,7 +14,7 @@ use Rattle.model.specs.Word.{setSave, own, current, Reading, loading, lo
 use Rattle.model.specs.Exchange.{Entry, Step, start, test, load, look, fetch, fail, mark, install, commit, save, clean, cleanMark, Exchange}
 use Rattle.model.proofs.Lists.{replace-same, replace-other, same?, impossible}
 use Rattle.model.proofs.Exchanges.Act.{Act, free, reading, exchanging, actAt}
-use Rattle.model.proofs.Exchanges.Invariant.{WellFormed, valid, held, Anyone, Loaded, FoundOld, Settled}
+use Rattle.model.proofs.Exchanges.Invariant.{ValidOrHeld, valid, held, Anyone, Loaded, FoundOld, Settled}
 use Rattle.model.proofs.Exchanges.Invariant.{AtStep, InReading, Knows, Rank, itself, idle, lower, Situation}
 use Rattle.model.proofs.Exchanges.Words.{own-valid, own-same, current-own, current-same}
 
@@ -66,8 +66,8 @@ pub frame-mark : (p : ℕ) (m : Memory) (q : ℕ) → q < length (m .status) →
 frame-mark p m q l ne = record { status = λ r d. mark-keeps m q l ne r; saves = λ r e d. refl }
 
 -- WHAT IS KNOWN OF A CONTENT stays, if it is of other tasks than p
-pub move-content : {of : ℕ → Type 0} {acts : List Act} {c : ℕ} {w : Word} (p : ℕ) (v : Act) → ((r : ℕ) → of r → r ≢ p) → WellFormed of acts c w
-    → WellFormed of (replace acts p v) c w
+pub move-content : {of : ℕ → Type 0} {acts : List Act} {c : ℕ} {w : Word} (p : ℕ) (v : Act) → ((r : ℕ) → of r → r ≢ p) → ValidOrHeld of acts c w
+    → ValidOrHeld of (replace acts p v) c w
 move-content p v clear (valid h) = valid h
 move-content {acts = acts} {w = w} p v clear (held o H) =
     held o (record {
@@ -80,12 +80,12 @@ move-content {acts = acts} {w = w} p v clear (held o H) =
     })
 
 module _ {p : ℕ} {m n : Memory} (F : Frame p m n) where
-  pub own-frame : {of : ℕ → Type 0} {acts : List Act} {c : ℕ} {w : Word} → ((r : ℕ) → of r → r ≢ p) → WellFormed of acts c w
+  pub own-frame : {of : ℕ → Type 0} {acts : List Act} {c : ℕ} {w : Word} → ((r : ℕ) → of r → r ≢ p) → ValidOrHeld of acts c w
       → own (n .status) w ≡ own (m .status) w
   own-frame {w = w} clear (valid h) = own-valid (n .status) w h ∙ sym (own-valid (m .status) w h)
   own-frame {w = w} clear (held o H) = own-same (m .status) (n .status) w (kept-two (F .status (w .task) (clear (w .task) o)))
 
-  pub current-frame : {of : ℕ → Type 0} {acts : List Act} {c : ℕ} {w : Word} → ((r : ℕ) → of r → r ≢ p) → WellFormed of acts c w
+  pub current-frame : {of : ℕ → Type 0} {acts : List Act} {c : ℕ} {w : Word} → ((r : ℕ) → of r → r ≢ p) → ValidOrHeld of acts c w
       → current (n .status) (n .saves) w ≡ current (m .status) (m .saves) w
   current-frame {w = w} clear (valid h) =
       current-own (n .status) (n .saves) w (own-valid (n .status) w h) ∙ sym (current-own (m .status) (m .saves) w (own-valid (m .status) w h))
@@ -96,18 +96,18 @@ module _ {p : ℕ} {m n : Memory} (F : Frame p m n) where
   module _ (v : Act) {of : ℕ → Type 0} (acts : List Act) (clear : (r : ℕ) → of r → r ≢ p) where
     pub loaded-frame : {e : Entry} → Loaded of (m .status) acts e → Loaded of (n .status) (replace acts p v) e
     loaded-frame L =
-        record { well-formed = move-content p v clear (L .well-formed); looked = L .looked ∙ ap not (sym (own-frame clear (L .well-formed))) }
+        record { valid-or-held = move-content p v clear (L .valid-or-held); looked = L .looked ∙ ap not (sym (own-frame clear (L .valid-or-held))) }
 
     pub found-frame : {q : ℕ} {e : Entry} {i : ℕ} → saved (n .saves) q i ≡ saved (m .saves) q i → FoundOld of (m .status) (m .saves) acts q e i
         → FoundOld of (n .status) (n .saves) (replace acts p v) q e i
     found-frame s E =
-        record { loaded = loaded-frame (E .loaded); was-old = current-frame clear (E .loaded .well-formed) ∙ E .was-old; kept-old = s ∙ E .kept-old }
+        record { loaded = loaded-frame (E .loaded); was-old = current-frame clear (E .loaded .valid-or-held) ∙ E .was-old; kept-old = s ∙ E .kept-old }
 
     -- the task whose content an overlapped entry replaces
     pub replaced-of : {e : Entry} → Loaded of (m .status) acts e → e .overlapped ≡ true → of (e .init .task)
-    replaced-of {e} L o = go (L .well-formed)
+    replaced-of {e} L o = go (L .valid-or-held)
       where
-        go : WellFormed of acts (e .cell) (e .init) → of (e .init .task)
+        go : ValidOrHeld of acts (e .cell) (e .init) → of (e .init .task)
         go (valid h) = let z : _≡_ {A = Bool} true false = sym o ∙ L .looked ∙ ap not (own-valid (m .status) (e .init) h) in impossible (cc)
         go (held h H) = h
 
@@ -127,7 +127,7 @@ module _ {p : ℕ} {m n : Memory} (F : Frame p m n) where
       step-frame x load h = tt
       step-frame x look h = move-content p v clear h
       step-frame x fetch h = (loaded-frame (h .0), h .1)
-      step-frame x (save u) h = (loaded-frame (h .0), h .1 ∙ sym (current-frame clear (h .0 .well-formed)))
+      step-frame x (save u) h = (loaded-frame (h .0), h .1 ∙ sym (current-frame clear (h .0 .valid-or-held)))
       step-frame x fail h = tt
       step-frame x mark h = (found-frame (F .saves q (x .i) ne) (h .0), h .1, h .2)
       step-frame x install h = settled-frame (F .saves q (x .i) ne) h
@@ -158,7 +158,7 @@ module _ {p : ℕ} {m n : Memory} (F : Frame p m n) where
 -- what is asked of a statement of p that leaves the memory n and p at v
 pub record Moved (below : ℕ → ℕ → Type 0) (m n : Memory) (acts : List Act) (p : ℕ) (v : Act) : Type 0 where
   pub frame : Frame p m n
-  pub contents : (c : ℕ) → WellFormed Anyone (replace acts p v) c (cellOf n c)
+  pub contents : (c : ℕ) → ValidOrHeld Anyone (replace acts p v) c (cellOf n c)
   pub knows : Knows (λ r. below r p) (n .status) (n .saves) (replace acts p v) p v
 
 module _ {below : ℕ → ℕ → Type 0} {m : Memory} {acts : List Act} {p : ℕ} {v₀ : Act} (S : Situation below m acts p v₀) where

@@ -11,7 +11,7 @@ use Rattle.model.specs.Exchange.{Entry, Step, start, test, load, look, f
 use Rattle.model.specs.Exchange.{commit, save, clean, cleanMark, Exchange, entryAt, installed}
 use Rattle.model.proofs.Lists.{replace-same, replace-other, same?, impossible}
 use Rattle.model.proofs.Exchanges.Act.{Act, free, reading, exchanging, actAt, stage, undecided}
-use Rattle.model.proofs.Exchanges.Invariant.{WellFormed, valid, held, AtStep, InExchange, Knows, Rank, itself, idle, lower, Situation}
+use Rattle.model.proofs.Exchanges.Invariant.{ValidOrHeld, valid, held, AtStep, InExchange, Knows, Rank, itself, idle, lower, Situation}
 use Rattle.model.proofs.Exchanges.Frame.{current-frame, lower-clear, Moved}
 use Rattle.model.proofs.Fit.Exchange.{SamePairs}
 use Rattle.model.proofs.Exchanges.Ground.{Knowledge, Grounds, differs, beaten, GroundsOf, ReplacedBy, CountsOn, there}
@@ -61,14 +61,14 @@ module _ {below : ℕ → ℕ → Type 0} {m : Memory} {acts : List Act} {p : �
     counts-later c w B o (was-hit h) = was-hit (T .hit r c B h)
 
     -- contents of tasks below r are not p's
-    not-running : {c : ℕ} {w : Word} → WellFormed (λ q. below q r) acts c w → (e : Entry) (i : ℕ) → w ≢ installed p e i
+    not-running : {c : ℕ} {w : Word} → ValidOrHeld (λ q. below q r) acts c w → (e : Entry) (i : ℕ) → w ≢ installed p e i
     not-running (valid h) e i k = true≢false (sym h ∙ ap (λ (z : Word). z .valid) k)
     not-running {w = w} (held o G) e i k = lower-clear S r b (w .task) o (ap (λ (z : Word). z .task) k)
 
-    current-later : {c : ℕ} {w : Word} → WellFormed (λ q. below q r) acts c w → current (n .status) (n .saves) w ≡ current (m .status) (m .saves) w
+    current-later : {c : ℕ} {w : Word} → ValidOrHeld (λ q. below q r) acts c w → current (n .status) (n .saves) w ≡ current (m .status) (m .saves) w
     current-later k = current-frame (M .frame) (lower-clear S r b) k
 
-    value-later : {c : ℕ} {w : Word} → actAt acts r ≢ free → WellFormed (λ q. below q r) acts c w → H .seen r c (current (m .status) (m .saves) w)
+    value-later : {c : ℕ} {w : Word} → actAt acts r ≢ free → ValidOrHeld (λ q. below q r) acts c w → H .seen r c (current (m .status) (m .saves) w)
         → H′ .seen r c (current (n .status) (n .saves) w)
     value-later nf k h = rw (current-later k) (T .seen r _ _ nf h)
 
@@ -76,7 +76,7 @@ module _ {below : ℕ → ℕ → Type 0} {m : Memory} {acts : List Act} {p : �
       busy : Busy acts r
       busy = record { exchange = x; act = ax }
 
-      loaded-later : {c : ℕ} {w : Word} → WellFormed (λ q. below q r) acts c w → CountsOn below (H .hit r) (m .cells) acts r c w
+      loaded-later : {c : ℕ} {w : Word} → ValidOrHeld (λ q. below q r) acts c w → CountsOn below (H .hit r) (m .cells) acts r c w
           → CountsOn below (H′ .hit r) (n .cells) (replace acts p v) r c w
       loaded-later {c} {w} k h = counts-later c w busy (not-running k) h
 
@@ -87,11 +87,11 @@ module _ {below : ℕ → ℕ → Type 0} {m : Memory} {acts : List Act} {p : �
       step-later test k h = tt
       step-later load k h = tt
       step-later look k h = (loaded-later k (h .0), value-later (busy-not-free T busy) k (h .1))
-      step-later fetch k h = (loaded-later (k .0 .well-formed) (h .0), value-later (busy-not-free T busy) (k .0 .well-formed) (h .1))
-      step-later (save u) k h = (loaded-later (k .0 .well-formed) (h .0), seen-later T busy (h .1))
+      step-later fetch k h = (loaded-later (k .0 .valid-or-held) (h .0), value-later (busy-not-free T busy) (k .0 .valid-or-held) (h .1))
+      step-later (save u) k h = (loaded-later (k .0 .valid-or-held) (h .0), seen-later T busy (h .1))
       step-later fail k h = grounds-later T busy h
-      step-later mark k h = loaded-later (k .0 .loaded .well-formed) h
-      step-later install k h = loaded-later (k .found .loaded .well-formed) h
+      step-later mark k h = loaded-later (k .0 .loaded .valid-or-held) h
+      step-later install k h = loaded-later (k .found .loaded .valid-or-held) h
       step-later commit k h = tt
       step-later (clean j yes?) k h = λ e. grounds-later T busy (h e)
       step-later (cleanMark j yes?) k h = (λ e. grounds-later T busy (h .0 e), T .hit r _ busy (h .1))

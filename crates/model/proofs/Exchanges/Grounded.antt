@@ -11,7 +11,7 @@ use Rattle.model.specs.Word.{loading, looking, fetching, gives, readTick
 use Rattle.model.specs.Exchange.{Entry, Step, start, test, Exchange, Exchanged, ends, exchangeTick}
 use Rattle.model.proofs.Lists.{replace-same, replace-other, impossible}
 use Rattle.model.proofs.Exchanges.Act.{Act, free, reading, exchanging, actBy, actOf, started?, actAfter, memoryAfter, Quiet, Distinct}
-use Rattle.model.proofs.Exchanges.Invariant.{WellFormed, Knows, Situation, Room}
+use Rattle.model.proofs.Exchanges.Invariant.{ValidOrHeld, Knows, Situation, Room}
 use Rattle.model.proofs.Exchanges.Words.{current-own, current-other}
 use Rattle.model.proofs.Exchanges.Outcome.{outcome}
 use Rattle.model.proofs.Exchanges.Frame.{frame-none, Moved}
@@ -96,7 +96,7 @@ module _ {below : ℕ → ℕ → Type 0} {m : Memory} {acts : List Act} {p : �
       let k : saved (m .saves) (w .task) (w .count) ≡ v = cc in
       rw (← k, ← (current-other (m .status) (m .saves) w e)) (seen-before S _ (mine-past S))
     where
-      knows : {w : Word} → Situation below m acts p (reading c (fetching w)) → WellFormed (λ r. below r p) acts c w × (own (m .status) w ≡ false)
+      knows : {w : Word} → Situation below m acts p (reading c (fetching w)) → ValidOrHeld (λ r. below r p) acts c w × (own (m .status) w ≡ false)
       knows S = subst (λ (v : Act). Knows (λ r. below r p) (m .status) (m .saves) acts p v) (S .act) (S .invariant .knows p)
 
 -- EXCHANGES

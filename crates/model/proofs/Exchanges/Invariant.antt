@@ -24,9 +24,9 @@ pub record Held (acts : List Act) (c : ℕ) (w : Word) : Type 0 where
   pub is : w ≡ installed (w .task) (entryAt exchange (w .count)) (w .count)
 
 -- a content of cell c: valid, or held by one of those tasks
-pub data WellFormed (of : ℕ → Type 0) (acts : List Act) (c : ℕ) (w : Word) : Type 0 where
-  valid : w .valid ≡ true → WellFormed of acts c w
-  held : of (w .task) → Held acts c w → WellFormed of acts c w
+pub data ValidOrHeld (of : ℕ → Type 0) (acts : List Act) (c : ℕ) (w : Word) : Type 0 where
+  valid : w .valid ≡ true → ValidOrHeld of acts c w
+  held : of (w .task) → Held acts c w → ValidOrHeld of acts c w
 
 abbrev pub Anyone : ℕ → Type 0
 Anyone r = Unit {0}
@@ -34,7 +34,7 @@ Anyone r = Unit {0}
 -- WHAT A TASK KNOWS. The parameter `of` is: the tasks below it.
 -- an entry once looked at
 pub record Loaded (of : ℕ → Type 0) (status : List ℕ) (acts : List Act) (n : Entry) : Type 0 where
-  pub well-formed : WellFormed of acts (n .cell) (n .init)
+  pub valid-or-held : ValidOrHeld of acts (n .cell) (n .init)
   pub looked : n .overlapped ≡ not (own status (n .init))
 
 -- entry e of task p once saved, the value found being the old one
@@ -53,7 +53,7 @@ module _ (of : ℕ → Type 0) (status : List ℕ) (saves : List (List ℕ)) (ac
   AtStep x start = ⊥
   AtStep x test = Unit {0}
   AtStep x load = Unit {0}
-  AtStep x look = WellFormed of acts (here x .cell) (here x .init)
+  AtStep x look = ValidOrHeld of acts (here x .cell) (here x .init)
   AtStep x fetch = Loaded of status acts (here x) × (here x .overlapped ≡ true)
   AtStep x (save v) = Loaded of status acts (here x) × (v ≡ current status saves (here x .init))
   AtStep x fail = Unit {0}
@@ -73,8 +73,8 @@ module _ (of : ℕ → Type 0) (status : List ℕ) (saves : List (List ℕ)) (ac
 
   abbrev pub InReading : ℕ → Reading → Type 0
   InReading c loading = Unit {0}
-  InReading c (looking w) = WellFormed of acts c w
-  InReading c (fetching w) = WellFormed of acts c w × (own status w ≡ false)
+  InReading c (looking w) = ValidOrHeld of acts c w
+  InReading c (fetching w) = ValidOrHeld of acts c w × (own status w ≡ false)
 
   abbrev pub Knows : Act → Type 0
   Knows free = Unit {0}
@@ -108,7 +108,7 @@ Standing below cells status acts p (exchanging x) =
 
 -- `below p q`: the job of q runs before that of p
 pub record Invariant (below : ℕ → ℕ → Type 0) (m : Memory) (acts : List Act) : Type 0 where
-  pub contents : (c : ℕ) → WellFormed Anyone acts c (cellOf m c)
+  pub contents : (c : ℕ) → ValidOrHeld Anyone acts c (cellOf m c)
   pub knows : (p : ℕ) → Knows (λ r. below r p) (m .status) (m .saves) acts p (actAt acts p)
   pub standing : (p : ℕ) → Standing below (m .cells) (m .status) acts p (actAt acts p)
 

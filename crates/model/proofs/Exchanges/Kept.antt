@@ -9,7 +9,7 @@ use Rattle.model.specs.Word.{Word, Memory, cellOf, setStatus, own, Readi
 use Rattle.model.specs.Exchange.{Entry, start, test, Exchange, Exchanged}
 use Rattle.model.proofs.Lists.{replace-same, impossible}
 use Rattle.model.proofs.Exchanges.Act.{Act, free, reading, exchanging, actAt, actAfter, memoryAfter, Quiet, Distinct}
-use Rattle.model.proofs.Exchanges.Invariant.{WellFormed, valid, held, Anyone, Knows, Rank, itself, idle, lower, Situation, Room}
+use Rattle.model.proofs.Exchanges.Invariant.{ValidOrHeld, valid, held, Anyone, Knows, Rank, itself, idle, lower, Situation, Room}
 use Rattle.model.proofs.Exchanges.Outcome.{Outcome, starts, tests-done, tests-on, loads, looks-own, looks-other}
 use Rattle.model.proofs.Exchanges.Outcome.{fetches, saves-differing, saves-to-mark, saves, fails, marks, installs}
 use Rattle.model.proofs.Exchanges.Outcome.{misses, decides, decides-last, cleans, cleans-last, cleans-to-mark}
@@ -27,11 +27,11 @@ quiet-not (exchanging x) q e = q
 
 module _ {below : ℕ → ℕ → Type 0} {m : Memory} {acts : List Act} {p : ℕ} {v₀ : Act} (S : Situation below m acts p v₀) (q : Quiet v₀) where
   -- no content is p's: all are of tasks below p
-  pub others-content : {c : ℕ} {w : Word} → WellFormed Anyone acts c w → WellFormed (λ r. below r p) acts c w
+  pub others-content : {c : ℕ} {w : Word} → ValidOrHeld Anyone acts c w → ValidOrHeld (λ r. below r p) acts c w
   others-content (valid h) = valid h
   others-content {c} {w} (held o H) = go (S .rank (w .task))
     where
-      go : Rank below acts p (w .task) → WellFormed (λ r. below r p) acts c w
+      go : Rank below acts p (w .task) → ValidOrHeld (λ r. below r p) acts c w
       go (lower b) = held b H
       go (idle i) = impossible (cc (H .at-work))
       go (itself e) = absurd (quiet-not v₀ q (sym (S .act) ∙ ap (λ (r : ℕ). actAt acts r) (sym e) ∙ H .at-work))
@@ -41,7 +41,7 @@ module _ {below : ℕ → ℕ → Type 0} {m : Memory} {acts : List Act} {p : �
   quiet-moved v ec F k =
       record { frame = F; contents = λ c. rw ec (weaken (move-content p v (below-clear S) (others-content (S .invariant .contents c)))); knows = k }
     where
-      weaken : {a : List Act} {c : ℕ} {w : Word} → WellFormed (λ r. below r p) a c w → WellFormed Anyone a c w
+      weaken : {a : List Act} {c : ℕ} {w : Word} → ValidOrHeld (λ r. below r p) a c w → ValidOrHeld Anyone a c w
       weaken (valid h) = valid h
       weaken (held b H) = held tt H
 
@@ -76,7 +76,7 @@ module _ {below : ℕ → ℕ → Type 0} {m : Memory} {acts : List Act} {p c : 
   unfolding lookingBy
   looked-moved S true e = quiet-moved S tt free refl (frame-none p m) tt
   looked-moved {w} S false e =
-      let k : WellFormed (λ r. below r p) acts c w =
+      let k : ValidOrHeld (λ r. below r p) acts c w =
       subst (λ (v : Act). Knows (λ r. below r p) (m .status) (m .saves) acts p v) (S .act) (S .invariant .knows p) in
       quiet-moved S tt (reading c (fetching w)) refl (frame-none p m) (move-content p (reading c (fetching w)) (below-clear S) k, e)
 

@@ -7,7 +7,7 @@ use Rattle.model.specs.Word.{Word, Memory, loading, looking, fetching}
 use Rattle.model.specs.Exchange.{Entry, Step, start, test, load, look, fetch, fail, mark, install, commit, save, clean, cleanMark, Exchange}
 use Rattle.model.proofs.Lists.{impossible}
 use Rattle.model.proofs.Exchanges.Act.{Act, free, reading, exchanging, actAt}
-use Rattle.model.proofs.Exchanges.Invariant.{WellFormed, valid, held, Loaded, FoundOld, Settled, AtStep, Knows}
+use Rattle.model.proofs.Exchanges.Invariant.{ValidOrHeld, valid, held, Loaded, FoundOld, Settled, AtStep, Knows}
 use Rattle.model.proofs.Exchanges.Invariant.{CoveredBy, Stands, stands, covered, Standing, Invariant}
 use Rattle.model.proofs.Exchanges.Ground.{Knowledge, GroundsOf, ReplacedBy, CountsOn, there, replaced, was-hit, PastStep, PastAct, Past}
 
@@ -15,13 +15,13 @@ not-free : {v : Act} {x : Exchange} → v ≡ exchanging x → v ≢ free
 not-free e f = impossible (cc)
 
 module _ {of of′ : ℕ → Type 0} (acts : List Act) (f : (r : ℕ) → actAt acts r ≢ free → of r → of′ r) where
-  content-reordered : {c : ℕ} {w : Word} → WellFormed of acts c w → WellFormed of′ acts c w
+  content-reordered : {c : ℕ} {w : Word} → ValidOrHeld of acts c w → ValidOrHeld of′ acts c w
   content-reordered (valid h) = valid h
   content-reordered {w = w} (held o H) = held (f (w .task) (not-free (H .at-work)) o) H
 
   module _ (status : List ℕ) (saves : List (List ℕ)) (p : ℕ) where
     loaded-reordered : {n : Entry} → Loaded of status acts n → Loaded of′ status acts n
-    loaded-reordered L = record { well-formed = content-reordered (L .well-formed); looked = L .looked }
+    loaded-reordered L = record { valid-or-held = content-reordered (L .valid-or-held); looked = L .looked }
 
     found-reordered : {n : Entry} {e : ℕ} → FoundOld of status saves acts p n e → FoundOld of′ status saves acts p n e
     found-reordered E = record { loaded = loaded-reordered (E .loaded); was-old = E .was-old; kept-old = E .kept-old }

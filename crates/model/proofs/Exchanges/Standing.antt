@@ -9,7 +9,7 @@ use Rattle.model.specs.Word.{Word, Memory, cellOf, statusOf, freshWord}
 use Rattle.model.specs.Exchange.{Exchange, entryAt, installed}
 use Rattle.model.proofs.Lists.{replace-same, replace-other, same?}
 use Rattle.model.proofs.Exchanges.Act.{Act, free, reading, exchanging, actAt, stage, hopeful}
-use Rattle.model.proofs.Exchanges.Invariant.{WellFormed, valid, held, Knows, Covers, CoveredBy, Stands, stands}
+use Rattle.model.proofs.Exchanges.Invariant.{ValidOrHeld, valid, held, Knows, Covers, CoveredBy, Stands, stands}
 use Rattle.model.proofs.Exchanges.Invariant.{covered, Standing, Invariant, Rank, itself, idle, lower, Situation}
 use Rattle.model.proofs.Exchanges.Frame.{kept-zero, nobody-above, Moved, assemble}
 
@@ -45,7 +45,7 @@ pub record Upholds (below : ℕ → ℕ → Type 0) (m n : Memory) (p : ℕ) (v�
 
 -- the cell of a content that stands for entry e of task r
 held-cell : {of : ℕ → Type 0} {acts : List Act} {c : ℕ} {u : Word} (r e : ℕ) (z : Exchange) → u ≡ installed r (entryAt z e) e
-    → actAt acts r ≡ exchanging z → WellFormed of acts c u → entryAt z e .cell ≡ c
+    → actAt acts r ≡ exchanging z → ValidOrHeld of acts c u → entryAt z e .cell ≡ c
 held-cell r e z i az (valid h) = absurd (true≢false (sym h ∙ ap (λ (w : Word). w .valid) i))
 held-cell {u = u} r e z i az (held o H) =
     let et : u .task ≡ r = ap (λ (w : Word). w .task) i in
@@ -62,7 +62,7 @@ module _ {below : ℕ → ℕ → Type 0} {m : Memory} {acts : List Act} {p : �
   gives-back r e z az free K g C = absurd C
   gives-back r e z az (reading c s) K g C = absurd C
   gives-back r e z az (exchanging y) K g C =
-      rw (held-cell r e z (C .init) az (K .settled (C .number) (C .low) (C .high) .found .loaded .well-formed)) (g C)
+      rw (held-cell r e z (C .init) az (K .settled (C .number) (C .low) (C .high) .found .loaded .valid-or-held)) (g C)
 
   where-now : (r c : ℕ) (u : Word) → below r p → Keeps n v c u → Stands below (n .cells) (replace acts p v) r c u
   where-now r c u b (stays h) = stands h

@@ -13,7 +13,7 @@ use Rattle.model.specs.Exchange.{Entry, Step, test, load, look, fetch, f
 use Rattle.model.specs.Exchange.{save, Exchange, changing, installed, to, onward, withInit, initLoaded}
 use Rattle.model.proofs.Lists.{replace-same, replace-other, same?, impossible}
 use Rattle.model.proofs.Exchanges.Act.{Act, exchanging, working, stageOf, undecided, uncleaned, here}
-use Rattle.model.proofs.Exchanges.Invariant.{WellFormed, held, Anyone, Loaded, FoundOld, AtStep, InExchange, Situation, Room}
+use Rattle.model.proofs.Exchanges.Invariant.{ValidOrHeld, held, Anyone, Loaded, FoundOld, AtStep, InExchange, Situation, Room}
 use Rattle.model.proofs.Exchanges.Words.{current-own, current-other, changes, unchanging}
 use Rattle.model.proofs.Exchanges.Frame.{frame-none, frame-cell, frame-save, frame-status, frame-mark, mark-keeps, kept-not-two}
 use Rattle.model.proofs.Exchanges.Frame.{move-content, current-frame, loaded-frame, found-frame, settled-frame, Moved, below-clear}
@@ -47,7 +47,7 @@ module _ {below : ℕ → ℕ → Type 0} {m : Memory} {acts : List Act} {p : �
       let l = inside S look e refl in
       let x′ = initLoaded x (here x .init) o s in
       early-quiet S x′ (follows-noted x _ o s l) refl (rw e) u′ (λ _. l)
-      (h (record { well-formed = move-content p (exchanging x′) (below-clear S) (at-step-as S look e); looked = sym (double o) ∙ ap not (sym w) }))
+      (h (record { valid-or-held = move-content p (exchanging x′) (below-clear S) (at-step-as S look e); looked = sym (double o) ∙ ap not (sym w) }))
     where
       double : (b : Bool) → not (not b) ≡ b
       double true = refl
@@ -114,7 +114,7 @@ module _ {below : ℕ → ℕ → Type 0} {m : Memory} {acts : List Act} {p : �
         let F = frame-save p m (x .i) v in
         record {
           loaded = loaded-frame F (exchanging (to x s)) acts (below-clear S) (h .0);
-          was-old = current-frame F (below-clear S) (h .0 .well-formed) ∙ sym (h .1) ∙ d;
+          was-old = current-frame F (below-clear S) (h .0 .valid-or-held) ∙ sym (h .1) ∙ d;
           kept-old = save-new v (inside S (save v) e refl) ∙ d;
         }
 
@@ -151,7 +151,7 @@ module _ {below : ℕ → ℕ → Type 0} {m : Memory} {acts : List Act} {p : �
         at-step = h;
       }
 
-  onward-content : (s : Step) → uncleaned (stageOf s) ≡ 0 → (c : ℕ) → WellFormed Anyone (replace acts p (exchanging (onward x s))) c (cellOf m c)
+  onward-content : (s : Step) → uncleaned (stageOf s) ≡ 0 → (c : ℕ) → ValidOrHeld Anyone (replace acts p (exchanging (onward x s))) c (cellOf m c)
   onward-content s l0 c =
       keep-content S (exchanging (onward x s)) (λ e l h d i. held-on S (onward x s) (follows-onward x s) e (from-zero l0 e) (omega arith) d)
       (S .invariant .contents c)
