@@ -6,10 +6,11 @@
  * four for a task; one more is dropped, and the report counts it for its task. A transaction that loses an attempt, by a stale
  * version or a rejected commit, restarts by itself, and the report counts that too.
  *
- * What is proved, for every sheet, limit and buffer: the entries return; number, place and every byte of the report buffer, and of
- * the builder's buffer and state, are those of the definitions in crates/model/specs (Answer.antt); an accepted run is a sequence of
- * whole operations (Claim.antt), each task's drops are those of its releases that neither started a job nor wait (Drops.antt), and
- * its lost attempts are the ticks in which its transactions restarted (LostAttempts.antt). What the caller must see to: each pointer
+ * What is proved, for every sheet, limit, state and buffer: the entries return; number, place and every byte of the report buffer, and
+ * of the builder's buffer, are those of the definitions in crates/model/specs (Answer.antt, Builder.antt); a sheet is accepted exactly
+ * when it is well formed (WellFormed.antt); an accepted run is a sequence of whole operations (Claim.antt), each task's drops are those
+ * of its releases that neither started a job nor wait (Drops.antt), and its lost attempts are the ticks in which its transactions
+ * restarted (LostAttempts.antt); every accepted sheet can be composed, and by one list of commands. What the caller must see to: each pointer
  * is valid for its length and for the whole call, and what the pointers of one call point to does not overlap. A pointer whose length
  * is 0 is not read but must not be null. No entry keeps a pointer, allocates, or uses more stack than docs/FIGURES.md states.
  */
@@ -93,8 +94,8 @@ uint8_t hizgrael_run(const uint8_t *sheet, size_t sheet_length, uint64_t limit,
  * hizgrael_check would answer to the filled part with this command after it; an operand too large for its bytes in the sheet is out of
  * range, and after END every command gets 3. 2 does not occur. Then comes 11; just as many free bytes as the command has are enough.
  *
- * With a state that no call left, the call still returns and still keeps to its buffers, and a refusal changes nothing; more is not said
- * of it. */
+ * A state that no call left is some state all the same (crates/handover/specs/Packed.antt says which): the answer is the definition's for
+ * it, the call keeps to its buffers, and a refusal changes nothing. That the filled part is a sheet's beginning is then not said. */
 uint8_t hizgrael_compose(uint8_t *state, uint8_t *buffer, size_t buffer_length,
                          uint8_t command, const uint32_t *operands, uint64_t *place);
 
