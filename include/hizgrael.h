@@ -1,4 +1,5 @@
-/* Hizgrael, the exchange engine: the three entries of the proved library (libengine.a, x86-64 Linux).
+/* Hizgrael, the exchange engine: the three entries of the proved libraries (x86-64 Linux): hizgrael_check and hizgrael_run of
+ * libengine.a, hizgrael_compose of libbuilder.a.
  *
  * A run sheet is a string of commands that declares words, blocks of eight words, tasks and their releases (docs/SHEETS.md).
  * hizgrael_compose makes one command by command; sheet-text of tools/ makes sheets from text. The engine runs a sheet one statement
@@ -94,7 +95,7 @@ uint8_t hizgrael_run(const uint8_t *sheet, size_t sheet_length, uint64_t limit,
  * hizgrael_check would answer to the filled part with this command after it; an operand too large for its bytes in the sheet is out of
  * range, and after END every command gets 3. 2 does not occur. Then comes 11; just as many free bytes as the command has are enough.
  *
- * A state that no call left is some state all the same (crates/handover/specs/Packed.antt says which): the answer is the definition's for
+ * A state that no call left is some state all the same (crates/builder/specs/Packed.antt says which): the answer is the definition's for
  * it, the call keeps to its buffers, and a refusal changes nothing. That the filled part is a sheet's beginning is then not said. */
 uint8_t hizgrael_compose(uint8_t *state, uint8_t *buffer, size_t buffer_length,
                          uint8_t command, const uint32_t *operands, uint64_t *place);

@@ -1,2 +1,3 @@
-pub mod View
-pub mod Composes
+pub mod Handed
+pub mod Packed
+pub mod Contract

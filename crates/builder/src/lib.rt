@@ -1,68 +1,26 @@
-// The sheet builder: a command is judged as the reader judges it, and its bytes are written behind the filled part of a lent buffer.
-ghost use mathlib.Core.Path.{_≡_};
-ghost use Prim.Native.Nat.{_+_};
-ghost use lib.Dec.{ltb};
-ghost use Rattle.commands.specs.View.{viewRefusal, viewCommand};
+// The sheet builder's entry: one more command of a sheet, by value or as a C caller hands it over: by its byte and nine operands, with the
+// state in 64 bytes. A library of its own: in one module with the check, LLVM would take the rules into neither, and the check would take twice
+// its time.
 ghost use Rattle.model.specs.Builder as builder;
-ghost use Rattle.builder.specs.View.{viewState};
-ghost use Rattle.builder.specs.Composes.{Composes, Declined};
+ghost use Rattle.commands.specs.View.{viewCommand};
+ghost use Rattle.composing.specs.View.{viewState};
+ghost use Rattle.builder.specs.Handed.{ComposesHanded};
+ghost use Rattle.builder.specs.Contract.{Composes};
+use crate::handed::OPERANDS;
 use commands::Command;
 use commands::Refusal;
 use commands::ceilings::SheetCeilings;
-use rules::Flaw;
-use rules::known::Known;
-use sheet::check::is_end;
-use sheet::learned;
+use commands::table::Named;
+use commands::table::entry_of;
+use composing::BuilderState;
+use composing::Composed;
+use composing::declined;
 
-// What the last call left beside the buffer: what the reader knows after the filled part, its length, and whether END is taken.
-pub struct BuilderState {
-    pub known: Known,
-    pub filled: usize,
-    pub ended: bool,
-}
+mod exports;
+pub mod handed;
+pub mod packed;
 
-// 0 and the length then filled, or the number and place of a refusal; the state for the next call.
-pub struct Composed {
-    pub number: u8,
-    pub place: usize,
-    pub state: BuilderState,
-}
-
-impl BuilderState {
-    pub fn nothing_filled() -> BuilderState
-        ensures { λ r. ⌜ viewState r ≡ builder.nothingFilled ⌝ }
-    {
-        BuilderState {
-            known: Known::nothing(),
-            filled: 0,
-            ended: false,
-        }
-    }
-}
-
-// A refusal lies at the filled length, and the state stays.
-pub fn declined(state: BuilderState, refusal: Refusal) -> Composed
-    ensures { λ r. ⌜ Declined (viewRefusal refusal) (viewState state) r ⌝ }
-{
-    let place = state.filled;
-    Composed {
-        number: commands::number(refusal),
-        place,
-        state,
-    }
-}
-
-// Whether fewer bytes are free than a command has.
-fn is_full(length: usize, filled: usize, size: usize) -> bool
-    ensures { λ r. ⌜ r ≡ ltb length (filled + size) ⌝ }
-{
-    if length < filled {
-        return true;
-    }
-    length - filled < size
-}
-
-// One more command.
+// One more command: its bytes behind the filled part of the buffer, or a refusal that changes nothing. A BLOCK's values lie beside it.
 pub fn compose(
     state: BuilderState,
     buffer: &mut [u8],
@@ -71,28 +29,25 @@ pub fn compose(
 ) -> Composed
     ensures { λ r. ⌜ Composes (viewState state) (now (buffer .entry)) (viewCommand values c) r (now (buffer .exit)) ⌝ }
 {
+    composing::compose(state, &mut *buffer, c, values)
+}
+
+// The same by byte and operands: 1 where the byte names no command.
+pub fn compose_handed(
+    state: BuilderState,
+    buffer: &mut [u8],
+    b: u8,
+    operands: &[u32; OPERANDS],
+) -> Composed
+    ensures { λ r. ⌜ ComposesHanded (viewState state) (now (buffer .entry)) (builder.handed b (now (operands .entry))) r (now (buffer .exit)) ⌝ }
+{
+    if let Named::By(_) = entry_of(b) {
+        let c = handed::command(b, operands);
+        let values = handed::values(operands);
+        return composing::compose(state, &mut *buffer, c, values);
+    }
     if state.ended {
         return declined(state, Refusal::ByteAfterEnd);
     }
-    let known = state.known;
-    let filled = state.filled;
-    let f = rules::fault(known, c);
-    if let Flaw::Some(refusal) = f {
-        return declined(state, refusal);
-    }
-    let size = encoder::size(c, values);
-    if is_full(buffer.len(), filled, size) {
-        return declined(state, Refusal::BufferFull);
-    }
-    encoder::write(&mut *buffer, filled, c, values);
-    let next = filled + size;
-    Composed {
-        number: 0,
-        place: next,
-        state: BuilderState {
-            known: learned::after(known, c),
-            filled: next,
-            ended: is_end(c),
-        },
-    }
+    declined(state, Refusal::NoCommand)
 }

@@ -2,23 +2,19 @@
 use Prim.Native.Nat.{ℕ, _<_, _≤_}
 use mathlib.Core.Path.{_≡_, refl, sym, ap, _∙_, subst}
 use mathlib.Core.Logic.{_↔_}
-use mathlib.Core.Bool.{Bool, true, false}
+use mathlib.Core.Bool.{Bool}
 use mathlib.Core.List.{List}
-use mathlib.Core.Option.{Option, none, some}
 use native.Mathlib.Omega.{arith}
 use borrow.Author.Tests.{le-leb, lt-leb}
 use lib.Dec.{leb}
 use lib.ListN.{length, getD}
 use Rattle.model.specs.Refusal as R
-use Rattle.model.specs.Command.{Command}
 use Rattle.model.specs.Sheet.{Verdict, accepted, turnedDown, verdict}
 use Rattle.model.specs.Answer as M
 use Rattle.model.specs.WellFormed.{WellFormed}
 use Rattle.model.specs.Answer.{Checked, checkedBy, checkAnswer, runAnswer, answeredBy, limitedBy, written, refuse, reportOf}
 use Rattle.model.proofs.Refusals.{number-some}
 use Rattle.model.proofs.WellFormed.Theorem.{accepted-when-well-formed}
-use Rattle.model.proofs.Builder.Calls.{Outcome, afterEnd, faulty, full, takesIt, outcome}
-use Rattle.model.proofs.Builder.Story.{story}
 use Rattle.model.proofs.Demand3.Theorem.{demand-3}
 use Rattle.model.proofs.Rates.Theorem.{rates}
 use Rattle.model.proofs.Waiting.{waits}
@@ -30,15 +26,7 @@ use Rattle.commands.specs.declared.Fault.{Fault}
 use Rattle.sheet.specs.declared.check.Verdict.the-variants.{Accepted, TurnedDown}
 use Rattle.report.specs.Text.{Reported}
 use Rattle.report.proofs.Model.{answer-written, answer-too-short}
-use Rattle.model.specs.Builder as B
-use Rattle.builder.specs.View.{viewState}
-use Rattle.builder.specs.Composes as builder
-use Rattle.builder.specs.declared.BuilderState.{BuilderState}
-use Rattle.builder.specs.declared.Composed.{Composed}
-use Rattle.handover.specs.Handed.{ComposesHanded}
-use Rattle.handover.specs.Packed.{stateOf}
-use Rattle.handover.proofs.StateBytes.{start-is}
-use Rattle.engine.specs.Contract.{ChecksFor, Checks, RunsFor, ComposesFor, ComposesBytes, answer, answerOf}
+use Rattle.engine.specs.Contract.{ChecksFor, Checks, RunsFor, answer, answerOf}
 use Rattle.engine.specs.Flat.{Ran}
 use Rattle.engine.proofs.Final.{same-text}
 
@@ -124,49 +112,3 @@ module _ (s : List ℕ) (limit : ℕ) (b : List ℕ) where
 
     pub run-written : n ≤ length b → RunsFor s limit b after 0 n
     run-written h = answers (ran-answer (sym e) most ∙ sym (answer-written reported h))
-
--- THE BUILDER
-pub composes : (a : B.Composed) (r : Composed) (after : List ℕ) → builder.Answers a r after
-    → ComposesFor a (r .number) (r .place) (viewState (r .state)) after
-composes a r after w = record { number = w .number; place = w .place; state = w .state; buffer = w .buffer; story = story }
-
--- a refusal leaves the state
-by-outcome : {s : B.BuilderState} {b : List ℕ} {c : Command} (a : B.Composed) → Outcome s b c a → (a .number ≡ 0 → ⊥) → a .state ≡ s
-unfolding B.taken
-by-outcome a (afterEnd e) n = refl
-by-outcome a (faulty f e g) n = refl
-by-outcome a (full e g r) n = refl
-by-outcome a (takesIt e g r) n = absurd (n refl)
-
-unnamed-state : (t : Bool) (s : B.BuilderState) (b : List ℕ) → B.composeUnnamed t s b .state ≡ s
-unfolding B.composeUnnamed
-unnamed-state true s b = refl
-unnamed-state false s b = refl
-
-refused-state : (s : B.BuilderState) (b : List ℕ) (o : Option Command) → (B.composeHanded s b o .number ≡ 0 → ⊥) → B.composeHanded s b o .state ≡ s
-unfolding B.composeHanded
-refused-state s b none n = unnamed-state (s .ended) s b
-refused-state s b (some c) n = by-outcome (B.compose s b c) (outcome s b c) n
-
-module _ (bytes : List (List ℕ)) (before after : List ℕ) (byte : ℕ) (operands : List ℕ) (s : BuilderState) (r : Composed)
-    (unpacked : viewState s ≡ stateOf bytes) (answers : ComposesHanded (viewState s) before (B.handed byte operands) r after) where
-  abbrev handedOver : B.BuilderState → B.Composed
-  handedOver x = B.composeHanded x before (B.handed byte operands)
-
-  same : ComposesFor (handedOver (stateOf bytes)) (r .number) (r .place) (viewState (r .state)) after
-  same = subst (λ (x : B.BuilderState). ComposesFor (handedOver x) (r .number) (r .place) (viewState (r .state)) after) unpacked
-      (composes (handedOver (viewState s)) r after answers)
-
-  with-state : {x : B.BuilderState} → x ≡ handedOver (stateOf bytes) .state
-      → ComposesFor (handedOver (stateOf bytes)) (r .number) (r .place) x after
-  with-state e = record { number = same .number; place = same .place; state = e; buffer = same .buffer; story = story }
-
-  pub composes-taken : (next : List (List ℕ)) → stateOf next ≡ viewState (r .state) → r .number ≡ 0
-      → ComposesBytes bytes before byte operands (r .number) (r .place) next after
-  composes-taken next e z =
-      record { answer = with-state (e ∙ same .state); start = start-is; kept = λ h. absurd (omega (arith, z)) }
-
-  pub composes-refused : (r .number ≡ 0 → ⊥) → ComposesBytes bytes before byte operands (r .number) (r .place) bytes after
-  composes-refused n =
-      let keeps = refused-state (stateOf bytes) before (B.handed byte operands) (λ z. n (same .number ∙ z)) in
-      record { answer = with-state (sym keeps); start = start-is; kept = λ h. refl }

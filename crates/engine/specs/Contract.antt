@@ -1,16 +1,13 @@
--- The contracts of the public entries: number, place, state and buffer, each by an equation with the model's answer; of a check, that a sheet is
--- accepted exactly when it is well formed; of a run, the claim, the rates, and what holds of releases that wait, of those dropped and of lost
--- attempts; of a call of the builder, the story of all its calls.
-use Prim.Native.Nat.{ℕ, _≤_}
+-- The contracts of the two entries of this library: number, place and buffer, each by an equation with the model's answer; of a check, that a
+-- sheet is accepted exactly when it is well formed; of a run, the claim, the rates, and what holds of releases that wait, of those dropped and
+-- of lost attempts.
+use Prim.Native.Nat.{ℕ}
 use mathlib.Core.Path.{_≡_}
 use mathlib.Core.Logic.{_↔_}
 use mathlib.Core.List.{List}
-use lib.ListN.{replicate}
 use Rattle.model.specs.Refusal as R
-use Rattle.model.specs.Command.{Command}
 use Rattle.model.specs.Sheet.{verdict, accepted}
 use Rattle.model.specs.WellFormed.{WellFormed}
-use Rattle.model.specs.Builder as M
 use Rattle.model.specs.Answer.{checkAnswer, runAnswer}
 use Rattle.model.specs.Claim.{WholeOperations}
 use Rattle.model.specs.Rates.{Rates}
@@ -19,9 +16,6 @@ use Rattle.model.specs.Drops.{Drops}
 use Rattle.model.specs.LostAttempts.{LostAttempts}
 use Rattle.commands.specs.View.{viewRefusal}
 use Rattle.commands.specs.declared.Fault.{Fault}
-use Rattle.builder.specs.View.{viewState}
-use Rattle.handover.specs.Packed.{stateOf}
-use Rattle.builder.specs.declared.Composed.{Composed}
 use Rattle.engine.specs.declared.Answer.{Answer}
 
 abbrev pub answer : ℕ → ℕ → Answer
@@ -58,22 +52,3 @@ pub record RunsFor (sheet : List ℕ) (limit : ℕ) (before after : List ℕ) (n
 
 abbrev pub Runs : List ℕ → ℕ → List ℕ → List ℕ → Answer → Type 0
 Runs sheet limit before after r = RunsFor sheet limit before after (r .number) (r .place)
-
--- THE BUILDER, with the state and the buffer before and after; `a` is the model's answer
-pub record ComposesFor (a : M.Composed) (n p : ℕ) (s : M.BuilderState) (after : List ℕ) : Type 0 where
-  pub number : n ≡ a .number
-  pub place : p ≡ a .place
-  pub state : s ≡ a .state
-  pub buffer : after ≡ a .buffer
-  -- what holds of every list of calls from nothing filled
-  pub story : M.Story
-
-abbrev pub Composes : M.BuilderState → List ℕ → Command → Composed → List ℕ → Type 0
-Composes s before c r after = ComposesFor (M.compose s before c) (r .number) (r .place) (viewState (r .state)) after
-
--- the same by a byte and nine operands, the state in 64 bytes: any bytes are some state, all zero is nothing filled, a refusal changes none
-pub record ComposesBytes (bytes : List (List ℕ)) (before : List ℕ) (byte : ℕ) (operands : List ℕ) (n p : ℕ) (bytes′ : List (List ℕ))
-    (after : List ℕ) : Type 0 where
-  pub answer : ComposesFor (M.composeHanded (stateOf bytes) before (M.handed byte operands)) n p (stateOf bytes′) after
-  pub start : stateOf (replicate 8 (replicate 8 0)) ≡ M.nothingFilled
-  pub kept : 1 ≤ n → bytes′ ≡ bytes

@@ -1,18 +1,12 @@
-// The public entries: the sheet check, the run of a sheet to its report in the caller's buffer, and the sheet builder. None has a precondition.
+// The two public entries: the sheet check, and the run of a sheet to its report in the caller's buffer. Neither has a precondition.
 ghost use mathlib.Core.Path.{_≡_};
 ghost use Prim.Native.Nat.{_≤_};
 ghost use Rattle.model.specs.Sheet.{verdict, accepted};
-ghost use Rattle.commands.specs.View.{viewCommand};
-ghost use Rattle.builder.specs.View.{viewState};
-ghost use Rattle.engine.specs.Contract.{Checks, Runs, Composes, answerOf};
+ghost use Rattle.engine.specs.Contract.{Checks, Runs, answerOf};
 ghost use Rattle.engine.specs.Flat.{Ran};
-use builder::BuilderState;
-use builder::Composed;
-use commands::Command;
 use commands::Fault;
 use commands::Refusal;
 use commands::ceilings::RunCeilings;
-use commands::ceilings::SheetCeilings;
 use machine::run::Paused;
 use report::Totals;
 use sheet::check::Verdict;
@@ -110,16 +104,4 @@ pub fn run(sheet: &[u8], limit: u64, buffer: &mut [u8]) -> Answer
         number: 0,
         place: needed,
     }
-}
-
-// One more command of a sheet: its bytes behind the filled part of the buffer, or a refusal that changes nothing. A BLOCK's values lie beside it.
-pub fn compose(
-    state: BuilderState,
-    buffer: &mut [u8],
-    c: Command,
-    values: [u32; SheetCeilings::BLOCK_VALUES],
-) -> Composed
-    ensures { λ r. ⌜ Composes (viewState state) (now (buffer .entry)) (viewCommand values c) r (now (buffer .exit)) ⌝ }
-{
-    builder::compose(state, &mut *buffer, c, values)
 }
