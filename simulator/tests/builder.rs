@@ -3,7 +3,7 @@
 
 mod common;
 
-use common::refusal;
+use common::{bytes, refusal, refusal_rows};
 use simulator::builder::{widths, Builder, Call};
 use simulator::compositions::{of_sheet, with_faults};
 use simulator::generator::SEED;
@@ -14,11 +14,6 @@ use simulator::{check, Answer};
 
 const SHEET_A: &str = "01 00 00 00 0C 03 10 01 00 00 00 0C 10 02 00 00 00 05 13 00 01 02 14 00 \
                        04 00 00 00 05";
-
-fn bytes(hexadecimal: &str) -> Bytes {
-    let byte = |text| u8::from_str_radix(text, 16).unwrap();
-    hexadecimal.split_whitespace().map(byte).collect()
-}
 
 /// A builder and its buffer, of which every byte is 2E at first.
 struct Composing {
@@ -100,16 +95,7 @@ fn sheet_a_command_by_command() {
 /// cannot be handed over.
 #[test]
 fn rows_of_the_refusal_table() {
-    let rows = [
-        (bytes("FF"), refusal(1, 0)),
-        (bytes("03 10 00 00 00 00 05 05 00"), refusal(3, 8)),
-        (bytes("05"), refusal(4, 0)),
-        (bytes("01 00 00 00 00").repeat(33), refusal(5, 160)),
-        (bytes("03 11 08 00"), refusal(6, 1)),
-        (bytes("01 00 00 00 00 03 13 00 00 01 13 00 00 01"), refusal(7, 10)),
-        (bytes("03 11 00 00 04 00 02 00 04 00 01 00"), refusal(8, 8)),
-    ];
-    for (bytes, expected) in rows {
+    for (bytes, expected) in refusal_rows().into_iter().filter(|(_, row)| row.number != 2) {
         let calls = of_sheet(&bytes);
         let (last, before) = calls.split_last().unwrap();
         // Enough, and so little that the refused command would not fit.

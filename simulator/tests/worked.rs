@@ -11,11 +11,6 @@ use simulator::observer::NoObserver;
 use simulator::write::*;
 use simulator::{check, run, run_observed};
 
-fn bytes(hexadecimal: &str) -> Bytes {
-    let byte = |text| u8::from_str_radix(text, 16).unwrap();
-    hexadecimal.split_whitespace().map(byte).collect()
-}
-
 fn sheet_a() -> Bytes {
     bytes(
         "01 00 00 00 0C 03 10 01 00 00 00 0C 10 02 00 00 00 05 13 00 01 02 14 00 \
@@ -28,18 +23,7 @@ const REPORT_A: &str = "W 0 5\nT 0 1 0 0 12 0\nR 0 1 12 5 0 0 0 0 0\nE 12\n";
 
 #[test]
 fn refusal_table_of_the_sheet() {
-    let rows = [
-        (bytes("FF"), refusal(1, 0)),
-        (bytes("01 00 00"), refusal(2, 0)),
-        (bytes(""), refusal(2, 0)),
-        (bytes("03 10 00 00 00 00 05 05 00"), refusal(3, 8)),
-        (bytes("05"), refusal(4, 0)),
-        (bytes("01 00 00 00 00").repeat(33), refusal(5, 160)),
-        (bytes("03 11 08 00"), refusal(6, 1)),
-        (bytes("01 00 00 00 00 03 13 00 00 01 13 00 00 01"), refusal(7, 10)),
-        (bytes("03 11 00 00 04 00 02 00 04 00 01 00"), refusal(8, 8)),
-    ];
-    for (sheet, expected) in rows {
+    for (sheet, expected) in refusal_rows() {
         assert_eq!(check(&sheet), expected);
         // Sheet faults go before 9 and 10, and the buffer is unchanged.
         let mut buffer = [0xAB; 3];

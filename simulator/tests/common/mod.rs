@@ -13,6 +13,26 @@ pub fn refusal(number: u8, place: usize) -> Answer {
     Answer { number, place }
 }
 
+pub fn bytes(hexadecimal: &str) -> Bytes {
+    let byte = |text| u8::from_str_radix(text, 16).unwrap();
+    hexadecimal.split_whitespace().map(byte).collect()
+}
+
+/// Document 01's small inputs for refusals 1 to 8, each with its number and place.
+pub fn refusal_rows() -> [(Bytes, Answer); 9] {
+    [
+        (bytes("FF"), refusal(1, 0)),
+        (bytes("01 00 00"), refusal(2, 0)),
+        (bytes(""), refusal(2, 0)),
+        (bytes("03 10 00 00 00 00 05 05 00"), refusal(3, 8)),
+        (bytes("05"), refusal(4, 0)),
+        (bytes("01 00 00 00 00").repeat(33), refusal(5, 160)),
+        (bytes("03 11 08 00"), refusal(6, 1)),
+        (bytes("01 00 00 00 00 03 13 00 00 01 13 00 00 01"), refusal(7, 10)),
+        (bytes("03 11 00 00 04 00 02 00 04 00 01 00"), refusal(8, 8)),
+    ]
+}
+
 /// The report of a sheet that must be accepted.
 pub fn report_with_limit(sheet: &[u8], limit: u64) -> String {
     let mut buffer = vec![0; 8192];
