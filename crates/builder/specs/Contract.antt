@@ -1,4 +1,5 @@
--- The contracts of the sheet builder: number, place, state and buffer, each by an equation with the model's answer, and the story of all calls.
+-- The contracts of the sheet builder: number, place, state and buffer, each by an equation with the model's answer, and the
+-- story of all calls.
 use Prim.Native.Nat.{ℕ, _≤_}
 use mathlib.Core.Path.{_≡_}
 use mathlib.Core.List.{List}
@@ -21,9 +22,10 @@ pub record ComposesFor (a : M.Composed) (n p : ℕ) (s : M.BuilderState) (after 
 abbrev pub Composes : M.BuilderState → List ℕ → Command → Composed → List ℕ → Type 0
 Composes s before c r after = ComposesFor (M.compose s before c) (r .number) (r .place) (viewState (r .state)) after
 
--- the same by a byte and nine operands, the state in 64 bytes: any bytes are some state, all zero is nothing filled, a refusal changes none
-pub record ComposesBytes (bytes : List (List ℕ)) (before : List ℕ) (byte : ℕ) (operands : List ℕ) (n p : ℕ) (bytes′ : List (List ℕ))
-    (after : List ℕ) : Type 0 where
+-- the same by a byte and nine operands, the state in 64 bytes: any bytes are some state, all zero is nothing filled, a refusal
+-- changes none
+pub record ComposesBytes (bytes : List (List ℕ)) (before : List ℕ) (byte : ℕ) (operands : List ℕ) (n p : ℕ)
+    (bytes′ : List (List ℕ)) (after : List ℕ) : Type 0 where
   pub answer : ComposesFor (M.composeHanded (stateOf bytes) before (M.handed byte operands)) n p (stateOf bytes′) after
   pub start : stateOf (replicate 8 (replicate 8 0)) ≡ M.nothingFilled
   pub kept : 1 ≤ n → bytes′ ≡ bytes

@@ -5,7 +5,8 @@ use Rattle.model.specs.Refusal as R
 use Rattle.model.specs.Command as M
 use Rattle.commands.specs.declared.Refusal.{Refusal}
 use Rattle.commands.specs.declared.Refusal.the-variants.{NoCommand, CutShort, ByteAfterEnd, Misplaced, CeilingPassed}
-use Rattle.commands.specs.declared.Refusal.the-variants.{OutOfRange, WordRepeated, ReleasesNotRising, LimitTooHigh, BufferTooShort, BufferFull}
+use Rattle.commands.specs.declared.Refusal.the-variants.{OutOfRange, WordRepeated, ReleasesNotRising, LimitTooHigh}
+use Rattle.commands.specs.declared.Refusal.the-variants.{BufferTooShort, BufferFull}
 use Rattle.commands.specs.declared.Release.{Release}
 use Rattle.commands.specs.declared.Access.{Access}
 use Rattle.commands.specs.declared.Access.the-variants.{Get, Put}

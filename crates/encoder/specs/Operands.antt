@@ -1,7 +1,8 @@
 -- How many bytes a command has, and the bytes of its operands.
 use Prim.Native.Nat.{ℕ, suc, _/_, _%_}
 use mathlib.Core.List.{List, [], _∷_, _++_}
-use Rattle.model.specs.Command.{Access, GET, PUT, Outside, READ, PAIR, SWAP, BEGIN, Inside, access, COMMIT, BodyCommand, LOAD, ADD, outside, inside}
+use Rattle.model.specs.Command.{Access, GET, PUT, Outside, READ, PAIR, SWAP, BEGIN, Inside, access, COMMIT}
+use Rattle.model.specs.Command.{BodyCommand, LOAD, ADD, outside, inside}
 use Rattle.model.specs.Command.{Command, WORD, BLOCK, TASK, RELEASE, END, body, total}
 use Rattle.model.specs.Encoding.{widthsOf}
 

@@ -1,6 +1,6 @@
--- The contracts of the two entries of this library: number, place and buffer, each by an equation with the model's answer; of a check, that a
--- sheet is accepted exactly when it is well formed; of a run, the claim, the rates, and what holds of releases that wait, of those dropped and
--- of lost attempts.
+-- The contracts of the two entries of this library: number, place and buffer, each by an equation with the model's answer; of a
+-- check, that a sheet is accepted exactly when it is well formed; of a run, the claim, the rates, and what holds of releases that
+-- wait, of those dropped and of lost attempts.
 use Prim.Native.Nat.{ℕ}
 use mathlib.Core.Path.{_≡_}
 use mathlib.Core.Logic.{_↔_}

@@ -61,8 +61,8 @@ unfoldable pub compose : BuilderState → List ℕ → Command → Composed
 unfolding composeBy faultOf encode
 compose s b c = composeBy (s .ended) (faultOf (s .known) c) (leb (s .filled + length (encode c)) (length b)) s b c
 
--- A COMMAND HANDED OVER by its byte and nine operands. One of a single byte that is above 255 counts as 255: no register, word, block, offset
--- or task has that number either.
+-- A COMMAND HANDED OVER by its byte and nine operands. One of a single byte that is above 255 counts as 255: no register, word,
+-- block, offset or task has that number either.
 abbrev pub narrowed : ℕ → ℕ → ℕ
 narrowed zero v = v
 narrowed (suc zero) v = min v 255
@@ -98,9 +98,11 @@ composeHanded s b (some c) = compose s b c
 -- THE STORY of calls from nothing filled: the commands taken so far, the state and the buffer that is left
 pub data Calls (b : List ℕ) : List Command → BuilderState → List ℕ → Type 0 where
   start : Calls b [] nothingFilled b
-  takes : {l : List Command} {s : BuilderState} {x : List ℕ} (c : Command) → Calls b l s x → ValuesFit c → compose s x c .number ≡ 0
+  takes : {l : List Command} {s : BuilderState} {x : List ℕ} (c : Command) → Calls b l s x → ValuesFit c
+      → compose s x c .number ≡ 0
       → Calls b (l ++ (c ∷ [])) (compose s x c .state) (compose s x c .buffer)
-  declines : {l : List Command} {s : BuilderState} {x : List ℕ} {n : ℕ} (c : Command) → Calls b l s x → compose s x c .number ≡ suc n
+  declines : {l : List Command} {s : BuilderState} {x : List ℕ} {n : ℕ} (c : Command) → Calls b l s x
+      → compose s x c .number ≡ suc n
       → Calls b l (compose s x c .state) (compose s x c .buffer)
 
 -- the filled part
@@ -120,8 +122,9 @@ pub record Story : Type 0 where
   pub filled : {b x : List ℕ} {l : List Command} {s : BuilderState} → Calls b l s x → filledPart s x ≡ encodeAll l
   pub past : {b x : List ℕ} {l : List Command} {s : BuilderState} → Calls b l s x → drop (s .filled) x ≡ drop (s .filled) b
   -- a command whose operands fit is turned down with the reader's number and place, whatever would follow it
-  pub reader : {b x : List ℕ} {l : List Command} {s : BuilderState} → Calls b l s x → (c : Command) → OperandsFit c → (f : Refusal) → number f < 11
-      → (rest : List ℕ) → compose s x c .number ≡ number f ↔ verdict (filledPart s x ++ encode c ++ rest) ≡ turnedDown f (s .filled)
+  pub reader : {b x : List ℕ} {l : List Command} {s : BuilderState} → Calls b l s x → (c : Command) → OperandsFit c
+      → (f : Refusal) → number f < 11 → (rest : List ℕ)
+      → compose s x c .number ≡ number f ↔ verdict (filledPart s x ++ encode c ++ rest) ≡ turnedDown f (s .filled)
   -- what is taken by its byte and operands has the operands as they were given
   pub exact : {b x : List ℕ} {l : List Command} {s : BuilderState} → Calls b l s x → (byte : ℕ) (operands : List ℕ) (c : Command)
       → handed byte operands ≡ some c → compose s x c .number ≡ 0 → given byte operands ≡ some c
