@@ -8,11 +8,10 @@ use Rattle.commands.specs.declared.Command.{Command}
 use Rattle.commands.specs.declared.Command.the-variants as C
 use Rattle.state.specs.State.{Own, withRegisters}
 use Rattle.exchanges.specs.Places.{if}
-use Rattle.jobs.specs.Jobs.{jobAt, dropped, counted}
+use Rattle.jobs.specs.Jobs.{jobAt, dropped, counted, zeroed}
 use Rattle.jobs.specs.declared.Phase.{Phase}
 use Rattle.jobs.specs.declared.Phase.the-variants as P
 use Rattle.jobs.specs.declared.Job.{Job}
-use Rattle.transactions.specs.Blocks.{zeroed}
 use Rattle.arrivals.specs.declared.releases.Pending.{Pending}
 use Rattle.arrivals.specs.declared.releases.Coming.{Coming}
 use Rattle.arrivals.specs.declared.releases.Coming.the-variants.{Nothing, Later, Due}

@@ -27,7 +27,7 @@ exchanging new init overlapped =
       kept = [];
       copies = [];
       entries = record { targets = 0 ∷ []; olds = 5 ∷ []; news = new ∷ []; inits = init ∷ []; overlapped = overlapped ∷ [] };
-      blocks = record { touched = []; remembered = [] };
+      blocks = record { touched = 0; slots = []; remembered = [] };
       counts = [];
     }
 

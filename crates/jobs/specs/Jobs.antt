@@ -60,6 +60,11 @@ unfoldable pub copied : ℕ → List ℕ → List ℕ → List ℕ
 copied zero to from = to
 copied (suc n) to from = replace (copied n to from) n (at 0 from n)
 
+-- the first n of a list are 0
+unfoldable pub zeroed : ℕ → List ℕ → List ℕ
+zeroed zero l = l
+zeroed (suc n) l = replace (zeroed n l) n 0
+
 -- BEGIN keeps the eight registers, a restart gives them back
 abbrev pub keeping : ℕ → Own → Own
 keeping n t = withKept t (copied n (t .kept) (t .registers))

@@ -124,6 +124,13 @@ nothing? (untouched ∷ l) = nothing? l
 nothing? (remembered v ∷ l) = false
 nothing? (copied v k ∷ l) = false
 
+-- how many blocks were touched
+unfoldable pub touchedCount : List Touched → ℕ
+touchedCount [] = 0
+touchedCount (untouched ∷ l) = touchedCount l
+touchedCount (remembered v ∷ l) = suc (touchedCount l)
+touchedCount (copied v k ∷ l) = suc (touchedCount l)
+
 -- a PUT block at the last version
 unfoldable pub spent? : List Touched → Bool
 spent? [] = false
@@ -131,7 +138,7 @@ spent? (untouched ∷ l) = spent? l
 spent? (remembered v ∷ l) = spent? l
 spent? (copied v k ∷ l) = eqb (versionOf v) lastVersion || spent? l
 
--- the touched bank words by rising number, every block number tried: unchanged where only read, new store and version + 1 where PUT
+-- the touched bank words by rising number: unchanged where only read, new store and version + 1 where PUT
 unfoldable pub gather : List ℕ → ℕ → List Touched → List Entry
 unfolding at
 gather copies b [] = []

@@ -3,10 +3,10 @@ use Prim.Native.Nat.{ℕ, zero, suc, _+_, _*_, _-_, _/_, _%_, _<_, _≤_}
 use mathlib.Core.Path.{_≡_, refl, sym, ap, _∙_, subst}
 use mathlib.Core.Bool.{Bool, true, false}
 use mathlib.Core.List.{List, []}
+use native.Mathlib.Nat.{mod-eq-of-lt}
 use native.Mathlib.Omega.{arith}
 use lib.Dec.{eqb}
 use lib.ListN.{length}
-use borrow.Author.Tests.{le-ltb, ne-eqb}
 use Rattle.model.specs.Lists.{at, replace}
 use Rattle.model.specs.Command as C
 use Rattle.model.specs.Word as W
@@ -19,11 +19,12 @@ use Rattle.commands.specs.declared.Access.{Access}
 use Rattle.commands.specs.declared.Access.the-variants.{Get, Put}
 use Rattle.commands.specs.declared.BodyCommand.{BodyCommand}
 use Rattle.state.specs.State.{Shared, Own, withRegisters, setValue}
-use Rattle.state.specs.Held.{memoryOf}
+use Rattle.state.specs.Held.{memoryOf, touchedIn, touchedOf}
 use Rattle.exchanges.specs.Places.{if, nextOf, Left, left}
 use Rattle.exchanges.specs.Reading.{afterReading}
 use Rattle.jobs.specs.Jobs.{lost}
-use Rattle.transactions.specs.Blocks.{bankOf, namedBlock, touchedAt, rememberedAt}
+use Rattle.transactions.specs.Blocks.{bankOf, namedBlock, slotAt, rememberedAt}
+use Rattle.transactions.proofs.Walks.{copied-slot}
 use Rattle.transactions.specs.Accesses.{goesOn, firstRead, storeFor, gotBy, copyBy, afterCopy, afterPut}
 use Rattle.transactions.specs.Accesses.{onTask, onMemory, accessTick, losesAttempt, checkedBy, againRead}
 use Rattle.machine.specs.Flat.{closed}
@@ -32,7 +33,7 @@ use Rattle.exchanges.specs.declared.read.Reading.the-variants.{Load}
 use Rattle.exchanges.specs.declared.read.Read.{Read}
 use Rattle.exchanges.specs.declared.read.Read.the-variants.{Reads, Gives}
 use Rattle.jobs.specs.declared.Job.{Job}
-use Rattle.refinement.proofs.View.{readOf, touchedOf, countsOf, transactionOf}
+use Rattle.refinement.proofs.View.{readOf, countsOf, transactionOf}
 use Rattle.state.specs.Sized.{SharedSized, OwnSized}
 use Rattle.refinement.proofs.Shape.{InsideShape, Refines}
 use Rattle.refinement.proofs.Sized.{registers-sized, blocks-sized}
@@ -40,7 +41,7 @@ use Rattle.refinement.proofs.Lines.{next-line, lines-next}
 use Rattle.state.proofs.Held.{rows-at}
 use Rattle.refinement.proofs.Memory.{rows-written}
 use Rattle.refinement.proofs.Reading.{read-tick}
-use Rattle.refinement.proofs.Blocks.{at-blocks, blocks-written, blocks-touched, value-remembered}
+use Rattle.refinement.proofs.Blocks.{at-blocks, blocks-touched, blocks-copied, touched-in, value-remembered}
 use Rattle.refinement.proofs.Lost.{lost-refines}
 
 -- the task in a transaction, at command j
@@ -82,10 +83,10 @@ module _ (program : List BodyCommand) (size : length program ≡ 512) (end : ℕ
   first-read c h (Reads r) = record { same = refl; sharedSized = shared; ownSized = own; shape = here _ refl refl }
   first-read c h (Gives v) =
       record {
-        same = rw (named-block c, blocks-written t (namedBlock c) (omega (arith, own .touched)) 1 v (omega (arith, own .remembered)));
+        same = rw (named-block c, blocks-touched t own (namedBlock c) h v);
         sharedSized = shared;
         ownSized = blocks-sized own _ (record {
-          touched = length-replace (t .blocks .touched) (namedBlock c) 1 ∙ own .touched;
+          slots = length-replace (t .blocks .slots) (namedBlock c) 0 ∙ own .slots;
           remembered = length-replace (t .blocks .remembered) (namedBlock c) v ∙ own .remembered;
         });
         shape = here _ refl refl;
@@ -109,8 +110,8 @@ module _ (program : List BodyCommand) (size : length program ≡ 512) (end : ℕ
 
   value-at : (b : ℕ) → b < 16 → touched? (T.touchedOf x b) ≡ true → T.rememberedOf (T.touchedOf x b) ≡ rememberedAt t b
   value-at b h g =
-      let e = at-blocks t b h in
-      ap T.rememberedOf e ∙ value-remembered (touchedAt t b) (rememberedAt t b) (ap touched? (sym e) ∙ g)
+      let e = at-blocks (t .blocks) b h in
+      ap T.rememberedOf e ∙ value-remembered (touchedIn (t .blocks .touched) b) (slotAt t b) (rememberedAt t b) (ap touched? (sym e) ∙ g)
 
   copy-if : (u : Shared) → SharedSized u → (c : Access) (n : ℕ) → n < 8 → (b : Bool)
       → Goal (left (copyBy b j c n) u t) (T.copyBy b (memoryOf u) z x (viewAccess c) n)
@@ -136,12 +137,12 @@ module _ (program : List BodyCommand) (size : length program ≡ 512) (end : ℕ
       (copy-if _ (stored-sized _ _) c n k (eqb (suc n) 8))
 
   -- BY WHAT THE BLOCK IS SO FAR
-  store-copied : (b k : ℕ) → touchedAt t b ≡ suc (suc k) → storeFor t b ≡ at 0 (t .copies) k
+  store-copied : (b k : ℕ) → slotAt t b ≡ suc k → storeFor t b ≡ at 0 (t .copies) k
   store-copied b k e =
-      let less : suc (suc k) - 2 ≡ k = omega arith in
-      rw (e, le-ltb (suc (suc k)) 2 (omega arith), less)
+      let less : suc k - 1 ≡ k = omega arith in
+      rw (e, copied-slot k, less)
 
-  store-remembered : (b : ℕ) → touchedAt t b ≡ 1 → storeFor t b ≡ rememberedAt t b % 256
+  store-remembered : (b : ℕ) → slotAt t b ≡ 0 → storeFor t b ≡ rememberedAt t b % 256
   store-remembered b e = rw e
 
   got-at : {d : J.Deed} (r b o s : ℕ) → o < 8 → storeFor t b ≡ s
@@ -167,38 +168,35 @@ module _ (program : List BodyCommand) (size : length program ≡ 512) (end : ℕ
   unfolding afterPut
   put-at b o r s h e = rw (e, stored-now s o (at 0 (t .registers) r) h) (goes-on _ (stored-sized _ _) (t .registers) (own .registers))
 
-  first-access : (c : Access) → namedBlock c < 16 → touchedAt t (namedBlock c) ≡ 0
+  first-access : (c : Access) → namedBlock c < 16 → touchedIn (t .blocks .touched) (namedBlock c) ≡ false
       → Goal (accessTick m t j c) (T.accessTick (memoryOf m) z x (viewAccess c) J.untouched)
   unfolding T.accessTick accessTick
   first-access c h e =
-      rw e
+      rw (mod-eq-of-lt h, e)
       (subst (λ (o : W.Read). Goal (onTask m (firstRead t j c (afterReading m (bankOf (namedBlock c)) Load)))
       (T.firstRead (memoryOf m) z x (viewAccess c) o))
       (sym (ap (λ (b : ℕ). W.readTick (memoryOf m) (T.bank b) W.loading) (named-block c)
       ∙ read-tick m (bankOf (namedBlock c)) (omega (arith, shared .cells)) (shared .saves) Load))
       (first-read c h _))
 
-  access-by : (c : Access) → AccessFits c → (k : ℕ) → touchedAt t (namedBlock c) ≡ k
-      → Goal (accessTick m t j c) (T.accessTick (memoryOf m) z x (viewAccess c) (touchedOf k (rememberedAt t (namedBlock c))))
+  access-by : (c : Access) → AccessFits c → (i : Bool) → touchedIn (t .blocks .touched) (namedBlock c) ≡ i → (k : ℕ) → slotAt t (namedBlock c) ≡ k
+      → Goal (accessTick m t j c) (T.accessTick (memoryOf m) z x (viewAccess c) (touchedOf i k (rememberedAt t (namedBlock c))))
   unfolding T.accessTick accessTick
-  access-by (Get r b o) f zero e = first-access (Get r b o) (f .block) e
-  access-by (Put b o r) f zero e = first-access (Put b o r) (f .block) e
-  access-by (Get r b o) f (suc zero) e = rw e (got-at r b o _ (f .offset) (store-remembered b e))
-  access-by (Put b o r) f (suc zero) e =
-      rw e (copy-tick (Put b o r) (f .block)
-      (ap touched? (at-blocks t b (f .block)) ∙ ap (λ (k : ℕ). touched? (touchedOf k (rememberedAt t b))) e) 0
+  access-by c f false i k e = first-access c (f .block) i
+  access-by (Get r b o) f true i zero e = rw (mod-eq-of-lt (f .block), i) (got-at r b o _ (f .offset) (store-remembered b e))
+  access-by (Put b o r) f true i zero e =
+      rw (mod-eq-of-lt (f .block), i, e)
+      (copy-tick (Put b o r) (f .block)
+      (ap touched? (at-blocks (t .blocks) b (f .block)) ∙ rw (i, e)) 0
       (omega arith))
-  access-by (Get r b o) f (suc (suc k)) e =
-      rw (e, ne-eqb (suc (suc k)) 0 (λ z. omega arith))
-      (got-at r b o (at 0 (t .copies) k) (f .offset) (store-copied b k e))
-  access-by (Put b o r) f (suc (suc k)) e =
-      let other : eqb (suc (suc k)) 1 ≡ false = ne-eqb (suc (suc k)) 1 (λ z. omega arith) in
-      rw (e, ne-eqb (suc (suc k)) 0 (λ z. omega arith), other)
-      (put-at b o r (at 0 (t .copies) k) (f .offset) (store-copied b k e))
+  access-by (Get r b o) f true i (suc k) e =
+      rw (mod-eq-of-lt (f .block), i) (got-at r b o (at 0 (t .copies) k) (f .offset) (store-copied b k e))
+  access-by (Put b o r) f true i (suc k) e =
+      rw (mod-eq-of-lt (f .block), i, e, copied-slot k) (put-at b o r (at 0 (t .copies) k) (f .offset) (store-copied b k e))
 
   pub access-tick : (c : Access) → AccessFits c
       → Goal (accessTick m t j c) (T.accessTick (memoryOf m) z x (viewAccess c) (T.touchedOf x (T.blockOf (viewAccess c))))
-  access-tick c f = rw (named-block c, at-blocks t (namedBlock c) (f .block)) (access-by c f _ refl)
+  access-tick c f = rw (named-block c, at-blocks (t .blocks) (namedBlock c) (f .block)) (access-by c f _ refl _ refl)
 
   -- THE SECOND READING
   abbrev Checks : Access → ℕ → Bool → Type 0
@@ -212,18 +210,20 @@ module _ (program : List BodyCommand) (size : length program ≡ 512) (end : ℕ
       goes-on m shared (replace (t .registers) r v) (length-replace (t .registers) r v ∙ own .registers)
   check-by (Put b o r) f g u few v true =
       let room = u refl in
-      let slot : j .used + 2 ≡ suc (suc (j .used)) = omega arith in
+      let slot : j .used + 1 ≡ suc (j .used) = omega arith in
+      let e = at-blocks (t .blocks) b (f .block) in
+      let in-mask = touched-in (touchedIn (t .blocks .touched) b) (slotAt t b) (rememberedAt t b) (ap touched? (sym e) ∙ g) in
       let more : nextOf (j .used) ≡ suc (j .used) = omega arith in
       record {
         same = rw (
           value-at b (f .block) g,
-          slot,
           more,
-          blocks-touched t b (omega (arith, f .block, own .touched)) (suc (suc (j .used))),
+          slot,
+          blocks-copied t own b (f .block) (j .used) in-mask,
         );
         sharedSized = shared;
         ownSized = blocks-sized own _ (record {
-          touched = length-replace (t .blocks .touched) b _ ∙ own .touched;
+          slots = length-replace (t .blocks .slots) b _ ∙ own .slots;
           remembered = own .remembered;
         });
         shape = here _ refl refl;

@@ -1,106 +1,76 @@
--- The blocks of a transaction, read and written; whether one is touched, whether one is spent.
-use Prim.Native.Nat.{ℕ, zero, suc, _+_, _/_, _<_}
-use mathlib.Core.Path.{_≡_, refl, ap, _∙_}
-use mathlib.Core.Bool.{Bool, true, false, false≢true, _||_}
+-- The blocks of a transaction, read, touched and copied.
+use Prim.Native.Nat.{ℕ, zero, suc, _+_, _%_, _<_}
+use mathlib.Core.Path.{_≡_, refl, sym, ap, _∙_}
+use mathlib.Core.Bool.{Bool, true, false, false≢true}
 use mathlib.Core.List.{List, _∷_}
+use native.Mathlib.Nat.{mod-eq-of-lt}
 use native.Mathlib.Omega.{arith}
-use lib.Dec.{eqb}
+use lib.Bits.{bitOr}
 use lib.ListN.{length}
-use borrow.Author.Tests.{le-ltb, ne-eqb}
-use Rattle.model.specs.Ceilings.{lastVersion}
 use Rattle.model.specs.Lists.{at, replace}
-use Rattle.model.specs.Job.{Touched, untouched}
-use Rattle.model.specs.Transaction.{rememberedOf, nothing?, spent?}
+use Rattle.model.specs.Job.{Touched, untouched, remembered, copied}
+use Rattle.model.specs.Transaction.{rememberedOf}
 use Rattle.model.proofs.Lists.{replace-same, replace-other}
 use Rattle.model.proofs.Fit.Transaction.{touched?}
-use Rattle.state.specs.State.{Own, setTouched, setRemembered}
-use Rattle.exchanges.specs.Places.{if}
-use Rattle.transactions.specs.Blocks.{touchedAt, rememberedAt, untouchedFrom, isSpent, spentFrom}
-use Rattle.refinement.proofs.Tabulate.{tabulate, at-tabulate, tabulate-replace}
-use Rattle.refinement.proofs.View.{touchedOf, blocksOf}
+use Rattle.state.specs.State.{Blocks, Own, setSlot}
+use Rattle.state.specs.Held.{touchedIn, touchedOf, blockAt, blocksFrom, blocksOf}
+use Rattle.state.specs.Sized.{OwnSized}
+use Rattle.transactions.specs.Blocks.{rememberedAt, touching}
+use Rattle.transactions.proofs.Mask.{bit-in, bit-other}
+use Rattle.refinement.proofs.Tabulate.{tabulate, at-tabulate, tabulate-same, tabulate-replace}
 
-module _ (t : Own) where
-  -- block b
-  abbrev pub blockAt : ℕ → Touched
-  blockAt b = touchedOf (touchedAt t b) (rememberedAt t b)
+module _ (x : Blocks) where
+  by-number : (n b : ℕ) → blocksFrom n x b ≡ tabulate n (λ i. blockAt x (b + i))
+  unfolding blocksFrom tabulate
+  by-number zero b = refl
+  by-number (suc n) b =
+      let first : b ≡ b + 0 = omega arith in
+      ap (λ (k : ℕ). blockAt x k ∷ blocksFrom n x (suc b)) first
+      ∙ ap (λ (l : List Touched). blockAt x (b + 0) ∷ l)
+      (by-number n (suc b) ∙ tabulate-same n _ _ (λ i h. ap (blockAt x) (omega arith)))
 
-  pub at-blocks : (b : ℕ) → b < 16 → at untouched (blocksOf (t .blocks)) b ≡ blockAt b
-  unfolding blocksOf
-  at-blocks b h = at-tabulate untouched 16 b blockAt h
+  all-blocks : blocksOf x ≡ tabulate 16 (blockAt x)
+  all-blocks = by-number 16 0 ∙ tabulate-same 16 _ _ (λ i h. ap (blockAt x) (omega arith))
 
-  module _ (b : ℕ) (touches : b < length (t .blocks .touched)) where
-    -- a block and the value remembered of it are written
-    pub blocks-written : (k v : ℕ) → b < length (t .blocks .remembered)
-        → blocksOf (setRemembered (setTouched t b k) b v .blocks) ≡ replace (blocksOf (t .blocks)) b (touchedOf k v)
-    unfolding blocksOf
-    blocks-written k v h =
-        tabulate-replace 16 blockAt _ b (touchedOf k v)
-        (λ z. rw (replace-same 0 (t .blocks .touched) b k touches, replace-same 0 (t .blocks .remembered) b v h))
-        (λ n z d. rw (replace-other 0 (t .blocks .touched) b n k d, replace-other 0 (t .blocks .remembered) b n v d))
+  pub at-blocks : (b : ℕ) → b < 16 → at untouched (blocksOf x) b ≡ blockAt x b
+  at-blocks b h = ap (λ (l : List Touched). at untouched l b) all-blocks ∙ at-tabulate untouched 16 b (blockAt x) h
 
-    pub blocks-touched : (k : ℕ) → blocksOf (setTouched t b k .blocks) ≡ replace (blocksOf (t .blocks)) b (touchedOf k (rememberedAt t b))
-    unfolding blocksOf
-    blocks-touched k =
-        tabulate-replace 16 blockAt _ b (touchedOf k (rememberedAt t b))
-        (λ z. rw (replace-same 0 (t .blocks .touched) b k touches))
-        (λ n z d. rw (replace-other 0 (t .blocks .touched) b n k d))
+module _ (t : Own) (own : OwnSized t) (b : ℕ) (h : b < 16) where
+  -- a block is touched
+  pub blocks-touched : (v : ℕ) → blocksOf (touching b v t .blocks) ≡ replace (blocksOf (t .blocks)) b (remembered v)
+  blocks-touched v =
+      all-blocks (touching b v t .blocks)
+      ∙ tabulate-replace 16 (blockAt (t .blocks)) (blockAt (touching b v t .blocks)) b (remembered v)
+      (λ z. rw (
+        mod-eq-of-lt h,
+        bit-in (t .blocks .touched) b,
+        replace-same 0 (t .blocks .slots) b 0 (omega (arith, own .slots)),
+        replace-same 0 (t .blocks .remembered) b v (omega (arith, own .remembered)),
+      ))
+      (λ n z d. rw (
+        mod-eq-of-lt h,
+        bit-other (t .blocks .touched) b n d,
+        replace-other 0 (t .blocks .slots) b n 0 d,
+        replace-other 0 (t .blocks .remembered) b n v d,
+      ))
+      ∙ ap (λ (l : List Touched). replace l b (remembered v)) (sym (all-blocks (t .blocks)))
 
--- a touched block is remembered
-pub value-remembered : (k v : ℕ) → touched? (touchedOf k v) ≡ true → rememberedOf (touchedOf k v) ≡ v
-value-remembered zero v h = absurd (false≢true h)
-value-remembered (suc zero) v h = refl
-value-remembered (suc (suc k)) v h = refl
+  -- a touched block is copied into a slot
+  pub blocks-copied : (k : ℕ) → touchedIn (t .blocks .touched) b ≡ true
+      → blocksOf (setSlot t b (suc k) .blocks) ≡ replace (blocksOf (t .blocks)) b (copied (rememberedAt t b) k)
+  blocks-copied k e =
+      all-blocks (setSlot t b (suc k) .blocks)
+      ∙ tabulate-replace 16 (blockAt (t .blocks)) (blockAt (setSlot t b (suc k) .blocks)) b (copied (rememberedAt t b) k)
+      (λ z. rw (e, replace-same 0 (t .blocks .slots) b (suc k) (omega (arith, own .slots))))
+      (λ n z d. rw (replace-other 0 (t .blocks .slots) b n (suc k) d))
+      ∙ ap (λ (l : List Touched). replace l b (copied (rememberedAt t b) k)) (sym (all-blocks (t .blocks)))
 
--- THE BLOCKS FROM A NUMBER ON
-nothing-first : (k v : ℕ) (l : List Touched) (r : Bool) → nothing? l ≡ r → nothing? (touchedOf k v ∷ l) ≡ if (eqb k 0) r false
-unfolding nothing?
-nothing-first zero v l r e = e
-nothing-first (suc zero) v l r e = refl
-nothing-first (suc (suc k)) v l r e = rw (ne-eqb (suc (suc k)) 0 (λ z. omega arith))
+-- a touched block is in the mask, and remembered
+pub touched-in : (z : Bool) (k v : ℕ) → touched? (touchedOf z k v) ≡ true → z ≡ true
+touched-in false k v h = h
+touched-in true k v h = refl
 
-spent-or : (a b : Bool) → a || b ≡ if a true b
-spent-or true b = refl
-spent-or false b = refl
-
-spent-first : (k v : ℕ) (l : List Touched) (r : Bool) → spent? l ≡ r → spent? (touchedOf k v ∷ l) ≡ if (isSpent k v) true r
-unfolding spent?
-spent-first zero v l r e = e
-spent-first (suc zero) v l r e = e
-spent-first (suc (suc k)) v l r e = rw (le-ltb (suc (suc k)) 2 (omega arith), e) (spent-or (eqb (v / 256) lastVersion) r)
-
-module _ (t : Own) where
-  abbrev From : ℕ → ℕ → (ℕ → Touched) → Type 0
-  From n b f = (i : ℕ) → i < n → f i ≡ blockAt t (b + i)
-
-  first : (n b : ℕ) (f : ℕ → Touched) → From (suc n) b f → f 0 ≡ blockAt t b
-  first n b f g = g 0 (omega arith) ∙ ap (blockAt t) (omega arith)
-
-  others : (n b : ℕ) (f : ℕ → Touched) → From (suc n) b f → From n (suc b) (λ i. f (suc i))
-  others n b f g i h = g (suc i) (omega arith) ∙ ap (blockAt t) (omega arith)
-
-  nothing-from : (n b : ℕ) (f : ℕ → Touched) → From n b f → nothing? (tabulate n f) ≡ untouchedFrom n t b
-  unfolding tabulate nothing? untouchedFrom
-  nothing-from zero b f g = refl
-  nothing-from (suc n) b f g =
-      ap (λ (z : Touched). nothing? (z ∷ tabulate n (λ i. f (suc i)))) (first n b f g)
-      ∙ nothing-first (touchedAt t b) (rememberedAt t b) (tabulate n (λ i. f (suc i))) (untouchedFrom n t (suc b))
-      (nothing-from n (suc b) (λ i. f (suc i)) (others n b f g))
-
-  spent-from : (n b : ℕ) (f : ℕ → Touched) → From n b f → spent? (tabulate n f) ≡ spentFrom n t b
-  unfolding tabulate spent? spentFrom
-  spent-from zero b f g = refl
-  spent-from (suc n) b f g =
-      ap (λ (z : Touched). spent? (z ∷ tabulate n (λ i. f (suc i)))) (first n b f g)
-      ∙ spent-first (touchedAt t b) (rememberedAt t b) (tabulate n (λ i. f (suc i))) (spentFrom n t (suc b))
-      (spent-from n (suc b) (λ i. f (suc i)) (others n b f g))
-
-  all : From 16 0 (blockAt t)
-  all i h = ap (blockAt t) (omega arith)
-
-  pub nothing-touched : nothing? (blocksOf (t .blocks)) ≡ untouchedFrom 16 t 0
-  unfolding blocksOf
-  nothing-touched = nothing-from 16 0 (blockAt t) all
-
-  pub some-spent : spent? (blocksOf (t .blocks)) ≡ spentFrom 16 t 0
-  unfolding blocksOf
-  some-spent = spent-from 16 0 (blockAt t) all
+pub value-remembered : (z : Bool) (k v : ℕ) → touched? (touchedOf z k v) ≡ true → rememberedOf (touchedOf z k v) ≡ v
+value-remembered false k v h = absurd (false≢true h)
+value-remembered true zero v h = refl
+value-remembered true (suc k) v h = refl

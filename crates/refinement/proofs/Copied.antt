@@ -9,10 +9,9 @@ use Rattle.model.specs.Lists.{at, replace}
 use Rattle.model.specs.Job as J
 use Rattle.model.proofs.Lists.{replace-same, replace-other, length-replace, at-replicate, same?}
 use Rattle.state.specs.State.{Own}
-use Rattle.jobs.specs.Jobs.{copied, keeping, restoring}
-use Rattle.transactions.specs.Blocks.{zeroed, clearing}
-use Rattle.refinement.proofs.Tabulate.{tabulate, tabulate-same}
-use Rattle.refinement.proofs.View.{touchedOf, blocksOf}
+use Rattle.state.specs.Held.{blocksFrom, blocksOf}
+use Rattle.jobs.specs.Jobs.{copied, keeping, restoring, zeroed}
+use Rattle.transactions.specs.Blocks.{clearing}
 use Rattle.state.specs.Sized.{OwnSized}
 use Rattle.refinement.proofs.Sized.{registers-sized, kept-sized, blocks-sized}
 
@@ -70,11 +69,9 @@ module _ (t : Own) (s : OwnSized t) where
   restored-all = copied-all 8 (t .registers) (t .kept) (s .registers) (s .kept)
 
   -- no block is touched
-  pub cleared-blocks : blocksOf (clearing 16 t .blocks) ≡ replicate 16 J.untouched
-  unfolding blocksOf tabulate
-  cleared-blocks =
-      tabulate-same 16 _ (λ b. J.untouched)
-      (λ b h. ap (λ (k : ℕ). touchedOf k (at 0 (t .blocks .remembered) b)) (zeroed-at (t .blocks .touched) 16 b (omega (arith, s .touched)) h))
+  pub cleared-blocks : blocksOf (clearing t .blocks) ≡ replicate 16 J.untouched
+  unfolding blocksFrom
+  cleared-blocks = refl
 
   pub keeping-sized : (n : ℕ) → OwnSized (keeping n t)
   keeping-sized n = kept-sized s _ (copied-size n (t .kept) (t .registers) ∙ s .kept)
@@ -82,5 +79,5 @@ module _ (t : Own) (s : OwnSized t) where
   pub restoring-sized : (n : ℕ) → OwnSized (restoring n t)
   restoring-sized n = registers-sized s _ (copied-size n (t .registers) (t .kept) ∙ s .registers)
 
-  pub clearing-sized : (n : ℕ) → OwnSized (clearing n t)
-  clearing-sized n = blocks-sized s _ (record { touched = zeroed-size n (t .blocks .touched) ∙ s .touched; remembered = s .remembered })
+  pub clearing-sized : OwnSized (clearing t)
+  clearing-sized = blocks-sized s _ (record { slots = s .slots; remembered = s .remembered })

@@ -20,7 +20,7 @@ use Rattle.commands.specs.declared.Access.{Access}
 use Rattle.commands.specs.declared.Access.the-variants.{Get, Put}
 use Rattle.commands.specs.declared.BodyCommand.{BodyCommand}
 use Rattle.state.specs.State.{Shared, Own}
-use Rattle.state.specs.Held.{memoryOf}
+use Rattle.state.specs.Held.{memoryOf, touchedIn}
 use Rattle.exchanges.specs.Places.{Left}
 use Rattle.exchanges.specs.Reading.{afterReading}
 use Rattle.exchanges.specs.Exchange.{afterExchange}
@@ -32,12 +32,12 @@ use Rattle.jobs.specs.declared.Inner.{Inner}
 use Rattle.jobs.specs.declared.Inner.the-variants.{Between, First, Copying, Again, Committing}
 use Rattle.jobs.specs.declared.Phase.the-variants.{Transaction}
 use Rattle.jobs.specs.declared.Job.{Job}
-use Rattle.transactions.specs.Blocks.{bankOf, namedBlock, touchedAt, rememberedAt}
+use Rattle.transactions.specs.Blocks.{bankOf, namedBlock, slotAt, rememberedAt}
 use Rattle.transactions.specs.Commits.{committedBy}
 use Rattle.statements.specs.Statements.{beginTick, stepTick, transactTick, transactionTick, statement}
 use Rattle.machine.specs.Flat.{closed}
 use Rattle.program.specs.Program.{commandsIn}
-use Rattle.refinement.proofs.View.{readingOf, readOf, entriesOf, numberOf, stepOf, touchedOf, innerOf, transactionOf}
+use Rattle.refinement.proofs.View.{readingOf, readOf, entriesOf, numberOf, stepOf, innerOf, transactionOf}
 use Rattle.state.specs.Sized.{SharedSized, OwnSized}
 use Rattle.refinement.proofs.Shape.{InsideShape, Refines}
 use Rattle.refinement.proofs.Lines.{lines-before}
@@ -64,10 +64,11 @@ module _ (program : List BodyCommand) (size : length program ≡ 512) (end : ℕ
   -- WHAT THE MODEL KNOWS OF IT
   module _ (i : J.Inner) (f : TransactionFit words blocks (t .copies) commands [] x i) where
     pass-fits : TransactionRange x i → PassFits t
-    pass-fits r = record { value = λ b k h e. subst TouchedRange (put-block b k h e) (r .block b); copy = copy; most = f .most }
+    pass-fits r = record { value = λ b k h i e. subst TouchedRange (put-block b k h i e) (r .block b); copy = copy; most = f .most }
       where
-        put-block : (b k : ℕ) → b < 16 → touchedAt t b ≡ suc (suc k) → T.touchedOf x b ≡ J.copied (rememberedAt t b) k
-        put-block b k h e = at-blocks t b h ∙ ap (λ (n : ℕ). touchedOf n (rememberedAt t b)) e
+        put-block : (b k : ℕ) → b < 16 → touchedIn (t .blocks .touched) b ≡ true → slotAt t b ≡ suc k
+            → T.touchedOf x b ≡ J.copied (rememberedAt t b) k
+        put-block b k h i e = at-blocks (t .blocks) b h ∙ rw (i, e)
 
   bank-read : (c : Access) (z : Reading) → namedBlock c < 16
       → W.readTick (memoryOf m) (T.bank (T.blockOf (viewAccess c))) (readingOf z) ≡ readOf (afterReading m (bankOf (namedBlock c)) z)

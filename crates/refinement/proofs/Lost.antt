@@ -34,6 +34,6 @@ lost-refines program end body m t j w shared own begun few =
         counted-counts t (own .counts) J.lost few,
       );
       sharedSized = shared;
-      ownSized = clearing-sized _ (restoring-sized _ sized 8) 16;
+      ownSized = clearing-sized _ (restoring-sized _ sized 8);
       shape = record { inBody = begun; begun = begun };
     }

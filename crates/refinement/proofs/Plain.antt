@@ -88,7 +88,7 @@ module _ (program : List BodyCommand) (size : length program ≡ 512) (end : ℕ
       record {
         same = rw (kept-all t own, cleared-blocks (keeping 8 t) (keeping-sized t own 8));
         sharedSized = shared;
-        ownSized = clearing-sized (keeping 8 t) (keeping-sized t own 8) 16;
+        ownSized = clearing-sized (keeping 8 t) (keeping-sized t own 8);
         shape = record { inBody = omega arith; begun = omega arith };
       }
 

@@ -16,7 +16,7 @@ pub record EntriesSized (e : Entries) : Type 0 where
   pub overlapped : length (e .overlapped) ≡ 8
 
 pub record BlocksSized (x : Blocks) : Type 0 where
-  pub touched : length (x .touched) ≡ 16
+  pub slots : length (x .slots) ≡ 16
   pub remembered : length (x .remembered) ≡ 16
 
 all : {u : Own} → length (u .registers) ≡ 8 → length (u .kept) ≡ 8 → length (u .copies) ≡ 4 → EntriesSized (u .entries) → BlocksSized (u .blocks)
@@ -31,7 +31,7 @@ all r k c e b n =
       news = e .news;
       inits = e .inits;
       overlapped = e .overlapped;
-      touched = b .touched;
+      slots = b .slots;
       remembered = b .remembered;
       counts = n;
     }
@@ -41,7 +41,7 @@ module _ {t : Own} (s : OwnSized t) where
   entriesSized = record { targets = s .targets; olds = s .olds; news = s .news; inits = s .inits; overlapped = s .overlapped }
 
   abbrev pub blocksSized : BlocksSized (t .blocks)
-  blocksSized = record { touched = s .touched; remembered = s .remembered }
+  blocksSized = record { slots = s .slots; remembered = s .remembered }
 
   pub registers-sized : (l : List ℕ) → length l ≡ 8 → OwnSized (withRegisters t l)
   registers-sized l e = all e (s .kept) (s .copies) entriesSized blocksSized (s .counts)

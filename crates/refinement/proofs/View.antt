@@ -1,5 +1,5 @@
 -- The model's memory and tasks that the code's records hold.
-use Prim.Native.Nat.{ℕ, zero, suc}
+use Prim.Native.Nat.{ℕ}
 use mathlib.Core.Bool.{not}
 use mathlib.Core.List.{List, []}
 use lib.Dec.{eqb}
@@ -11,7 +11,8 @@ use Rattle.model.specs.Job as J
 use Rattle.commands.specs.View.{viewAccess}
 use Rattle.commands.specs.declared.BodyCommand.{BodyCommand}
 use Rattle.state.specs.Packed.{unpack}
-use Rattle.state.specs.State.{Entries, Blocks, Own}
+use Rattle.state.specs.State.{Entries, Own}
+use Rattle.state.specs.Held.{blocksOf}
 use Rattle.exchanges.specs.declared.read.Reading.{Reading}
 use Rattle.exchanges.specs.declared.read.Reading.the-variants as Reading
 use Rattle.exchanges.specs.declared.read.Read.{Read}
@@ -84,15 +85,6 @@ stepOf v (Step.CleanMark i j yes?) = X.cleanMark j yes?
 
 abbrev pub exchangeOf : List X.Entry → ℕ → Step → X.Exchange
 exchangeOf es v s = record { entries = es; i = numberOf s; step = stepOf v s }
-
--- a block by how it was touched and the remembered value
-abbrev pub touchedOf : ℕ → ℕ → J.Touched
-touchedOf zero v = J.untouched
-touchedOf (suc zero) v = J.remembered v
-touchedOf (suc (suc k)) v = J.copied v k
-
-unfoldable pub blocksOf : Blocks → List J.Touched
-blocksOf x = tabulate 16 (λ b. touchedOf (at 0 (x .touched) b) (at 0 (x .remembered) b))
 
 abbrev pub innerOf : Job → Own → Inner → J.Inner
 innerOf j t Inner.Between = J.between

@@ -61,7 +61,7 @@ all-copied p e = subst (OwnStarts p) (sym e) (record {
         news = refl;
         inits = refl;
         overlapped = refl;
-        touched = refl;
+        slots = refl;
         remembered = refl;
         counts = refl;
       };
@@ -73,7 +73,7 @@ pub record Started (p : ℕ) (ts : List (List ℕ)) : Type 0 where
   pub size : length ts ≡ 8
   pub each : (q : ℕ) → q < p → OwnStarts q (own (getD ts q []))
 
-pub none-started : Started 0 (replicate 8 (zeros 108))
+pub none-started : Started 0 (replicate 8 (zeros 109))
 none-started = record { most = omega arith; size = refl; each = λ q h. absurd (omega arith) }
 
 pub next-started : {ts : List (List ℕ)} {p : ℕ} → Started p ts → p < 8 → (t : List ℕ) → OwnStarts p (own t) → Started (p + 1) (set ts p t)

@@ -116,7 +116,7 @@ fn own_start(p: usize) -> Task
     requires { ⌜ p < 8 ⌝ }
     ensures { λ r. ⌜ OwnStarts p (own r) ⌝ }
 {
-    let mut task = [0u32; 108];
+    let mut task = [0u32; 109];
     let mut k = 0;
     while k < COPIES {
         state::task::set_copy(&mut task, k, (COPIES * p + k) as u32);
@@ -128,7 +128,7 @@ fn own_start(p: usize) -> Task
 pub fn tasks() -> [Task; TASKS]
     ensures { λ r. ⌜ TasksStart (map own r) ⌝ }
 {
-    let mut tasks = [[0u32; 108]; TASKS];
+    let mut tasks = [[0u32; 109]; TASKS];
     let mut p = 0;
     while p < TASKS {
         tasks[p] = own_start(p);

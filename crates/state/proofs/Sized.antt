@@ -18,7 +18,7 @@ length-words (suc n) (a ∷ []) e = absurd (omega arith)
 length-words (suc n) (a ∷ b ∷ l) e = ap suc (length-words n l (omega arith))
 
 module _ (l : List ℕ) where
-  size : (o n : ℕ) → o + n ≤ length l → length (part o n l) ≡ n
+  pub size : (o n : ℕ) → o + n ≤ length l → length (part o n l) ≡ n
   unfolding part
   size o n h = length-take-le n (drop o l) (simp length-drop (omega arith))
 
@@ -32,7 +32,7 @@ module _ (l : List ℕ) where
         stores = size 168 384 (omega arith);
       }
 
-  pub own-sized : length l ≡ 108 → OwnSized (own l)
+  pub own-sized : length l ≡ 109 → OwnSized (own l)
   unfolding own
   own-sized e =
       record {
@@ -44,7 +44,7 @@ module _ (l : List ℕ) where
         news = size 36 8 (omega arith);
         inits = length-words 8 (part 44 16 l) (size 44 16 (omega arith));
         overlapped = size 60 8 (omega arith);
-        touched = size 68 16 (omega arith);
+        slots = size 68 16 (omega arith);
         remembered = size 84 16 (omega arith);
         counts = size 100 8 (omega arith);
       }

@@ -1,7 +1,10 @@
 -- A store to one part of an array, in what the array holds.
-use Prim.Native.Nat.{ℕ}
+use Prim.Native.Nat.{ℕ, _%_, _≤_, _<_}
 use mathlib.Core.Path.{_≡_, ap, _∙_}
 use mathlib.Core.List.{List, []}
+use native.Mathlib.Nat.{mod-eq-of-lt}
+use native.Mathlib.Omega.{arith}
+use lib.ListN.{length}
 use Rattle.model.specs.Lists.{at, replace}
 use Rattle.state.specs.Parts.{part, words, within, withinWords, cut}
 use Rattle.state.specs.State.{Shared, sharedSizes, shared, setCell, setStatus, setSave, setValue}
@@ -17,10 +20,13 @@ use Rattle.state.specs.State.{
   setNew,
   setInit,
   setOverlapped,
-  setTouched,
+  setSlot,
   setRemembered,
   setCount,
+  setTouched,
 }
+use Rattle.model.proofs.Lists.{replace-same}
+use Rattle.state.proofs.Sized.{size}
 use Rattle.state.proofs.Parts.{within-change, words-change, words-replace, cut-change}
 
 -- the parts by their numbers
@@ -58,7 +64,7 @@ ownBy l =
       kept = at [] l 1;
       copies = at [] l 2;
       entries = record { targets = at [] l 3; olds = at [] l 4; news = at [] l 5; inits = words (at [] l 6); overlapped = at [] l 7 };
-      blocks = record { touched = at [] l 8; remembered = at [] l 9 };
+      blocks = record { touched = at 0 (at [] l 11) 0 % 65536; slots = at [] l 8; remembered = at [] l 9 };
       counts = at [] l 10;
     }
 
@@ -94,9 +100,9 @@ pub overlapped-set : (t : List ℕ) (i x : ℕ) → own (within 60 8 t i x) ≡ 
 unfolding own cut at replace
 overlapped-set t i x = ap ownBy (cut-change 0 ownSizes 7 (within-change 60 8 t i x))
 
-pub touched-set : (t : List ℕ) (i x : ℕ) → own (within 68 16 t i x) ≡ setTouched (own t) i x
+pub slot-set : (t : List ℕ) (i x : ℕ) → own (within 68 16 t i x) ≡ setSlot (own t) i x
 unfolding own cut at replace
-touched-set t i x = ap ownBy (cut-change 0 ownSizes 8 (within-change 68 16 t i x))
+slot-set t i x = ap ownBy (cut-change 0 ownSizes 8 (within-change 68 16 t i x))
 
 pub remembered-set : (t : List ℕ) (i x : ℕ) → own (within 84 16 t i x) ≡ setRemembered (own t) i x
 unfolding own cut at replace
@@ -105,3 +111,9 @@ remembered-set t i x = ap ownBy (cut-change 0 ownSizes 9 (within-change 84 16 t 
 pub count-set : (t : List ℕ) (i x : ℕ) → own (within 100 8 t i x) ≡ setCount (own t) i x
 unfolding own cut at replace
 count-set t i x = ap ownBy (cut-change 0 ownSizes 10 (within-change 100 8 t i x))
+
+pub touched-set : (t : List ℕ) (x : ℕ) → 109 ≤ length t → x < 65536 → own (within 108 1 t 0 x) ≡ setTouched (own t) x
+unfolding own cut at replace
+touched-set t x h l =
+    ap ownBy (cut-change 0 ownSizes 11 (within-change 108 1 t 0 x))
+    ∙ rw (replace-same 0 (part 108 1 t) 0 x (omega (arith, size t 108 1 h)), mod-eq-of-lt l)

@@ -3,6 +3,7 @@ use Prim.Native.Nat.{ℕ}
 use mathlib.Core.Path.{_≡_, refl}
 use mathlib.Core.List.{List}
 use lib.ListN.{replicate}
+use Rattle.model.specs.Lists.{at}
 use Rattle.state.specs.Parts.{part, words}
 use Rattle.state.specs.State.{Shared, shared, Own, own}
 
@@ -23,10 +24,10 @@ ownZeros =
       kept = zeros 8;
       copies = zeros 4;
       entries = record { targets = zeros 8; olds = zeros 8; news = zeros 8; inits = zeros 8; overlapped = zeros 8 };
-      blocks = record { touched = zeros 16; remembered = zeros 16 };
+      blocks = record { touched = 0; slots = zeros 16; remembered = zeros 16 };
       counts = zeros 8;
     }
 
-pub own-zeros : own (zeros 108) ≡ ownZeros
-unfolding own part words
+pub own-zeros : own (zeros 109) ≡ ownZeros
+unfolding own part words at
 own-zeros = refl

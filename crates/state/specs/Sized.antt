@@ -18,6 +18,6 @@ pub record OwnSized (t : Own) : Type 0 where
   pub news : length (t .entries .news) ≡ 8
   pub inits : length (t .entries .inits) ≡ 8
   pub overlapped : length (t .entries .overlapped) ≡ 8
-  pub touched : length (t .blocks .touched) ≡ 16
+  pub slots : length (t .blocks .slots) ≡ 16
   pub remembered : length (t .blocks .remembered) ≡ 16
   pub counts : length (t .counts) ≡ 8

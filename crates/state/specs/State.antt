@@ -1,7 +1,7 @@
 -- What the two arrays of a run hold: what all tasks share, and one task's own record.
-use Prim.Native.Nat.{ℕ}
+use Prim.Native.Nat.{ℕ, _%_}
 use mathlib.Core.List.{List, [], _∷_}
-use Rattle.model.specs.Lists.{replace}
+use Rattle.model.specs.Lists.{at, replace}
 use Rattle.state.specs.Parts.{part, words}
 
 -- WHAT ALL SHARE: packed cells; status; save places; the values of the block stores
@@ -46,10 +46,11 @@ pub record Entries : Type 0 where
   pub inits : List ℕ
   pub overlapped : List ℕ
 
--- The blocks of a transaction: touched is 0 for not, 1 for remembered, 2 + k for copied into slot k; and the bank word's value that was
--- remembered.
+-- The blocks of a transaction: the mask of touched ones, block b's mark in its digit b; for a touched block 0, or 1 + k if it was copied
+-- into slot k; and the bank word's value that was remembered.
 pub record Blocks : Type 0 where
-  pub touched : List ℕ
+  pub touched : ℕ
+  pub slots : List ℕ
   pub remembered : List ℕ
 
 -- registers, those kept at BEGIN, copy stores, entries, blocks, counts
@@ -62,10 +63,10 @@ pub record Own : Type 0 where
   pub counts : List ℕ
 
 abbrev pub ownSizes : List ℕ
-ownSizes = 8 ∷ 8 ∷ 4 ∷ 8 ∷ 8 ∷ 8 ∷ 16 ∷ 8 ∷ 16 ∷ 16 ∷ 8 ∷ []
+ownSizes = 8 ∷ 8 ∷ 4 ∷ 8 ∷ 8 ∷ 8 ∷ 16 ∷ 8 ∷ 16 ∷ 16 ∷ 8 ∷ 1 ∷ []
 
 unfoldable pub own : List ℕ → Own
-unfolding part words
+unfolding part words at
 own t =
     record {
       registers = part 0 8 t;
@@ -73,7 +74,7 @@ own t =
       copies = part 16 4 t;
       entries =
           record { targets = part 20 8 t; olds = part 28 8 t; news = part 36 8 t; inits = words (part 44 16 t); overlapped = part 60 8 t };
-      blocks = record { touched = part 68 16 t; remembered = part 84 16 t };
+      blocks = record { touched = at 0 (part 108 1 t) 0 % 65536; slots = part 68 16 t; remembered = part 84 16 t };
       counts = part 100 8 t;
     }
 
@@ -95,11 +96,14 @@ inInits e i x = entriesWith (e .targets) (e .olds) (e .news) (replace (e .inits)
 abbrev inOverlapped : Entries → ℕ → ℕ → Entries
 inOverlapped e i x = entriesWith (e .targets) (e .olds) (e .news) (e .inits) (replace (e .overlapped) i x)
 
-abbrev inTouched : Blocks → ℕ → ℕ → Blocks
-inTouched e i x = record { touched = replace (e .touched) i x; remembered = e .remembered }
+abbrev inTouched : Blocks → ℕ → Blocks
+inTouched e x = record { touched = x; slots = e .slots; remembered = e .remembered }
+
+abbrev inSlots : Blocks → ℕ → ℕ → Blocks
+inSlots e i x = record { touched = e .touched; slots = replace (e .slots) i x; remembered = e .remembered }
 
 abbrev inRemembered : Blocks → ℕ → ℕ → Blocks
-inRemembered e i x = record { touched = e .touched; remembered = replace (e .remembered) i x }
+inRemembered e i x = record { touched = e .touched; slots = e .slots; remembered = replace (e .remembered) i x }
 
 abbrev ownWith : List ℕ → List ℕ → List ℕ → Entries → Blocks → List ℕ → Own
 ownWith r k c e b n = record { registers = r; kept = k; copies = c; entries = e; blocks = b; counts = n }
@@ -144,8 +148,11 @@ setInit t i x = withEntries t (inInits (t .entries) i x)
 abbrev pub setOverlapped : Own → ℕ → ℕ → Own
 setOverlapped t i x = withEntries t (inOverlapped (t .entries) i x)
 
-abbrev pub setTouched : Own → ℕ → ℕ → Own
-setTouched t i x = withBlocks t (inTouched (t .blocks) i x)
+abbrev pub setTouched : Own → ℕ → Own
+setTouched t x = withBlocks t (inTouched (t .blocks) x)
+
+abbrev pub setSlot : Own → ℕ → ℕ → Own
+setSlot t i x = withBlocks t (inSlots (t .blocks) i x)
 
 abbrev pub setRemembered : Own → ℕ → ℕ → Own
 setRemembered t i x = withBlocks t (inRemembered (t .blocks) i x)

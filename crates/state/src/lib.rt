@@ -10,7 +10,7 @@ ghost use Rattle.state.specs.Packed.{fresh, packed, valueOf, countOf, va
 // What all tasks share, and the record of one task.
 pub type Memory = [u32; 552];
 
-pub type Task = [u32; 108];
+pub type Task = [u32; 109];
 
 pub mod shared;
 pub mod task;

@@ -1,11 +1,12 @@
 // One task's own record: 8 registers, 8 that BEGIN kept, 4 copy stores; 8 entries of an exchange, each a target cell, old and new value,
-// the word loaded and whether that was overlapped; 16 blocks, each how it was touched and the bank word remembered; 8 counts.
+// the word loaded and whether that was overlapped; 16 blocks, each its copy slot and the bank word remembered; 8 counts; the mask of
+// touched blocks.
 ghost use mathlib.Core.Path.{_≡_};
 ghost use lib.ListN.{length};
 ghost use Rattle.model.specs.Lists.{at};
 use crate::Task;
 ghost use Rattle.state.specs.State.{own, setRegister, setKept, setCopy, setTarget, setOld, setNew};
-ghost use Rattle.state.specs.State.{setInit, setOverlapped, setTouched, setRemembered, setCount};
+ghost use Rattle.state.specs.State.{setInit, setOverlapped, setSlot, setRemembered, setCount, setTouched};
 
 pub fn register(task: &Task, i: u8) -> u32
     ensures { λ r. ⌜ r ≡ at 0 (own (now (task .entry)) .registers) i ⌝ }
@@ -109,14 +110,14 @@ pub fn set_overlapped(task: &mut Task, i: u8, v: u32)
     crate::set_number_in(task, 60, 8, i as usize, v);
 }
 
-pub fn touched(task: &Task, i: u8) -> u32
-    ensures { λ r. ⌜ r ≡ at 0 (own (now (task .entry)) .blocks .touched) i ⌝ }
+pub fn slot(task: &Task, i: u8) -> u32
+    ensures { λ r. ⌜ r ≡ at 0 (own (now (task .entry)) .blocks .slots) i ⌝ }
 {
     crate::number_in(task, 68, 16, i as usize)
 }
 
-pub fn set_touched(task: &mut Task, i: u8, v: u32)
-    ensures { λ r. ⌜ own (now (task .exit)) ≡ setTouched (own (now (task .entry))) i v ⌝ }
+pub fn set_slot(task: &mut Task, i: u8, v: u32)
+    ensures { λ r. ⌜ own (now (task .exit)) ≡ setSlot (own (now (task .entry))) i v ⌝ }
 {
     crate::set_number_in(task, 68, 16, i as usize, v);
 }
@@ -149,4 +150,16 @@ pub fn counts(task: &Task) -> &[u32]
     ensures { λ r. ⌜ (now r ≡ own (now (task .entry)) .counts) × (length (now r) ≡ 8) ⌝ }
 {
     crate::part_in(task, 100, 8)
+}
+
+pub fn touched(task: &Task) -> u16
+    ensures { λ r. ⌜ r ≡ own (now (task .entry)) .blocks .touched ⌝ }
+{
+    (crate::number_in(task, 108, 1, 0) % 65536) as u16
+}
+
+pub fn set_touched(task: &mut Task, v: u16)
+    ensures { λ r. ⌜ own (now (task .exit)) ≡ setTouched (own (now (task .entry))) v ⌝ }
+{
+    crate::set_number_in(task, 108, 1, 0, v as u32);
 }

@@ -42,7 +42,7 @@ outsideTick m t p j (O.Read r w) = onTask m (readBy t j r w (afterReading m w Lo
 outsideTick m t p j (O.Pair w o n) =
     left (afterDone j (nextOf (j .pairs))) m (entered t (j .pairs) w (at 0 (t .registers) o) (at 0 (t .registers) n))
 outsideTick m t p j (O.Swap r) = swapStarted t j r (afterStart m p)
-outsideTick m t p j O.Begin = left (jobAt (P.Transaction Between) (nextLine j) 0) m (clearing 16 (keeping 8 t))
+outsideTick m t p j O.Begin = left (jobAt (P.Transaction Between) (nextLine j) 0) m (clearing (keeping 8 t))
 
 -- outside a transaction; the sheet check lets none of inside stand there
 unfoldable pub plainTick : Shared → Own → ℕ → Job → BodyCommand → Left Job

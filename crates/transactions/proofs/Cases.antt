@@ -5,10 +5,12 @@ use mathlib.Core.Bool.{true, false}
 use mathlib.Core.List.{List, [], _∷_}
 use lib.ListN.{replicate}
 use Rattle.model.specs.Lists.{at, replace}
+use Rattle.model.specs.Transaction.{touchedCount, takenBack}
 use Rattle.state.specs.State.{Entries, Blocks, Own}
+use Rattle.state.specs.Held.{blocksFrom, blocksOf}
 use Rattle.exchanges.specs.Places.{Noted, noted}
 use Rattle.jobs.specs.Jobs.{job, counted, copied}
-use Rattle.transactions.specs.Blocks.{isSpent, newBank, takenOne, takenTo, zeroed}
+use Rattle.transactions.specs.Blocks.{isSpent, newBank, touchedFrom}
 use Rattle.transactions.specs.Accesses.{losesAttempt, checkedBy, againRead}
 use Rattle.transactions.specs.Commits.{committedBy}
 use Rattle.commands.specs.declared.Access.the-variants.{Get}
@@ -19,9 +21,9 @@ use Rattle.jobs.specs.declared.Inner.the-variants.{Between, Committing}
 use Rattle.jobs.specs.declared.Phase.the-variants.{Plain, Transaction}
 use Rattle.jobs.specs.declared.Job.{Job}
 
--- block 2 was PUT into copy slot 1 (touched 3): version 4 in store 9; block 0 was only read (touched 1)
+-- block 2 was PUT into copy slot 1: version 4 in store 9; block 0 was only read; of block 1, not touched, stands what was there before
 abbrev blocks : Blocks
-blocks = record { touched = 1 ∷ 0 ∷ 3 ∷ []; remembered = 775 ∷ 0 ∷ 1033 ∷ [] }
+blocks = record { touched = 5; slots = 0 ∷ 1 ∷ 2 ∷ []; remembered = 775 ∷ 2825 ∷ 1033 ∷ [] }
 
 abbrev record-of : List ℕ → List ℕ → Blocks → List ℕ → Own
 record-of registers copies x counts =
@@ -38,14 +40,23 @@ abbrev committing : Job
 committing = job (Transaction (Committing Start)) 0 6 3 2 1
 
 -- the slot of the block that was PUT takes its old store, whatever the block's number
-takes-back : takenTo blocks 3 (20 ∷ 21 ∷ 22 ∷ 23 ∷ []) ≡ 20 ∷ 9 ∷ 22 ∷ 23 ∷ []
-unfolding takenTo takenOne at replace
+takes-back : takenBack (20 ∷ 21 ∷ 22 ∷ 23 ∷ []) (blocksOf blocks) ≡ 20 ∷ 9 ∷ 22 ∷ 23 ∷ []
+unfolding takenBack blocksFrom at replace
 takes-back = refl
+
+-- two blocks are touched, 0 and 2, and none is spent; in a mask with all but block 3 the others come by rising number
+touches-two : touchedCount (blocksOf blocks) ≡ 2
+unfolding touchedCount blocksFrom at
+touches-two = refl
+
+touches-rising : touchedFrom 16 65527 0 ≡ 0 ∷ 1 ∷ 2 ∷ 4 ∷ 5 ∷ 6 ∷ 7 ∷ 8 ∷ 9 ∷ 10 ∷ 11 ∷ 12 ∷ 13 ∷ 14 ∷ 15 ∷ []
+unfolding touchedFrom
+touches-rising = refl
 
 -- a yes: the command is done, and no attempt was lost
 says-yes : committedBy (record-of [] (20 ∷ 21 ∷ 22 ∷ 23 ∷ []) blocks (0 ∷ 0 ∷ 0 ∷ 0 ∷ [])) committing (Ends true)
     ≡ noted (job Plain 0 7 7 0 0) (record-of [] (20 ∷ 9 ∷ 22 ∷ 23 ∷ []) blocks (0 ∷ 0 ∷ 0 ∷ 0 ∷ []))
-unfolding committedBy takenTo takenOne at replace
+unfolding committedBy takenBack blocksFrom at replace
 says-yes = refl
 
 -- an attempt, and the same lost: one more counted, registers as kept, nothing touched, next the command after BEGIN
@@ -55,29 +66,29 @@ attempt = record-of (1 ∷ 2 ∷ 3 ∷ 4 ∷ 5 ∷ 6 ∷ 7 ∷ 8 ∷ []) (20 ∷
 abbrev attempt-lost : Noted Job
 attempt-lost =
     noted (job (Transaction Between) 0 3 3 0 0)
-    (record-of (replicate 8 7) (20 ∷ []) (record { touched = 0 ∷ 0 ∷ 0 ∷ []; remembered = 775 ∷ 0 ∷ 1033 ∷ [] }) (0 ∷ 0 ∷ 5 ∷ 0 ∷ []))
+    (record-of (replicate 8 7) (20 ∷ []) (record { touched = 0; slots = 0 ∷ 1 ∷ 2 ∷ []; remembered = 775 ∷ 2825 ∷ 1033 ∷ [] }) (0 ∷ 0 ∷ 5 ∷ 0 ∷ []))
 
 -- a no
 says-no : committedBy attempt committing (Ends false) ≡ attempt-lost
-unfolding committedBy losesAttempt counted copied zeroed at replace
+unfolding committedBy losesAttempt counted copied at replace
 says-no = refl
 
 -- the bank word of a block that was PUT: one version more, in the copy's store; of one that was only read: itself
-raises-version : newBank (record-of [] (20 ∷ 21 ∷ []) blocks []) 3 1033 ≡ 1301
+raises-version : newBank (record-of [] (20 ∷ 21 ∷ []) blocks []) 2 1033 ≡ 1301
 unfolding at
 raises-version = refl
 
-leaves-version : newBank (record-of [] (20 ∷ 21 ∷ []) blocks []) 1 775 ≡ 775
+leaves-version : newBank (record-of [] (20 ∷ 21 ∷ []) blocks []) 0 775 ≡ 775
 leaves-version = refl
 
 -- the last version is spent, the one before it is not, and what was only read never is
-spends-last : isSpent 2 4294967049 ≡ true
+spends-last : isSpent 1 4294967049 ≡ true
 spends-last = refl
 
-spends-not : isSpent 2 4294966793 ≡ false
+spends-not : isSpent 1 4294966793 ≡ false
 spends-not = refl
 
-spends-no-read : isSpent 1 4294967049 ≡ false
+spends-no-read : isSpent 0 4294967049 ≡ false
 spends-no-read = refl
 
 -- GET reads the bank word again: the same version in another store is not stale
@@ -88,5 +99,5 @@ again-same = refl
 
 -- another version is stale
 again-stale : againRead attempt committing (Get 1 2 0) 50 (Gives 1300) ≡ attempt-lost
-unfolding againRead losesAttempt counted copied zeroed at replace
+unfolding againRead losesAttempt counted copied at replace
 again-stale = refl

@@ -1,3 +1,4 @@
+pub mod Mask
 pub mod Walks
 pub mod Gathers
 pub mod Cases

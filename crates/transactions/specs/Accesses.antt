@@ -1,15 +1,16 @@
 -- What a tick of GET or PUT leaves.
 use Prim.Native.Nat.{ℕ, _+_, _*_, _-_, _/_, _%_}
 use mathlib.Core.Bool.{Bool, true, false}
-use lib.Dec.{eqb, ltb}
+use lib.Dec.{eqb}
 use Rattle.model.specs.Lists.{at}
 use Rattle.commands.specs.declared.Access.{Access}
 use Rattle.commands.specs.declared.Access.the-variants.{Get, Put}
-use Rattle.state.specs.State.{Shared, Own, setValue, setRegister, setTouched, setRemembered}
+use Rattle.state.specs.State.{Shared, Own, setValue, setRegister, setSlot}
+use Rattle.state.specs.Held.{touchedIn}
 use Rattle.exchanges.specs.Places.{if, nextOf, Went, went, Noted, noted, Left, left}
 use Rattle.exchanges.specs.Reading.{afterReading}
 use Rattle.jobs.specs.Jobs.{job, jobAt, inPhase, nextLine, lost, counted, restoring}
-use Rattle.transactions.specs.Blocks.{bankOf, namedBlock, touchedAt, rememberedAt, clearing}
+use Rattle.transactions.specs.Blocks.{bankOf, namedBlock, slotAt, rememberedAt, touching, clearing}
 use Rattle.exchanges.specs.declared.read.Reading.the-variants.{Load}
 use Rattle.exchanges.specs.declared.read.Read.{Read}
 use Rattle.exchanges.specs.declared.read.Read.the-variants.{Reads, Gives}
@@ -27,11 +28,11 @@ goesOn j = job (Transaction Between) (j .value) (nextLine j) (j .begin) 0 (j .us
 
 unfoldable pub firstRead : Own → Job → Access → Read → Noted Job
 firstRead t j a (Reads s) = noted (inner j (First a s)) t
-firstRead t j a (Gives v) = noted (inner j Between) (setRemembered (setTouched t (namedBlock a) 1) (namedBlock a) v)
+firstRead t j a (Gives v) = noted (inner j Between) (touching (namedBlock a) v t)
 
 -- the store of a touched block: the own copy if PUT before
 abbrev pub storeFor : Own → ℕ → ℕ
-storeFor t b = if (ltb (touchedAt t b) 2) (rememberedAt t b % 256) (at 0 (t .copies) (touchedAt t b - 2))
+storeFor t b = if (eqb (slotAt t b) 0) (rememberedAt t b % 256) (at 0 (t .copies) (slotAt t b - 1))
 
 unfoldable pub gotBy : Shared → Own → Job → Access → ℕ → ℕ → Job
 gotBy m t j a b o = inner j (Again a (at 0 (m .stores) (8 * storeFor t b + o)) Load)
@@ -55,26 +56,25 @@ onTask m w = left (w .next) m (w .task)
 abbrev pub onMemory : Own → Went Job → Left Job
 onMemory t w = left (w .next) (w .memory) t
 
--- by: the block is only remembered
-abbrev pub touchedTick : Bool → Shared → Own → Job → Access → Left Job
-touchedTick read? m t j (Get r b o) = left (gotBy m t j (Get r b o) b o) m t
-touchedTick true m t j (Put b o r) = onMemory t (afterCopy m t j (Put b o r) 0)
-touchedTick false m t j (Put b o r) = onMemory t (afterPut m t j b o r)
+-- a GET or a PUT of a touched block; PUT copies it first
+abbrev pub touchedTick : Shared → Own → Job → Access → Left Job
+touchedTick m t j (Get r b o) = left (gotBy m t j (Get r b o) b o) m t
+touchedTick m t j (Put b o r) = onMemory t (if (eqb (slotAt t b) 0) (afterCopy m t j (Put b o r) 0) (afterPut m t j b o r))
 
 unfoldable pub accessTick : Shared → Own → Job → Access → Left Job
 accessTick m t j a =
-    if (eqb (touchedAt t (namedBlock a)) 0) (onTask m (firstRead t j a (afterReading m (bankOf (namedBlock a)) Load)))
-    (touchedTick (eqb (touchedAt t (namedBlock a)) 1) m t j a)
+    if (touchedIn (t .blocks .touched) (namedBlock a % 16)) (touchedTick m t j a)
+    (onTask m (firstRead t j a (afterReading m (bankOf (namedBlock a)) Load)))
 
 -- an attempt is lost and counted: registers as kept, nothing touched, next the command after BEGIN
 unfoldable pub losesAttempt : Own → Job → Noted Job
-losesAttempt t j = noted (jobAt (Transaction Between) (j .begin) 0) (clearing 16 (restoring 8 (counted t lost)))
+losesAttempt t j = noted (jobAt (Transaction Between) (j .begin) 0) (clearing (restoring 8 (counted t lost)))
 
 -- the version read again is the remembered one
 unfoldable pub checkedBy : Own → Job → Access → ℕ → Noted Job
 checkedBy t j (Get r b o) v = noted (goesOn j) (setRegister t r v)
 checkedBy t j (Put b o r) v =
-    noted (job (Transaction Between) (j .value) (j .at) (j .begin) (j .pairs) (nextOf (j .used))) (setTouched t b (j .used + 2))
+    noted (job (Transaction Between) (j .value) (j .at) (j .begin) (j .pairs) (nextOf (j .used))) (setSlot t b (j .used + 1))
 
 unfoldable pub againRead : Own → Job → Access → ℕ → Read → Noted Job
 againRead t j a v (Reads s) = noted (inner j (Again a v s)) t

@@ -1,14 +1,17 @@
--- The blocks of a transaction in the task's record: touched is 0 for not, 1 for remembered, 2 + k for copied into slot k.
-use Prim.Native.Nat.{ℕ, zero, suc, _+_, _*_, _-_, _/_, _%_}
+-- The blocks of a transaction in the task's record: touched, gathered, and the old stores taken back.
+use Prim.Native.Nat.{ℕ, zero, suc, _+_, _*_, _-_, _/_, _%_, _^_}
 use mathlib.Core.Bool.{Bool, true, false}
-use mathlib.Core.List.{List}
-use lib.Dec.{eqb, ltb}
+use mathlib.Core.List.{List, [], _∷_}
+use lib.Bits.{bitOr}
+use lib.Dec.{eqb}
 use Rattle.model.specs.Ceilings.{lastVersion}
 use Rattle.model.specs.Lists.{at, replace}
+use Rattle.model.specs.Transaction.{takenBack}
 use Rattle.commands.specs.declared.Access.{Access}
 use Rattle.commands.specs.declared.Access.the-variants.{Get, Put}
-use Rattle.state.specs.State.{Entries, Blocks, Own, withCopies, withBlocks}
-use Rattle.exchanges.specs.Places.{if, nextOf}
+use Rattle.state.specs.State.{Entries, Blocks, Own, withCopies, setTouched, setSlot, setRemembered}
+use Rattle.state.specs.Held.{touchedIn, blocksOf}
+use Rattle.exchanges.specs.Places.{if}
 use Rattle.jobs.specs.Jobs.{enteredIn}
 
 -- the cell of a block's bank word
@@ -19,41 +22,36 @@ abbrev pub namedBlock : Access → ℕ
 namedBlock (Get r b o) = b
 namedBlock (Put b o r) = b
 
-abbrev pub touchedAt : Own → ℕ → ℕ
-touchedAt t b = at 0 (t .blocks .touched) b
+abbrev pub slotAt : Own → ℕ → ℕ
+slotAt t b = at 0 (t .blocks .slots) b
 
 abbrev pub rememberedAt : Own → ℕ → ℕ
 rememberedAt t b = at 0 (t .blocks .remembered) b
 
-abbrev touchedWith : Own → List ℕ → Own
-touchedWith t l = withBlocks t (record { touched = l; remembered = t .blocks .remembered })
+-- block b is touched: not copied yet, that bank word remembered
+abbrev pub touching : ℕ → ℕ → Own → Own
+touching b bank t = setTouched (setRemembered (setSlot t b 0) b bank) (bitOr (t .blocks .touched) (2 ^ (b % 16)))
 
--- the first n of a list are 0
-unfoldable pub zeroed : ℕ → List ℕ → List ℕ
-zeroed zero l = l
-zeroed (suc n) l = replace (zeroed n l) n 0
+-- no block is touched
+abbrev pub clearing : Own → Own
+clearing t = setTouched t 0
 
--- the first n blocks untouched
-abbrev pub clearing : ℕ → Own → Own
-clearing n t = touchedWith t (zeroed n (t .blocks .touched))
+-- the touched ones of n blocks from number b on, by rising number
+unfoldable pub touchedFrom : ℕ → ℕ → ℕ → List ℕ
+touchedFrom zero mask b = []
+touchedFrom (suc n) mask b = if (touchedIn mask b) (b ∷ touchedFrom n mask (suc b)) (touchedFrom n mask (suc b))
 
--- none of n blocks from number b on is touched
-unfoldable pub untouchedFrom : ℕ → Own → ℕ → Bool
-untouchedFrom zero t b = true
-untouchedFrom (suc n) t b = if (eqb (touchedAt t b) 0) (untouchedFrom n t (suc b)) false
+abbrev pub touchedBlocks : Own → List ℕ
+touchedBlocks t = touchedFrom 16 (t .blocks .touched) 0
 
 -- a PUT block at the last version
 abbrev pub isSpent : ℕ → ℕ → Bool
-isSpent touched bank = if (ltb touched 2) false (eqb (bank / 256) lastVersion)
-
-unfoldable pub spentFrom : ℕ → Own → ℕ → Bool
-spentFrom zero t b = false
-spentFrom (suc n) t b = if (isSpent (touchedAt t b) (rememberedAt t b)) true (spentFrom n t (suc b))
+isSpent slot bank = if (eqb slot 0) false (eqb (bank / 256) lastVersion)
 
 -- what the bank word of a touched block becomes
 abbrev pub newBank : Own → ℕ → ℕ → ℕ
-newBank t touched bank =
-    if (ltb touched 2) bank (((bank / 256 * 256 + 256) % 4294967296 + at 0 (t .copies) (touched - 2)) % 4294967296)
+newBank t slot bank =
+    if (eqb slot 0) bank (((bank / 256 * 256 + 256) % 4294967296 + at 0 (t .copies) (slot - 1)) % 4294967296)
 
 -- the entries so far, and how many
 pub record Gathering : Type 0 where
@@ -63,30 +61,30 @@ pub record Gathering : Type 0 where
 abbrev pub gathering : ℕ → Entries → Gathering
 gathering n e = record { count = n; entries = e }
 
--- block b of the task, if touched, is one more entry
+-- block b of the task is one more entry
 unfoldable pub gatheredOne : Own → ℕ → Gathering → Gathering
 gatheredOne t b g =
-    if (eqb (touchedAt t b) 0) g
-    (gathering (nextOf (g .count))
-    (enteredIn (g .entries) (g .count) (bankOf b) (rememberedAt t b) (newBank t (touchedAt t b) (rememberedAt t b))))
+    gathering (g .count + 1)
+    (enteredIn (g .entries) (g .count) (bankOf b) (rememberedAt t b) (newBank t (slotAt t b) (rememberedAt t b)))
 
--- the blocks below k gathered
-unfoldable pub gatheredTo : Own → ℕ → Gathering → Gathering
-gatheredTo t zero g = g
-gatheredTo t (suc k) g = gatheredOne t k (gatheredTo t k g)
+-- those blocks, one after another
+unfoldable pub gatheredOver : Own → List ℕ → Gathering → Gathering
+unfolding gatheredOne
+gatheredOver t [] g = g
+gatheredOver t (b ∷ l) g = gatheredOver t l (gatheredOne t b g)
+
+-- all that are touched
+abbrev pub gathers : Own → Gathering
+gathers t = gatheredOver t (touchedBlocks t) (gathering 0 (t .entries))
 
 -- the copy slot of block b, if PUT, takes the block's old store
 unfoldable pub takenOne : Blocks → ℕ → List ℕ → List ℕ
 takenOne x b copies =
-    if (ltb (at 0 (x .touched) b) 2) copies (replace copies (at 0 (x .touched) b - 2) (at 0 (x .remembered) b % 256))
+    if (eqb (at 0 (x .slots) b) 0) copies (replace copies (at 0 (x .slots) b - 1) (at 0 (x .remembered) b % 256))
 
 abbrev pub takingOne : ℕ → Own → Own
 takingOne b t = withCopies t (takenOne (t .blocks) b (t .copies))
 
--- the same for the blocks below k
-unfoldable pub takenTo : Blocks → ℕ → List ℕ → List ℕ
-takenTo x zero copies = copies
-takenTo x (suc k) copies = takenOne x k (takenTo x k copies)
-
-abbrev pub takingBack : ℕ → Own → Own
-takingBack k t = withCopies t (takenTo (t .blocks) k (t .copies))
+-- the same for all blocks
+abbrev pub takingBack : Own → Own
+takingBack t = withCopies t (takenBack (t .copies) (blocksOf (t .blocks)))

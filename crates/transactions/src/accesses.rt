@@ -1,9 +1,11 @@
 // GET and PUT with all their ticks, by what the block is so far, and what a lost attempt leaves.
 ghost use mathlib.Core.Path.{_≡_};
+ghost use Prim.Native.Nat.{_%_, _^_};
 ghost use Rattle.state.specs.State.{shared, own};
+ghost use Rattle.state.specs.Held.{touchedIn};
 ghost use Rattle.exchanges.specs.Places.{went, noted, left};
 ghost use Rattle.jobs.specs.Jobs.{inPhase};
-ghost use Rattle.transactions.specs.Blocks.{bankOf, namedBlock, clearing};
+ghost use Rattle.transactions.specs.Blocks.{bankOf, namedBlock, touching, clearing};
 ghost use Rattle.transactions.specs.Accesses.{goesOn, firstRead, storeFor, gotBy, afterCopy, afterPut, accessTick, losesAttempt, checkedBy, againRead};
 use commands::Access;
 use commands::ceilings::SheetCeilings;
@@ -66,15 +68,34 @@ pub fn goes_on(job: Job) -> Job
     }
 }
 
+// Block b's bit in the mask of touched blocks.
+fn bit(b: u8) -> u16
+    ensures { λ r. ⌜ r ≡ 2 ^ (b % 16) ⌝ }
+{
+    1 << (b % SheetCeilings::BLOCKS)
+}
+
+fn is_touched(mask: u16, b: u8) -> bool
+    ensures { λ r. ⌜ r ≡ touchedIn mask (b % 16) ⌝ }
+{
+    (mask >> (b % SheetCeilings::BLOCKS)) % 2 == 1
+}
+
+// Block b is touched: not copied yet, that bank word remembered.
+fn touch(task: &mut Task, b: u8, bank: u32)
+    ensures { λ r. ⌜ own (now (task .exit)) ≡ touching b bank (own (now (task .entry))) ⌝ }
+{
+    task::set_slot(&mut *task, b, 0);
+    task::set_remembered(&mut *task, b, bank);
+    let mask = task::touched(&*task) | bit(b);
+    task::set_touched(&mut *task, mask);
+}
+
 // No block is touched.
 pub fn clear(task: &mut Task)
-    ensures { λ r. ⌜ own (now (task .exit)) ≡ clearing 16 (own (now (task .entry))) ⌝ }
+    ensures { λ r. ⌜ own (now (task .exit)) ≡ clearing (own (now (task .entry))) ⌝ }
 {
-    let mut b: u8 = 0;
-    while b < SheetCeilings::BLOCKS {
-        task::set_touched(&mut *task, b, 0);
-        b += 1;
-    }
+    task::set_touched(&mut *task, 0);
 }
 
 pub fn first_read(task: &mut Task, job: Job, access: Access, read: Read) -> Job
@@ -85,9 +106,7 @@ pub fn first_read(task: &mut Task, job: Job, access: Access, read: Read) -> Job
             return inner(job, Inner::First(access, step));
         }
         Read::Gives(value) => {
-            let b = block(access);
-            task::set_touched(&mut *task, b, 1);
-            task::set_remembered(&mut *task, b, value);
+            touch(&mut *task, block(access), value);
             return inner(job, Inner::Between);
         }
     }
@@ -97,11 +116,11 @@ pub fn first_read(task: &mut Task, job: Job, access: Access, read: Read) -> Job
 fn store_for(task: &Task, block: u8) -> u32
     ensures { λ r. ⌜ r ≡ storeFor (own (now (task .entry))) block ⌝ }
 {
-    let touched = task::touched(task, block);
-    if touched < 2 {
+    let slot = task::slot(task, block);
+    if slot == 0 {
         return task::remembered(task, block) % 256;
     }
-    task::copy(task, (touched - 2) as usize)
+    task::copy(task, (slot - 1) as usize)
 }
 
 fn get(memory: &Memory, task: &Task, job: Job, access: Access, block: u8, offset: u8) -> Job
@@ -143,30 +162,29 @@ pub fn access(memory: &mut Memory, task: &mut Task, job: Job, access: Access) ->
     ensures { λ r. ⌜ left r (shared (now (memory .exit))) (own (now (task .exit))) ≡ accessTick (shared (now (memory .entry))) (own (now (task .entry))) job access ⌝ }
 {
     let b = block(access);
-    let touched = task::touched(&*task, b);
-    if touched == 0 {
-        let read = read::read_tick(&*memory, bank(b), Reading::Load);
-        return first_read(&mut *task, job, access, read);
-    }
-    match access {
-        Access::Get {
-            register: _,
-            block,
-            offset,
-        } => {
-            return get(&*memory, &*task, job, access, block, offset);
-        }
-        Access::Put {
-            block,
-            offset,
-            register,
-        } => {
-            if touched == 1 {
-                return copy(&mut *memory, &*task, job, access, 0);
+    if is_touched(task::touched(&*task), b) {
+        match access {
+            Access::Get {
+                register: _,
+                block,
+                offset,
+            } => {
+                return get(&*memory, &*task, job, access, block, offset);
             }
-            return put(&mut *memory, &*task, job, block, offset, register);
+            Access::Put {
+                block,
+                offset,
+                register,
+            } => {
+                if task::slot(&*task, block) == 0 {
+                    return copy(&mut *memory, &*task, job, access, 0);
+                }
+                return put(&mut *memory, &*task, job, block, offset, register);
+            }
         }
     }
+    let read = read::read_tick(&*memory, bank(b), Reading::Load);
+    first_read(&mut *task, job, access, read)
 }
 
 // An attempt is lost and counted: registers as kept, nothing touched, next the command after BEGIN.
@@ -197,7 +215,7 @@ fn check(task: &mut Task, job: Job, access: Access, value: u32) -> Job
             offset: _,
             register: _,
         } => {
-            task::set_touched(&mut *task, block, (job.used as u32) + 2);
+            task::set_slot(&mut *task, block, (job.used as u32) + 1);
             return Job {
                 phase: Phase::Transaction(Inner::Between),
                 value: job.value,

@@ -1,10 +1,11 @@
-// COMMIT: spent, the touched bank words gathered, and what its exchange's answer leaves: old stores taken back, or a lost attempt.
+// COMMIT: the touched bank words gathered, spent, and what its exchange's answer leaves: old stores taken back, or a lost attempt.
 ghost use mathlib.Core.Path.{_≡_};
-ghost use Prim.Native.Nat.{_<_};
-ghost use Rattle.state.specs.State.{own, withEntries};
+ghost use mathlib.Core.Bool.{_||_};
+ghost use Rattle.state.specs.State.{own};
 ghost use Rattle.exchanges.specs.Places.{noted};
-ghost use Rattle.transactions.specs.Blocks.{untouchedFrom, isSpent, spentFrom, newBank, gathering, gatheredOne, gatheredTo, takingOne, takingBack};
-ghost use Rattle.transactions.specs.Commits.{gatheredIn, commitBy, committedBy};
+ghost use Rattle.jobs.specs.Jobs.{entered};
+ghost use Rattle.transactions.specs.Blocks.{bankOf, slotAt, rememberedAt, isSpent, newBank, takingOne, takingBack};
+ghost use Rattle.transactions.specs.Commits.{Gathers, commitBy, committedBy};
 use crate::accesses;
 use commands::ceilings::SheetCeilings;
 use exchanges::exchange::Exchanged;
@@ -16,64 +17,34 @@ use jobs::Phase;
 use state::Task;
 use state::task;
 
-fn untouched(task: &Task) -> bool
-    ensures { λ r. ⌜ r ≡ untouchedFrom 16 (own (now (task .entry))) 0 ⌝ }
-{
-    let mut b: u8 = 0;
-    while b < SheetCeilings::BLOCKS {
-        if task::touched(task, b) != 0 {
-            return false;
-        }
-        b += 1;
-    }
-    true
-}
-
 // A PUT block at the last version.
-fn is_spent(touched: u32, bank: u32) -> bool
-    ensures { λ r. ⌜ r ≡ isSpent touched bank ⌝ }
+fn is_spent(slot: u32, bank: u32) -> bool
+    ensures { λ r. ⌜ r ≡ isSpent slot bank ⌝ }
 {
-    if touched < 2 {
+    if slot == 0 {
         return false;
     }
     bank / 256 == SheetCeilings::LAST_VERSION
 }
 
-fn spent(task: &Task) -> bool
-    ensures { λ r. ⌜ r ≡ spentFrom 16 (own (now (task .entry))) 0 ⌝ }
-{
-    let mut b: u8 = 0;
-    while b < SheetCeilings::BLOCKS {
-        if is_spent(task::touched(task, b), task::remembered(task, b)) {
-            return true;
-        }
-        b += 1;
-    }
-    false
-}
-
 // What the bank word of a touched block becomes: itself where only read, new store and version + 1 where PUT.
-fn new_bank(task: &Task, touched: u32, bank: u32) -> u32
-    ensures { λ r. ⌜ r ≡ newBank (own (now (task .entry))) touched bank ⌝ }
+fn new_bank(task: &Task, slot: u32, bank: u32) -> u32
+    ensures { λ r. ⌜ r ≡ newBank (own (now (task .entry))) slot bank ⌝ }
 {
-    if touched < 2 {
+    if slot == 0 {
         return bank;
     }
-    let store = task::copy(task, (touched - 2) as usize);
+    let store = task::copy(task, (slot - 1) as usize);
     std::num::wrapping_add_u32(std::num::wrapping_add_u32((bank / 256) * 256, 256), store)
 }
 
-// Block b, if touched, is entry n; the number of entries then.
-fn gather_one(task: &mut Task, b: u8, n: u8) -> u8
-    requires { ⌜ b < 16 ⌝ }
-    ensures { λ r. ⌜ noted r (own (now (task .exit))) ≡ gatheredIn (own (now (task .entry))) (gatheredOne (own (now (task .entry))) b (gathering n (own (now (task .entry)) .entries))) ⌝ }
+// Entry n is the bank word of block b; whether that block is spent.
+fn gather_one(task: &mut Task, b: u8, n: u8) -> bool
+    ensures { λ r. ⌜ (r ≡ isSpent (slotAt (own (now (task .entry))) b) (rememberedAt (own (now (task .entry))) b)) × (own (now (task .exit)) ≡ entered (own (now (task .entry))) n (bankOf b) (rememberedAt (own (now (task .entry))) b) (newBank (own (now (task .entry))) (slotAt (own (now (task .entry))) b) (rememberedAt (own (now (task .entry))) b))) ⌝ }
 {
-    let touched = task::touched(&*task, b);
-    if touched == 0 {
-        return n;
-    }
+    let slot = task::slot(&*task, b);
     let bank = task::remembered(&*task, b);
-    let new = new_bank(&*task, touched, bank);
+    let new = new_bank(&*task, slot, bank);
     jobs::enter(
         &mut *task,
         n,
@@ -81,39 +52,58 @@ fn gather_one(task: &mut Task, b: u8, n: u8) -> u8
         bank,
         new,
     );
-    places::next(n)
+    is_spent(slot, bank)
 }
 
-// The touched bank words by rising number, every block number tried; how many.
-fn gather(task: &mut Task) -> u8
-    ensures { λ r. ⌜ noted r (own (now (task .exit))) ≡ gatheredIn (own (now (task .entry))) (gatheredTo (own (now (task .entry))) 16 (gathering 0 (own (now (task .entry)) .entries))) ⌝ }
+fn either(a: bool, b: bool) -> bool
+    ensures { λ r. ⌜ r ≡ (a || b) ⌝ }
 {
-    let mut n: u8 = 0;
-    let mut b: u8 = 0;
-    while b < SheetCeilings::BLOCKS {
-        n = gather_one(&mut *task, b, n);
-        b += 1;
+    if a {
+        return true;
     }
-    n
+    b
+}
+
+// How many passes gathered the entries, one each; whether a PUT block is at the last version.
+pub struct Gathered {
+    pub passes: u8,
+    pub spent: bool,
+}
+
+// The touched bank words by rising number, straight from one touched block to the next.
+fn gather(task: &mut Task) -> Gathered
+    ensures { λ r. ⌜ Gathers (own (now (task .entry))) r (own (now (task .exit))) ⌝ }
+{
+    let mut rest = task::touched(&*task) as u32;
+    let mut passes: u8 = 0;
+    let mut spent = false;
+    while rest != 0 {
+        let b = u32::trailing_zeros(rest) as u8;
+        let last = gather_one(&mut *task, b, passes);
+        spent = either(spent, last);
+        rest = rest & (rest - 1);
+        passes += 1;
+    }
+    Gathered { passes, spent }
 }
 
 pub fn commit(task: &mut Task, job: Job) -> Job
     ensures { λ r. ⌜ noted r (own (now (task .exit))) ≡ commitBy (own (now (task .entry))) job ⌝ }
 {
-    if untouched(&*task) {
+    if task::touched(&*task) == 0 {
         return jobs::done(job, 0);
     }
-    if spent(&*task) {
+    let gathered = gather(&mut *task);
+    if gathered.spent {
         jobs::count(&mut *task, jobs::SPENT);
         return jobs::job_at(Phase::Idle, job.at, 0);
     }
-    let n = gather(&mut *task);
     Job {
         phase: Phase::Transaction(Inner::Committing(Step::Start)),
         value: job.value,
         at: job.at,
         begin: job.begin,
-        pairs: n,
+        pairs: gathered.passes,
         used: job.used,
     }
 }
@@ -122,22 +112,23 @@ pub fn commit(task: &mut Task, job: Job) -> Job
 fn take_one(task: &mut Task, b: u8)
     ensures { λ r. ⌜ own (now (task .exit)) ≡ takingOne b (own (now (task .entry))) ⌝ }
 {
-    let touched = task::touched(&*task, b);
-    if touched < 2 {
+    let slot = task::slot(&*task, b);
+    if slot == 0 {
         return;
     }
     let store = task::remembered(&*task, b) % 256;
-    task::set_copy(&mut *task, (touched - 2) as usize, store);
+    task::set_copy(&mut *task, (slot - 1) as usize, store);
 }
 
 // The k-th used copy slot takes the replaced block's old store.
 fn take_back(task: &mut Task)
-    ensures { λ r. ⌜ own (now (task .exit)) ≡ takingBack 16 (own (now (task .entry))) ⌝ }
+    ensures { λ r. ⌜ own (now (task .exit)) ≡ takingBack (own (now (task .entry))) ⌝ }
 {
-    let mut b: u8 = 0;
-    while b < SheetCeilings::BLOCKS {
+    let mut rest = task::touched(&*task) as u32;
+    while rest != 0 {
+        let b = u32::trailing_zeros(rest) as u8;
         take_one(&mut *task, b);
-        b += 1;
+        rest = rest & (rest - 1);
     }
 }
 

@@ -2,7 +2,7 @@
 use Prim.Native.Nat.{_≤_, _-_}
 use native.Mathlib.Numerals.{add-one}
 use Rattle.state.specs.State.{own}
-use Rattle.transactions.specs.Blocks.{zeroed}
+use Rattle.jobs.specs.Jobs.{zeroed}
 use Rattle.arrivals.specs.Releases.{zeroing}
 use mathlib.Core.Path.{_≡_, refl}
 use native.Mathlib.Omega.{arith}

@@ -12,7 +12,7 @@ use Rattle.model.specs.Lists.{at, replace}
 use Rattle.model.specs.Fault.{among, Body}
 use Rattle.model.specs.Job.{Touched, untouched, remembered, copied}
 use Rattle.model.specs.Exchange.{Entry, entry}
-use Rattle.model.specs.Transaction.{bank, bankValue, versionOf, nothing?, gather}
+use Rattle.model.specs.Transaction.{bank, bankValue, versionOf, nothing?, touchedCount, gather}
 use Rattle.model.proofs.Lists.{same?, replace-same, replace-other, length-replace, at-default, impossible}
 use Rattle.model.proofs.Fit.Elements.{or-cases, or-left, or-right}
 use Rattle.model.proofs.Fit.Transaction.{countBy, count, touched?, copied?, BlocksFit}
@@ -203,10 +203,22 @@ module _ {blocks : ℕ} {b : Body} {ts : List Touched} {used : ℕ} (f : BlocksF
             (λ o. f .different p q u w k (rw r at h) (rw o at g)));
       }
 
+touched-counted : (ts : List Touched) → touchedCount ts ≡ count touched? ts
+unfolding touchedCount count
+touched-counted [] = refl
+touched-counted (untouched ∷ ts) = touched-counted ts
+touched-counted (remembered v ∷ ts) = ap suc (touched-counted ts)
+touched-counted (copied v k ∷ ts) = ap suc (touched-counted ts)
+
+-- no more are touched than were named
+pub touched-most : (ts : List Touched) (l : List ℕ) → ((n : ℕ) → touched? (at untouched ts n) ≡ true → among n l ≡ true)
+    → touchedCount ts ≤ length l
+touched-most ts l h = rw (touched-counted ts) (count-most touched? ts l h)
+
 -- THE ENTRIES THAT COMMIT GATHERS: one for each touched block, by rising number, for its bank word
 -- as many entries as touched blocks
-pub gather-size : (copies : List ℕ) (b : ℕ) (ts : List Touched) → length (gather copies b ts) ≡ count touched? ts
-unfolding gather count
+pub gather-size : (copies : List ℕ) (b : ℕ) (ts : List Touched) → length (gather copies b ts) ≡ touchedCount ts
+unfolding gather touchedCount
 gather-size copies b [] = refl
 gather-size copies b (untouched ∷ ts) = gather-size copies (suc b) ts
 gather-size copies b (remembered v ∷ ts) = ap suc (gather-size copies (suc b) ts)
@@ -265,7 +277,7 @@ gather-cells copies blocks b (t ∷ ts) h =
     go (remembered v) f c = let l = f refl in cells-join (entry (bank b) v v) refl (omega arith) c
     go (copied v k) f c = let l = f refl in cells-join (entry (bank b) v (bankValue (suc (versionOf v)) (at 0 copies k))) refl (omega arith) c
 
-pub gather-entries : {blocks : ℕ} {b : Body} {ts : List Touched} {used : ℕ} (copies : List ℕ) → BlocksFit blocks b ts used → count touched? ts ≤ 8
+pub gather-entries : {blocks : ℕ} {b : Body} {ts : List Touched} {used : ℕ} (copies : List ℕ) → BlocksFit blocks b ts used → touchedCount ts ≤ 8
     → EntriesFit 32 (32 + blocks) (gather copies 0 ts)
 gather-entries {blocks} {b} {ts} copies f most =
     let c = gather-cells copies blocks 0 ts (λ n e. let l = f .below n e in omega arith) in

@@ -13,9 +13,9 @@ use Rattle.model.specs.Job.{Touched, Transaction, Inner}
 use Rattle.model.specs.Transaction.{freshTransaction}
 use Rattle.model.proofs.Fit.Elements.{and-right, include-more, include-size}
 use Rattle.model.proofs.Fit.Body.{InsideFits, Faultless, CommandFits, command-fits}
-use Rattle.model.proofs.Fit.Transaction.{namedInside, touched?, copied?, namedBy, namedSoFar}
+use Rattle.model.proofs.Fit.Transaction.{namedInside, copied?, namedBy, namedSoFar}
 use Rattle.model.proofs.Fit.Transaction.{BlocksFit, InTransaction, BegunFit, InnerFit, TransactionFit}
-use Rattle.model.proofs.Fit.Blocks.{count-most, blocks-none, blocks-named}
+use Rattle.model.proofs.Fit.Blocks.{count-most, touched-most, blocks-none, blocks-named}
 use Rattle.model.proofs.Fit.Outside.{open-next}
 
 -- a transaction at work, whatever its inner step
@@ -138,7 +138,7 @@ transaction-fit {l = l} {x} f i =
       inside = f .inside;
       faultless = f .faultless;
       touched = f .touched;
-      most = omega (arith, count-most touched? (x .blocks) (namedSoFar l (f .known .body) .touched) (f .touched .touched), s .touched);
+      most = omega (arith, touched-most (x .blocks) (namedSoFar l (f .known .body) .touched) (f .touched .touched), s .touched);
       mostUsed = omega (arith, count-most copied? (x .blocks) (namedSoFar l (f .known .body) .puts) (f .touched .put), s .puts, f .touched .slots);
       inner = i;
     }

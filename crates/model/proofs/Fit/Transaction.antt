@@ -10,7 +10,7 @@ use Rattle.model.specs.Fault.{Body, Known, among}
 use Rattle.model.specs.Sheet.{named}
 use Rattle.model.specs.Exchange.{Entry, Exchange}
 use Rattle.model.specs.Job.{Touched, untouched, remembered, copied, Transaction, Inner, between, first, copying, again, committing}
-use Rattle.model.specs.Transaction.{blockOf, touchedOf, spent?, gather}
+use Rattle.model.specs.Transaction.{blockOf, touchedOf, touchedCount, spent?, gather}
 use Rattle.model.proofs.Fit.Body.{Faultless, Open}
 use Rattle.model.proofs.Fit.Exchange.{ExchangeFit}
 
@@ -143,6 +143,6 @@ pub record TransactionFit (words blocks : ℕ) (copies : List ℕ) (l : List Bod
   pub inside : InTransaction words blocks known
   pub faultless : Faultless known l
   pub touched : BlocksFit blocks (namedSoFar l (known .body)) (x .blocks) (x .used)
-  pub most : count touched? (x .blocks) ≤ 8
+  pub most : touchedCount (x .blocks) ≤ 8
   pub mostUsed : x .used ≤ 4
   pub inner : InnerFit blocks copies l x s

@@ -8,7 +8,7 @@ set-number-in-requires : tie.Need-set-number-in-requires
 set-number-in-requires c κs = search needs
 
 returns : tie.Need-returns
-returns c = rw (c .set-number-in .ensures) (touched-set _ _ _)
+returns c = rw (c .set-number-in .ensures) (touched-set _ _ (search needs) (search needs))
 
 pub set-touched-spec : {M : Type 1} → statement M
 set-touched-spec = tie.close (tie.spec set-number-in-requires returns)

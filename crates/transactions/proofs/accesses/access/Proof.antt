@@ -1,4 +1,7 @@
 -- `access` meets its contract.
+use Prim.Native.Nat.{ℕ, _%_}
+use mathlib.Core.Path.{sym, ap, _∙_}
+use Rattle.state.specs.Held.{touchedIn}
 use Rattle.transactions.specs.Accesses.{accessTick}
 use borrow.Author.Tests.{eq-eqb, ne-eqb}
 use borrow.Author.Needs.{needs}
@@ -11,6 +14,61 @@ block-requires c κs = search needs
 touched-requires : tie.Need-touched-requires
 touched-requires c κs = search needs
 
+is-touched-requires : tie.Need-is-touched-requires
+is-touched-requires c κs = search needs
+
+enum-known-access : tie.Need-enum-known-access
+enum-known-access c = search needs
+
+get-requires : tie.Need-get-requires
+get-requires c κs = search needs
+
+returns : tie.Need-returns
+unfolding accessTick
+returns c = rw (
+  ← c .before .before .before .before .before .before .before .before .before .before .block .ensures,
+  ap (λ (m : ℕ). touchedIn m (c .before .before .before .before .before .before .before .before .before .before .block .result % 16)) (sym (c .before .before .before .before .before .before .before .before .touched .ensures))
+      ∙ sym (c .before .before .before .before .before .before .before .is-touched .ensures) ∙ c .before .before .before .before .before .before .if1 .taken,
+  c .before .before .before .before .access .given .1,
+  ← c .get .ensures,
+)
+
+enum-known-access-2 : tie.Need-enum-known-access-2
+enum-known-access-2 c = search needs
+
+slot-requires : tie.Need-slot-requires
+slot-requires c κs = search needs
+
+copy-requires : tie.Need-copy-requires
+copy-requires c κs = search needs
+
+returns-2 : tie.Need-returns-2
+unfolding accessTick
+returns-2 c = rw (
+  ← c .before .before .before .before .before .before .before .before .before .before .before .before .before .block .ensures,
+  ap (λ (m : ℕ). touchedIn m (c .before .before .before .before .before .before .before .before .before .before .before .before .before .block .result % 16)) (sym (c .before .before .before .before .before .before .before .before .before .before .before .touched .ensures))
+      ∙ sym (c .before .before .before .before .before .before .before .before .before .before .is-touched .ensures) ∙ c .before .before .before .before .before .before .before .before .before .if1 .taken,
+  c .before .before .before .before .before .before .before .access2 .given .1,
+  ← c .before .before .before .before .slot .ensures,
+  eq-eqb _ _ (c .before .before .before .if2 .taken),
+  ← c .copy .ensures,
+)
+
+put-requires : tie.Need-put-requires
+put-requires c κs = search needs
+
+returns-3 : tie.Need-returns-3
+unfolding accessTick
+returns-3 c = rw (
+  ← c .before .before .before .before .before .before .before .before .before .before .before .before .before .block .ensures,
+  ap (λ (m : ℕ). touchedIn m (c .before .before .before .before .before .before .before .before .before .before .before .before .before .block .result % 16)) (sym (c .before .before .before .before .before .before .before .before .before .before .before .touched .ensures))
+      ∙ sym (c .before .before .before .before .before .before .before .before .before .before .is-touched .ensures) ∙ c .before .before .before .before .before .before .before .before .before .if1 .taken,
+  c .before .before .before .before .before .before .before .access2 .given .1,
+  ← c .before .before .before .before .slot .ensures,
+  ne-eqb _ _ (c .before .before .before .if2 .left),
+  ← c .put .ensures,
+)
+
 bank-requires : tie.Need-bank-requires
 bank-requires c κs = search needs
 
@@ -20,69 +78,18 @@ read-tick-requires c κs = search needs
 first-read-requires : tie.Need-first-read-requires
 first-read-requires c κs = search needs
 
-returns : tie.Need-returns
+returns-4 : tie.Need-returns-4
 unfolding accessTick
-returns c = rw (
-  ← c .before .before .before .before .before .before .before .before .block .ensures,
-  ← c .before .before .before .before .before .before .touched .ensures,
-  eq-eqb _ _
-      (c .before .before .before .before .before .if1 .taken),
+returns-4 c = rw (
+  ← c .before .before .before .before .before .before .before .before .before .block .ensures,
+  ap (λ (m : ℕ). touchedIn m (c .before .before .before .before .before .before .before .before .before .block .result % 16)) (sym (c .before .before .before .before .before .before .before .touched .ensures))
+      ∙ sym (c .before .before .before .before .before .before .is-touched .ensures) ∙ c .before .before .before .before .before .if1 .left,
   ← c .before .before .before .bank .ensures,
   ← c .before .before .read-tick .ensures,
   ← c .first-read .ensures,
 )
 
-enum-known-access : tie.Need-enum-known-access
-enum-known-access c = search needs
-
-get-requires : tie.Need-get-requires
-get-requires c κs = search needs
-
-returns-2 : tie.Need-returns-2
-unfolding accessTick
-returns-2 c = rw (
-  ← c .before .before .before .before .before .before .before .before .before .block .ensures,
-  ← c .before .before .before .before .before .before .before .touched .ensures,
-  ne-eqb _ _
-      (c .before .before .before .before .before .before .if1 .left),
-  c .before .before .before .before .access .given .1,
-  ← c .get .ensures,
-)
-
-enum-known-access-2 : tie.Need-enum-known-access-2
-enum-known-access-2 c = search needs
-
-copy-requires : tie.Need-copy-requires
-copy-requires c κs = search needs
-
-returns-3 : tie.Need-returns-3
-unfolding accessTick
-returns-3 c = rw (
-  ← c .before .before .before .before .before .before .before .before .before .before .block .ensures,
-  ← c .before .before .before .before .before .before .before .before .touched .ensures,
-  ne-eqb _ _
-      (c .before .before .before .before .before .before .before .if1 .left),
-  c .before .before .before .before .before .access2 .given .1,
-  eq-eqb _ _ (c .before .before .before .if2 .taken),
-  ← c .copy .ensures,
-)
-
-put-requires : tie.Need-put-requires
-put-requires c κs = search needs
-
-returns-4 : tie.Need-returns-4
-unfolding accessTick
-returns-4 c = rw (
-  ← c .before .before .before .before .before .before .before .before .before .before .block .ensures,
-  ← c .before .before .before .before .before .before .before .before .touched .ensures,
-  ne-eqb _ _
-      (c .before .before .before .before .before .before .before .if1 .left),
-  c .before .before .before .before .before .access2 .given .1,
-  ne-eqb _ _ (c .before .before .before .if2 .left),
-  ← c .put .ensures,
-)
-
 pub access-spec : {M : Type 1} → statement M
 access-spec = tie.close
-    (tie.spec block-requires touched-requires bank-requires read-tick-requires first-read-requires returns enum-known-access get-requires
-    returns-2 enum-known-access-2 copy-requires returns-3 put-requires returns-4)
+    (tie.spec block-requires touched-requires is-touched-requires enum-known-access get-requires returns enum-known-access-2
+    slot-requires copy-requires returns-2 put-requires returns-3 bank-requires read-tick-requires first-read-requires returns-4)

@@ -20,14 +20,14 @@ returns c = rw (c .before .before .before .before .access .given .1, ← c .goes
 enum-known-access-2 : tie.Need-enum-known-access-2
 enum-known-access-2 c = search needs
 
-cast-set-touched : tie.Need-cast-set-touched
-cast-set-touched c = search needs
+cast-set-slot : tie.Need-cast-set-slot
+cast-set-slot c = search needs
 
-add-set-touched : tie.Need-add-set-touched
-add-set-touched c = search needs
+add-set-slot : tie.Need-add-set-slot
+add-set-slot c = search needs
 
-set-touched-requires : tie.Need-set-touched-requires
-set-touched-requires c κs = search needs
+set-slot-requires : tie.Need-set-slot-requires
+set-slot-requires c κs = search needs
 
 next-requires : tie.Need-next-requires
 next-requires c κs = search needs
@@ -38,10 +38,10 @@ returns-2 c = rw (
   c .before .before .before .before .before .access2 .given .1,
   c .before .before .struct-known .given .1,
   ← c .next .ensures,
-  c .before .set-touched .ensures,
+  c .before .set-slot .ensures,
 )
 
 pub check-spec : {M : Type 1} → statement M
 check-spec = tie.close
-    (tie.spec enum-known-access set-register-requires goes-on-requires returns enum-known-access-2 cast-set-touched add-set-touched
-    set-touched-requires next-requires returns-2)
+    (tie.spec enum-known-access set-register-requires goes-on-requires returns enum-known-access-2 cast-set-slot add-set-slot
+    set-slot-requires next-requires returns-2)

@@ -20,11 +20,8 @@ enum-known-read-2 c = search needs
 block-requires : tie.Need-block-requires
 block-requires c κs = search needs
 
-set-touched-requires : tie.Need-set-touched-requires
-set-touched-requires c κs = search needs
-
-set-remembered-requires : tie.Need-set-remembered-requires
-set-remembered-requires c κs = search needs
+touch-requires : tie.Need-touch-requires
+touch-requires c κs = search needs
 
 inner-requires-2 : tie.Need-inner-requires-2
 inner-requires-2 c κs = search needs
@@ -32,14 +29,12 @@ inner-requires-2 c κs = search needs
 returns-2 : tie.Need-returns-2
 unfolding firstRead
 returns-2 c = rw (
-  c .before .before .before .before .before .before .before .read2 .given .1,
-  ← c .before .before .before .before .before .block .ensures,
+  c .before .before .before .before .before .read2 .given .1,
+  ← c .before .before .block .ensures,
   ← c .inner2 .ensures,
-  c .before .set-remembered .ensures,
-  c .before .before .before .set-touched .ensures,
+  c .before .touch .ensures,
 )
 
 pub first-read-spec : {M : Type 1} → statement M
 first-read-spec = tie.close
-    (tie.spec enum-known-read inner-requires returns enum-known-read-2 block-requires set-touched-requires set-remembered-requires
-    inner-requires-2 returns-2)
+    (tie.spec enum-known-read inner-requires returns enum-known-read-2 block-requires touch-requires inner-requires-2 returns-2)

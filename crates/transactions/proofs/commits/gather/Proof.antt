@@ -1,43 +1,55 @@
 -- `gather` meets its contract.
-use Prim.Native.Nat.{_≤_, _-_}
-use native.Mathlib.Numerals.{add-one}
-use Rattle.state.specs.State.{own}
-use Rattle.exchanges.specs.Places.{noted}
-use Rattle.transactions.specs.Blocks.{gathering, gatheredTo}
-use Rattle.transactions.specs.Commits.{gatheredIn}
-use Rattle.transactions.proofs.Gathers.{gathered-more}
-use mathlib.Core.Path.{_≡_, refl}
+use mathlib.Core.Path.{_≡_}
 use native.Mathlib.Omega.{arith}
+use lib.Count.{trailing-le}
 use borrow.Author.Needs.{needs}
+use Rattle.state.specs.State.{own}
+use Rattle.transactions.proofs.Mask.{fewer}
+use Rattle.transactions.proofs.Gathers.{Passed, mask-below, passed-none, passed-room, passed-more, passed-all}
 use Rattle.transactions.proofs.commits.gather.Statement.{statement}
 use Rattle.transactions.proofs.commits.gather.Tie as tie
 
 abbrev Inv-loop : tie.InvT-loop
-Inv-loop task₀ n₀ b₀ task n b =
-    (b ≤ 16) × (noted n (own task) ≡ gatheredIn (own task₀) (gatheredTo (own task₀) b (gathering 0 (own task₀ .entries))))
+Inv-loop task₀ rest₀ passes₀ spent₀ task rest passes spent = Passed (own task₀) (own task) rest passes spent
 
 abbrev μ-loop : tie.MeasureT-loop
-μ-loop task₀ n₀ b₀ task n b = 16 - b
+μ-loop task₀ rest₀ passes₀ spent₀ task rest passes spent = rest
+
+touched-requires : tie.Need-touched-requires Inv-loop μ-loop
+touched-requires c κs = search needs
+
+cast-rest : tie.Need-cast-rest Inv-loop μ-loop
+cast-rest c = search needs
 
 loop-holds : tie.Need-loop-holds Inv-loop μ-loop
-unfolding gatheredTo
-loop-holds c = (search needs, refl)
+loop-holds c = rw (c .touched .ensures) (passed-none _ (mask-below _))
+
+cast-b : tie.Need-cast-b Inv-loop μ-loop
+cast-b c = omega (arith, trailing-le 32 (c .before .loop .rest))
 
 gather-one-requires : tie.Need-gather-one-requires Inv-loop μ-loop
 gather-one-requires c κs = search needs
 
-add-b : tie.Need-add-b Inv-loop μ-loop
-add-b c = search needs
+either-requires : tie.Need-either-requires Inv-loop μ-loop
+either-requires c κs = search needs
+
+sub-rest : tie.Need-sub-rest Inv-loop μ-loop
+sub-rest c = omega (arith, c .before .before .before .loop-test)
+
+add-passes : tie.Need-add-passes Inv-loop μ-loop
+add-passes c = let l = c .before .before .before .before .loop in omega (arith, passed-room (l .inv) (omega (arith, c .before .before .before .loop-test)))
 
 loop-less : tie.Need-loop-less Inv-loop μ-loop
-loop-less c = search needs
+loop-less c = fewer _ (omega (arith, c .before .before .before .loop-test))
 
 loop-again : tie.Need-loop-again Inv-loop μ-loop
-loop-again c = let l = c .before .before .before .loop in
-    (omega (arith, c .before .before .loop-test), gathered-more _ _ _ _ _ _ (l .inv .1) (c .gather-one .ensures))
+loop-again c = let l = c .before .before .before .before .loop in rw (c .either .ensures)
+    (passed-more (l .inv) (omega (arith, c .before .before .before .loop-test)) _ _ (c .before .gather-one .ensures .0) (c .before .gather-one .ensures .1))
 
 returns : tie.Need-returns Inv-loop μ-loop
-returns c = let l = c .before .loop in let q : l .b ≡ 16 = omega (arith, c .loop-test) in rw q at (l .inv .1)
+returns c = let l = c .before .loop in let q : l .rest ≡ 0 = omega (arith, c .loop-test) in passed-all (rw q at (l .inv))
 
 pub gather-spec : {M : Type 1} → statement M
-gather-spec = tie.close (tie.spec Inv-loop μ-loop loop-holds gather-one-requires add-b loop-less loop-again returns)
+gather-spec = tie.close
+    (tie.spec Inv-loop μ-loop touched-requires cast-rest loop-holds cast-b gather-one-requires either-requires sub-rest add-passes
+    loop-less loop-again returns)

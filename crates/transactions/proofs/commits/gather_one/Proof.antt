@@ -1,16 +1,10 @@
 -- `gather_one` meets its contract.
-use Rattle.transactions.specs.Blocks.{gatheredOne}
-use borrow.Author.Tests.{eq-eqb, ne-eqb}
 use borrow.Author.Needs.{needs}
 use Rattle.transactions.proofs.commits.gather_one.Statement.{statement}
 use Rattle.transactions.proofs.commits.gather_one.Tie as tie
 
-touched-requires : tie.Need-touched-requires
-touched-requires c κs = search needs
-
-returns : tie.Need-returns
-unfolding gatheredOne
-returns c = rw (← c .before .touched .ensures, eq-eqb _ _ (c .if1 .taken))
+slot-requires : tie.Need-slot-requires
+slot-requires c κs = search needs
 
 remembered-requires : tie.Need-remembered-requires
 remembered-requires c κs = search needs
@@ -27,21 +21,16 @@ add-enter c = search needs
 enter-requires : tie.Need-enter-requires
 enter-requires c κs = search needs
 
-next-requires : tie.Need-next-requires
-next-requires c κs = search needs
+is-spent-requires : tie.Need-is-spent-requires
+is-spent-requires c κs = search needs
 
-returns-2 : tie.Need-returns-2
-unfolding gatheredOne
-returns-2 c = rw (
-  ← c .before .before .before .before .before .before .before .before .touched .ensures,
-  ne-eqb _ _
-      (c .before .before .before .before .before .before .before .if1 .left),
+returns : tie.Need-returns
+returns c = rw (
+  ← c .before .before .before .before .before .before .before .slot .ensures,
   ← c .before .before .before .before .before .remembered .ensures,
   ← c .before .before .before .new-bank .ensures,
-  ← c .next .ensures,
-  c .before .enter .ensures,
-)
+) (c .is-spent .ensures, c .before .enter .ensures)
 
 pub gather-one-spec : {M : Type 1} → statement M
 gather-one-spec = tie.close
-    (tie.spec touched-requires returns remembered-requires new-bank-requires cast-enter add-enter enter-requires next-requires returns-2)
+    (tie.spec slot-requires remembered-requires new-bank-requires cast-enter add-enter enter-requires is-spent-requires returns)

@@ -1,11 +1,14 @@
 -- `new_bank` meets its contract.
-use borrow.Author.Tests.{lt-ltb, le-ltb}
+use borrow.Author.Tests.{eq-eqb, ne-eqb}
 use borrow.Author.Needs.{needs}
 use Rattle.transactions.proofs.commits.new_bank.Statement.{statement}
 use Rattle.transactions.proofs.commits.new_bank.Tie as tie
 
 returns : tie.Need-returns
-returns c = rw (lt-ltb _ _ (c .if1 .taken))
+returns c = rw (eq-eqb _ _ (c .if1 .taken))
+
+sub-copy : tie.Need-sub-copy
+sub-copy c = search needs
 
 cast-copy : tie.Need-cast-copy
 cast-copy c = search needs
@@ -24,7 +27,7 @@ wrapping-add-u32-requires-2 c κs = search needs
 
 returns-2 : tie.Need-returns-2
 returns-2 c = rw (
-  le-ltb _ _ (c .before .before .before .if1 .left),
+  ne-eqb _ _ (c .before .before .before .if1 .left),
   c .wrapping-add-u322 .ensures,
   c .before .wrapping-add-u32 .ensures,
   c .before .before .copy .ensures,
@@ -32,4 +35,4 @@ returns-2 c = rw (
 
 pub new-bank-spec : {M : Type 1} → statement M
 new-bank-spec = tie.close
-    (tie.spec returns cast-copy copy-requires mul-wrapping-add-u32 wrapping-add-u32-requires wrapping-add-u32-requires-2 returns-2)
+    (tie.spec returns sub-copy cast-copy copy-requires mul-wrapping-add-u32 wrapping-add-u32-requires wrapping-add-u32-requires-2 returns-2)

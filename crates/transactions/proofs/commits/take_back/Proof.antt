@@ -1,39 +1,47 @@
 -- `take_back` meets its contract.
-use Prim.Native.Nat.{ℕ, _≤_, _-_, _+_}
-use native.Mathlib.Numerals.{add-one}
-use Rattle.state.specs.State.{own}
-use Rattle.transactions.specs.Blocks.{takenTo, takingBack}
-use mathlib.Core.Path.{_≡_, refl}
+use mathlib.Core.Path.{_≡_}
 use native.Mathlib.Omega.{arith}
+use lib.Count.{trailing-le}
 use borrow.Author.Needs.{needs}
+use Rattle.state.specs.State.{own}
+use Rattle.transactions.proofs.Mask.{fewer}
+use Rattle.transactions.proofs.Gathers.{mask-below, Taken, taken-none, taken-more, taken-all}
 use Rattle.transactions.proofs.commits.take_back.Statement.{statement}
 use Rattle.transactions.proofs.commits.take_back.Tie as tie
 
 abbrev Inv-loop : tie.InvT-loop
-Inv-loop task₀ b₀ task b = (b ≤ 16) × (own task ≡ takingBack b (own task₀))
+Inv-loop task₀ rest₀ task rest = Taken (own task₀) (own task) rest
 
 abbrev μ-loop : tie.MeasureT-loop
-μ-loop task₀ b₀ task b = 16 - b
+μ-loop task₀ rest₀ task rest = rest
+
+touched-requires : tie.Need-touched-requires Inv-loop μ-loop
+touched-requires c κs = search needs
+
+cast-rest : tie.Need-cast-rest Inv-loop μ-loop
+cast-rest c = search needs
 
 loop-holds : tie.Need-loop-holds Inv-loop μ-loop
-unfolding takenTo
-loop-holds c = (search needs, refl)
+loop-holds c = rw (c .touched .ensures) (taken-none _ (mask-below _))
+
+cast-b : tie.Need-cast-b Inv-loop μ-loop
+cast-b c = omega (arith, trailing-le 32 (c .before .loop .rest))
 
 take-one-requires : tie.Need-take-one-requires Inv-loop μ-loop
 take-one-requires c κs = search needs
 
-add-b : tie.Need-add-b Inv-loop μ-loop
-add-b c = search needs
+sub-rest : tie.Need-sub-rest Inv-loop μ-loop
+sub-rest c = omega (arith, c .before .before .loop-test)
 
 loop-less : tie.Need-loop-less Inv-loop μ-loop
-loop-less c = search needs
+loop-less c = fewer _ (omega (arith, c .before .before .loop-test))
 
 loop-again : tie.Need-loop-again Inv-loop μ-loop
-unfolding takenTo
-loop-again c = (omega arith, rw (add-one, c .take-one .ensures, c .before .before .before .loop .inv .1))
+loop-again c = let l = c .before .before .before .loop in taken-more (l .inv) (omega (arith, c .before .before .loop-test)) _ (c .take-one .ensures)
 
 returns : tie.Need-returns Inv-loop μ-loop
-returns c = let l = c .before .loop in let q : l .b ≡ 16 = omega (arith, c .loop-test) in rw q at (l .inv .1)
+returns c = let l = c .before .loop in let q : l .rest ≡ 0 = omega (arith, c .loop-test) in taken-all (rw q at (l .inv))
 
 pub take-back-spec : {M : Type 1} → statement M
-take-back-spec = tie.close (tie.spec Inv-loop μ-loop loop-holds take-one-requires add-b loop-less loop-again returns)
+take-back-spec = tie.close
+    (tie.spec Inv-loop μ-loop touched-requires cast-rest loop-holds cast-b take-one-requires sub-rest loop-less loop-again returns)
