@@ -10,6 +10,7 @@ use common::{report, report_of_sheet_a, sheet_a_with, task_lines, TaskLine};
 use shared::{setting, CASES};
 use simulator::contention::Style;
 use simulator::generator::{case, valid_sheet, SEED};
+use simulator::history::run_with_history;
 use simulator::random::Random;
 use simulator::write::*;
 
@@ -50,8 +51,8 @@ fn library_and_simulator_agree() {
     }
 }
 
-/// Every small limit of one contended sheet, of one with releases of two tasks that wait and are dropped, and of one in which two tasks
-/// lose attempts.
+/// Every small limit of one contended sheet, of one with releases of two tasks that wait and are dropped, of one in which two tasks lose
+/// attempts, and of one with a COMMIT of eight blocks that is rejected, one that is done, and a spent one.
 #[test]
 fn every_limit_agrees() {
     let contended = (0..)
@@ -66,7 +67,11 @@ fn every_limit_agrees() {
         .map(|index| valid_sheet(&mut Random::new(SEED, index), Style::Attempts))
         .find(|sheet| two_tasks_have(sheet, |task| task.lost))
         .expect("the generator has sheets with lost attempts");
-    let sheets = [contended, bursts, attempts];
+    let wide = (0..)
+        .map(|index| valid_sheet(&mut Random::new(SEED, index), Style::Wide))
+        .find(|sheet| commits_of_eight_blocks(sheet))
+        .expect("the generator has sheets with transactions of eight blocks");
+    let sheets = [contended, bursts, attempts, wide];
     for (sheet, limit) in sheets.iter().flat_map(|sheet| (0..600).map(move |limit| (sheet, limit)))
     {
         let mut expected = [0x2E; 4096];
@@ -80,6 +85,19 @@ fn every_limit_agrees() {
         );
         assert!(found == expected, "limit {limit}");
     }
+}
+
+/// Within the limits that are compared: one rejected, one done, and somewhere a spent COMMIT.
+fn commits_of_eight_blocks(sheet: &[u8]) -> bool {
+    let sheet = simulator::sheet::parse(sheet).expect("a good sheet");
+    let history = run_with_history(&sheet, 599).1;
+    let exchanges = history.operations.iter().flat_map(|operation| &operation.exchanges);
+    let answers: Vec<bool> = exchanges
+        .filter(|exchange| exchange.pairs.len() == 8)
+        .filter_map(|exchange| exchange.committed)
+        .collect();
+    let spent = history.operations.iter().any(|operation| operation.spent);
+    answers.contains(&true) && answers.contains(&false) && spent
 }
 
 /// Above 0, and not the same number.

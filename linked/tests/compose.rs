@@ -102,8 +102,12 @@ fn lists_with_faults() {
 /// Wherever another kind of command begins in sheets at the ceilings and in others: every command with operands at the edges.
 #[test]
 fn every_command_between_two_kinds() {
-    let others = (0..12)
-        .map(|index| valid_sheet(&mut Random::new(SEED, index), Style::SHORT[index as usize % 8]));
+    let others = (0..12).map(|index| {
+        valid_sheet(
+            &mut Random::new(SEED, index),
+            Style::SHORT[index as usize % Style::SHORT.len()],
+        )
+    });
     let (mut by_number, mut too_wide) = ([0u64; 12], [0u64; 12]);
     for sheet in at_ceilings(0).into_iter().chain(others) {
         let calls = of_sheet(&sheet);
@@ -171,7 +175,7 @@ fn buffers_of_every_length() {
 #[test]
 fn a_buffer_that_grows() {
     for index in 0..200 {
-        let style = Style::SHORT[index as usize % 8];
+        let style = Style::SHORT[index as usize % Style::SHORT.len()];
         let sheet = valid_sheet(&mut Random::new(SEED, index), style);
         let mut both = Both::with_buffer(0);
         let mut length = 0;

@@ -61,7 +61,7 @@ impl Observer for Transactions {
     fn event(&mut self, tick: u32, task: usize, event: Event<'_>) {
         match event {
             Event::TransactionBegins { .. } => self.in_transaction[task] = true,
-            Event::TransactionEnds | Event::Spent => self.in_transaction[task] = false,
+            Event::TransactionEnds | Event::Spent { .. } => self.in_transaction[task] = false,
             Event::AttemptLost { .. } => self.after_losses.push((tick + 1, task)),
             _ => {}
         }

@@ -4,7 +4,9 @@ use crate::attempts;
 use crate::bursts;
 use crate::history::History;
 use crate::random::Random;
-use crate::sheet::{MAX_COMMANDS, MAX_PAIRS, MAX_PUT, MAX_RELEASES, MAX_TASKS, TOP_VERSION};
+use crate::sheet::TOP_VERSION;
+use crate::sheet::{MAX_BLOCKS, MAX_COMMANDS, MAX_PAIRS, MAX_PUT, MAX_RELEASES, MAX_TASKS};
+use crate::wide;
 use crate::write::*;
 use crate::{run_observed, TOP_LIMIT};
 
@@ -23,6 +25,9 @@ pub enum Style {
     /// Two or three tasks with transactions on one or two blocks, released inside each other's
     /// attempts: attempts are lost one after another.
     Attempts,
+    /// Two or three tasks with transactions on up to eight of nine to sixteen blocks, released inside
+    /// each other's attempts.
+    Wide,
     /// Eight tasks and releases without a pause: tens of thousands of ticks.
     Long,
     /// A few dozen bytes.
@@ -31,7 +36,7 @@ pub enum Style {
 
 impl Style {
     /// All but the one whose runs take long.
-    pub const SHORT: [Style; 8] = [
+    pub const SHORT: [Style; 9] = [
         Style::Words,
         Style::Blocks,
         Style::Mixed,
@@ -39,13 +44,14 @@ impl Style {
         Style::Nested,
         Style::Bursts,
         Style::Attempts,
+        Style::Wide,
         Style::Tiny,
     ];
 }
 
 /// Registers 0, 1 and 2 hold 0, 1 and 2; readings go to 3 to 6; answers go to 7.
 const SMALL_VALUES: usize = 3;
-const READINGS: [u8; 4] = [3, 4, 5, 6];
+pub const READINGS: [u8; 4] = [3, 4, 5, 6];
 const ANSWER: u8 = 7;
 
 struct Author<'a> {
@@ -66,6 +72,7 @@ pub fn commands(random: &mut Random, style: Style) -> Vec<Bytes> {
         Style::Nested => random.pick(&[(1, 0), (2, 0), (3, 0), (0, 1), (0, 2), (0, 3)]),
         Style::Bursts => random.pick(&[(1, 0), (2, 0), (0, 1), (0, 1), (0, 2), (1, 1)]),
         Style::Attempts => (0, random.within(1, 2)),
+        Style::Wide => (0, random.pick(&[9, 12, MAX_BLOCKS, MAX_BLOCKS])),
         Style::Long => random.pick(&[(8, 0), (3, 0), (0, 2), (8, 8), (2, 3)]),
         Style::Tiny => random.pick(&[(1, 0), (2, 0), (0, 1)]),
     };
@@ -79,13 +86,13 @@ impl Author<'_> {
         }
         let mut declared: Vec<Bytes> =
             self.starts.iter().map(|&start| word(start.into())).collect();
-        for _ in 0..self.blocks {
-            declared.push(self.block());
+        for number in 0..self.blocks {
+            declared.push(self.block(number));
         }
         let tasks = match self.style {
             Style::Nested => self.random.within(3, 5),
             Style::Bursts => self.random.within(1, 3),
-            Style::Attempts => self.random.within(2, 3),
+            Style::Attempts | Style::Wide => self.random.within(2, 3),
             Style::Long => MAX_TASKS,
             Style::Tiny => self.random.within(1, 2),
             _ => self.random.within(2, MAX_TASKS),
@@ -96,18 +103,23 @@ impl Author<'_> {
         let releases = match self.style {
             Style::Nested => self.nested_releases(&sheet(&declared), &bodies),
             Style::Bursts => bursts::releases(self.random, &front, tasks),
-            Style::Attempts => attempts::releases(self.random, &front, tasks),
+            Style::Attempts | Style::Wide => attempts::releases(self.random, &front, tasks),
             _ => self.releases(tasks),
         };
         [declared, bodies.concat(), releases, vec![end()]].concat()
     }
 
-    fn block(&mut self) -> Bytes {
+    fn block(&mut self, number: usize) -> Bytes {
+        // Wide: the highest block is what ends a COMMIT most often, if any.
+        let top_share = if number + 1 == self.blocks { 30 } else { 8 };
         let version = match self.style {
             Style::TopVersions => TOP_VERSION - self.random.below(4) as u32,
             Style::Bursts if self.random.percent(50) => TOP_VERSION - self.random.below(2) as u32,
             Style::Attempts if self.random.percent(40) => {
                 TOP_VERSION - self.random.within(1, 3) as u32
+            }
+            Style::Wide if self.random.percent(top_share) => {
+                TOP_VERSION - self.random.below(2) as u32
             }
             _ => self.random.below(1000) as u32,
         };
@@ -126,6 +138,7 @@ impl Author<'_> {
         }
         let pieces = match self.style {
             Style::Nested | Style::Tiny => 1,
+            Style::Wide => self.random.within(1, 2),
             // None: the LOADs alone, a job of one or two ticks.
             Style::Bursts => usize::from(self.random.percent(75)),
             Style::Long => 40,
@@ -145,8 +158,10 @@ impl Author<'_> {
     }
 
     fn piece(&mut self) -> Vec<Bytes> {
-        if self.style == Style::Attempts {
-            return self.transaction();
+        match self.style {
+            Style::Attempts => return self.transaction(),
+            Style::Wide => return wide::transaction(self.random, self.blocks),
+            _ => {}
         }
         let of_words = self.words > 0 && (self.blocks == 0 || self.random.percent(50));
         match self.random.below(10) {

@@ -1,5 +1,5 @@
 //! What a corpus of cases covers: refusals, statements, outcomes, releases that wait or are dropped,
-//! lost attempts, each counted.
+//! lost attempts, touched blocks, each counted.
 
 use std::fmt;
 
@@ -10,6 +10,7 @@ use crate::lost_coverage::LostCoverage;
 use crate::machine::Machine;
 use crate::observer::{Cause, Event, Fate, Observer, Statement};
 use crate::sheet::{self, MAX_TASKS};
+use crate::touched_coverage::TouchedCoverage;
 use crate::waiting_coverage::WaitingCoverage;
 use crate::{run, TOP_LIMIT};
 
@@ -102,6 +103,7 @@ pub struct Coverage {
     waiting: WaitingCoverage,
     drops: DropCoverage,
     lost: LostCoverage,
+    touched: TouchedCoverage,
 }
 
 impl Coverage {
@@ -116,6 +118,7 @@ impl Coverage {
             waiting: WaitingCoverage::default(),
             drops: DropCoverage::default(),
             lost: LostCoverage::default(),
+            touched: TouchedCoverage::default(),
         }
     }
 
@@ -128,6 +131,7 @@ impl Coverage {
         self.waiting.take(&sheet, limit);
         self.drops.take(&sheet, limit);
         self.lost.take(&sheet, limit);
+        self.touched.take(&sheet, limit);
         let mut machine = Machine::new(&sheet);
         let mut observers =
             (Counter { coverage: self, in_transaction: [false; MAX_TASKS] }, History::new());
@@ -191,6 +195,7 @@ impl Coverage {
         rows.extend(self.waiting.rows());
         rows.extend(self.drops.rows());
         rows.extend(self.lost.rows());
+        rows.extend(self.touched.rows());
         rows
     }
 }
@@ -229,7 +234,7 @@ impl Observer for Counter<'_> {
     fn event(&mut self, _tick: u32, task: usize, event: Event<'_>) {
         match event {
             Event::TransactionBegins { .. } => self.in_transaction[task] = true,
-            Event::TransactionEnds | Event::Spent => self.in_transaction[task] = false,
+            Event::TransactionEnds | Event::Spent { .. } => self.in_transaction[task] = false,
             _ => {}
         }
     }

@@ -26,7 +26,7 @@ impl Case {
     }
 }
 
-/// Where the sheet of a case comes from. Every 32 cases hold each source at least once.
+/// Where the sheet of a case comes from. Every 33 cases hold each source at least once.
 #[derive(Clone, Copy)]
 enum Source {
     Valid(Style),
@@ -39,7 +39,7 @@ enum Source {
     TwoFaults,
 }
 
-const SOURCES: [Source; 32] = [
+const SOURCES: [Source; 33] = [
     Source::Valid(Style::Words),
     Source::Valid(Style::Nested),
     Source::Cut,
@@ -72,6 +72,7 @@ const SOURCES: [Source; 32] = [
     Source::Valid(Style::Attempts),
     Source::AlteredBytes,
     Source::Valid(Style::Tiny),
+    Source::Valid(Style::Wide),
 ];
 
 /// One case in this many has a long sheet instead, which takes far longer to run.

@@ -270,7 +270,7 @@ impl Operation {
                 self.place = Some(tick);
             }
             Event::ReadEnds { .. } | Event::TransactionEnds => self.span.end(tick, own_tick),
-            Event::Spent => {
+            Event::Spent { .. } => {
                 self.spent = true;
                 self.span.end(tick, own_tick);
             }

@@ -1,13 +1,14 @@
-//! The second simulator of the exchange engine: document 01 and changes 1 to 4 of document 02 in plain
-//! Rust, with no part shared.
+//! The second simulator of the exchange engine: document 01 and changes 1 to 5 of document 02 in plain
+//! Rust, with no part shared. Change 5 changes no report: COMMIT tries every block number here.
 //!
 //! `sheet` reads a sheet, `builder` composes one, `machine` runs it with `releases`, `reading`,
 //! `exchange` and `transaction`, `report` prints the end. `history` observes a run; `plain` checks it
-//! as whole operations, `drops` and `lost` check the counts of dropped releases and of lost attempts.
-//! `generator` makes cases from `contention` (good sheets, with `bursts` of releases and releases
-//! inside `attempts`) and `damage` (bad ones); `coverage`, `waiting_coverage`, `drop_coverage` and
-//! `lost_coverage` count them. `compositions` makes lists of commands for the builder. `write` is for
-//! sheets in the code of tests and generators.
+//! as whole operations, `drops` and `lost` check the counts of dropped releases and of lost attempts,
+//! `gathered` what COMMITs gather.
+//! `generator` makes cases from `contention` (good sheets, with `bursts` of releases, releases inside
+//! `attempts` and `wide` transactions) and `damage` (bad ones); `coverage`, `waiting_coverage`,
+//! `drop_coverage`, `lost_coverage` and `touched_coverage` count them. `compositions` makes lists of
+//! commands for the builder. `write` is for sheets in the code of tests and generators.
 
 pub mod attempts;
 pub mod builder;
@@ -19,6 +20,7 @@ pub mod damage;
 pub mod drop_coverage;
 pub mod drops;
 pub mod exchange;
+pub mod gathered;
 pub mod generator;
 pub mod history;
 pub mod lost;
@@ -31,8 +33,10 @@ pub mod reading;
 pub mod releases;
 pub mod report;
 pub mod sheet;
+pub mod touched_coverage;
 pub mod transaction;
 pub mod waiting_coverage;
+pub mod wide;
 pub mod write;
 
 use machine::Machine;

@@ -71,6 +71,11 @@ pub enum Event<'a> {
         registers: &'a [u32; REGISTERS],
         first: usize,
     },
+    /// The first GET or PUT of a block has read its bank word.
+    Touches {
+        block: u8,
+        version: u32,
+    },
     Gets {
         answer: u32,
     },
@@ -80,7 +85,10 @@ pub enum Event<'a> {
     },
     CommitsNothing,
     TransactionEnds,
-    Spent,
+    /// One bit for each PUT block at the last version.
+    Spent {
+        causes: u16,
+    },
 }
 
 /// Why an attempt of a transaction is lost.

@@ -95,7 +95,7 @@ impl Machine<'_> {
                 self.answer(task, value);
                 self.advance(task);
             }
-            Reading::First => self.remember(task, value),
+            Reading::First => self.remember(task, value, observer),
             Reading::Again => self.check_version(task, value, observer),
         }
     }

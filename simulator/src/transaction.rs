@@ -122,8 +122,10 @@ impl Machine<'_> {
         usize::from(self.copies[task][usize::from(slot)])
     }
 
-    pub fn remember(&mut self, task: usize, value: u32) {
+    pub fn remember<O: Observer>(&mut self, task: usize, value: u32, observer: &mut O) {
         let (block, _) = self.place_under_way(task);
+        let version = version_of(value);
+        observer.event(self.tick, task, Event::Touches { block: block as u8, version });
         let job = &mut self.jobs[task];
         job.transaction.touched |= 1 << block;
         job.transaction.remembered[block] = value;
@@ -213,14 +215,15 @@ impl Machine<'_> {
 
     pub fn commit_transaction<O: Observer>(&mut self, task: usize, observer: &mut O) {
         let transaction = &self.jobs[task].transaction;
+        let causes = self.causes_of_spending(task);
         if transaction.has_touched_nothing() {
             observer.statement(self.tick, task, Statement::CommitOfNothing);
             observer.event(self.tick, task, Event::CommitsNothing);
             observer.event(self.tick, task, Event::TransactionEnds);
             self.advance(task);
-        } else if self.is_spent(task) {
+        } else if causes != 0 {
             observer.statement(self.tick, task, Statement::CommitSpent);
-            observer.event(self.tick, task, Event::Spent);
+            observer.event(self.tick, task, Event::Spent { causes });
             self.counts[task].spent += 1;
             self.unfinished &= !(1 << task);
         } else {
@@ -230,14 +233,17 @@ impl Machine<'_> {
         }
     }
 
-    fn is_spent(&self, task: usize) -> bool {
+    /// One bit for each PUT block at the last version: with any, the COMMIT is spent.
+    fn causes_of_spending(&self, task: usize) -> u16 {
         let transaction = &self.jobs[task].transaction;
         let at_top =
-            |block: &u8| version_of(transaction.remembered[usize::from(*block)]) == TOP_VERSION;
-        transaction.put_blocks[..transaction.put_count].iter().any(at_top)
+            |block: &&u8| version_of(transaction.remembered[usize::from(**block)]) == TOP_VERSION;
+        let put_blocks = &transaction.put_blocks[..transaction.put_count];
+        put_blocks.iter().filter(at_top).fold(0, |causes, block| causes | 1 << block)
     }
 
-    /// The pairs of the commit: the touched blocks' bank words by rising block number.
+    /// The pairs of the commit: the touched blocks' bank words by rising block number. That every
+    /// number is tried does not show: change 5 leaves the list, its order and its one tick.
     fn gather(&mut self, task: usize) {
         for block in 0..MAX_BLOCKS {
             let transaction = &self.jobs[task].transaction;

@@ -162,7 +162,7 @@ impl Observer for Follower<'_> {
     }
 
     fn event(&mut self, tick: u32, task: usize, event: Event<'_>) {
-        if let Event::Spent = event {
+        if let Event::Spent { .. } = event {
             let waits = self.tasks[task].waiting > 0;
             self.coverage.count(Wait::SpentWithReleaseWaiting, waits);
             self.tasks[task].spent = Some(tick);

@@ -1,18 +1,41 @@
 //! Slips of this trade: a copy of the simulator with one wrong edit must fail demand 3, the counts of
-//! dropped releases or those of lost attempts.
+//! dropped releases, those of lost attempts or what COMMITs gather.
+//!
+//! Slips of gathering must also show in a worked figure and in the cases of the comparison: there a
+//! proved library with the same slip would be found.
 
 use std::fs;
 use std::path::{Path, PathBuf};
 use std::process::{Command, Output};
 
-/// Runs the three checks over the corpus; a failure ends it with code 1.
+use simulator::generator::{case, SEED};
+use simulator::observer::NoObserver;
+use simulator::{run_observed, TOP_LIMIT};
+
+/// So many of the cases, the first ones, are looked at for slips in reports.
+const COMPARED: u64 = 2000;
+
+/// Runs the checks over the corpus; a failure ends it with code 1. With a file of calls it prints the
+/// report of each instead, a panic being none.
 const MAIN: &str = r#"
 fn main() {
+    if let Some(file) = std::env::args().nth(1) {
+        let text = std::fs::read_to_string(file).unwrap();
+        for line in text.lines() {
+            let mut numbers = line.split(' ').map(|number| number.parse::<u64>().unwrap());
+            let limit = numbers.next().unwrap();
+            let sheet: Vec<u8> = numbers.map(|number| number as u8).collect();
+            let report = std::panic::catch_unwind(|| run_observed(&sheet, limit, &mut NoObserver));
+            println!("{:?}", report.ok());
+        }
+        return;
+    }
     for index in 0..generator::CASES {
         let case = generator::case(generator::SEED, index);
         let checked = plain::whole_operations(&case.sheet, case.limit)
             .and_then(|()| drops::drops_counted(&case.sheet, case.limit))
-            .and_then(|()| lost::lost_counted(&case.sheet, case.limit));
+            .and_then(|()| lost::lost_counted(&case.sheet, case.limit))
+            .and_then(|()| gathered::gathered_rising(&case.sheet, case.limit));
         if let Err(fault) = checked {
             println!("case {index}: {fault}");
             std::process::exit(1);
@@ -53,7 +76,7 @@ fn write_copy(name: &str, edit: Option<&Edit>) -> PathBuf {
 }
 
 /// Without -O: compiling is what takes the time here, and arithmetic is checked for overflow too.
-fn compile_and_run(folder: &Path) -> Output {
+fn compile(folder: &Path) -> PathBuf {
     let compiler = std::env::var("RUSTC").unwrap_or_else(|_| "rustc".to_string());
     let program = folder.join("program");
     let compiled = Command::new(compiler)
@@ -63,19 +86,61 @@ fn compile_and_run(folder: &Path) -> Output {
         .output()
         .unwrap();
     assert!(compiled.status.success(), "{}", String::from_utf8_lossy(&compiled.stderr));
+    program
+}
+
+fn run_checks(program: &Path) -> Output {
     Command::new(program).output().unwrap()
 }
 
 fn assert_caught(name: &str, edit: Edit) {
-    let output = compile_and_run(&write_copy(name, Some(&edit)));
+    let output = run_checks(&compile(&write_copy(name, Some(&edit))));
     assert_eq!(output.status.code(), Some(1), "{name} is not caught");
     println!("{name}: {}", String::from_utf8_lossy(&output.stdout));
 }
 
+/// A sheet and its limit.
+type Call = (Vec<u8>, u64);
+
+/// For each call, does the copy answer as the simulator does?
+fn answers_alike(program: &Path, calls: &[Call]) -> Vec<bool> {
+    let file = program.with_extension("calls");
+    let line = |(sheet, limit): &Call| {
+        let bytes: String = sheet.iter().map(|byte| format!(" {byte}")).collect();
+        format!("{limit}{bytes}\n")
+    };
+    fs::write(&file, calls.iter().map(line).collect::<String>()).unwrap();
+    let output = Command::new(program).arg(file).output().unwrap();
+    let printed = String::from_utf8(output.stdout).unwrap();
+    let expected =
+        |(sheet, limit): &Call| format!("{:?}", Some(run_observed(sheet, *limit, &mut NoObserver)));
+    assert_eq!(printed.lines().count(), calls.len());
+    printed.lines().zip(calls).map(|(line, call)| line == expected(call)).collect()
+}
+
+/// The checks or a panic find it, the worked figure has another report, and so have some of the cases
+/// that are compared.
+fn assert_shows(name: &str, edit: Edit, figure: &str) {
+    let program = compile(&write_copy(name, Some(&edit)));
+    assert!(!run_checks(&program).status.success(), "{name} is not caught");
+    let sheet = format!("../examples/worked/{figure}.sheet");
+    let sheet = fs::read(Path::new(env!("CARGO_MANIFEST_DIR")).join(sheet)).unwrap();
+    assert_eq!(answers_alike(&program, &[(sheet, TOP_LIMIT)]), [false], "{name}, {figure}");
+    let cases = (0..COMPARED).map(|index| case(SEED, index));
+    let calls: Vec<Call> = cases.map(|case| (case.sheet, case.limit)).collect();
+    let different = answers_alike(&program, &calls).iter().filter(|&&alike| !alike).count();
+    println!("{name}: {different} of {COMPARED} cases");
+    assert!(different > 0, "no case shows {name}");
+}
+
 #[test]
 fn the_unedited_copy_passes() {
-    let output = compile_and_run(&write_copy("unedited", None));
+    let program = compile(&write_copy("unedited", None));
+    let output = run_checks(&program);
     assert!(output.status.success(), "{}", String::from_utf8_lossy(&output.stdout));
+    let calls: Vec<Call> =
+        (0..100).map(|index| case(SEED, index)).map(|case| (case.sheet, case.limit)).collect();
+    assert_eq!(answers_alike(&program, &calls), [true; 100]);
 }
 
 /// A test for each slip: its name, the file, what stands there and what the slip writes instead.
@@ -86,6 +151,38 @@ macro_rules! slips {
             assert_caught(stringify!($name), Edit { file: $file, find: $find, replace: $replace });
         })*
     };
+}
+
+/// A test for each slip that must show in reports, with the worked figure that it shows in.
+macro_rules! slips_in_reports {
+    ($($name:ident in $figure:literal: $file:literal, $find:literal => $replace:literal;)*) => {
+        $(#[test]
+        fn $name() {
+            let edit = Edit { file: $file, find: $find, replace: $replace };
+            assert_shows(stringify!($name), edit, $figure);
+        })*
+    };
+}
+
+slips_in_reports! {
+    gathered_by_falling_number in "touched-blocks": "transaction.rs",
+        "for block in 0..MAX_BLOCKS {" => "for block in (0..MAX_BLOCKS).rev() {";
+    block_15_not_gathered in "block-15-read": "transaction.rs",
+        "for block in 0..MAX_BLOCKS {" => "for block in 0..MAX_BLOCKS - 1 {";
+    block_0_not_gathered in "eight-blocks": "transaction.rs",
+        "for block in 0..MAX_BLOCKS {" => "for block in 1..MAX_BLOCKS {";
+    gathering_ends_at_a_gap in "touched-blocks": "transaction.rs",
+        "                continue;\n" => "                if self.jobs[task].pair_count > 0 { break } else { continue }\n";
+    only_the_first_copy_looked_at_for_the_last_version in "spent-at-the-last-block": "transaction.rs",
+        "put_blocks.iter().filter(at_top)" => "put_blocks.iter().take(1).filter(at_top)";
+    last_version_of_block_15_not_seen in "spent-at-the-last-block": "transaction.rs",
+        "put_blocks.iter().filter(at_top)"
+            => "put_blocks.iter().filter(|block| **block != 15).filter(at_top)";
+    spent_by_a_block_that_is_only_read in "block-15-read": "transaction.rs",
+        "put_blocks.iter().filter(at_top).fold(0, |causes, block| causes | 1 << block)"
+            => "let _ = put_blocks;
+                let touched: Vec<u8> = (0..16).filter(|block| transaction.touched & 1 << block != 0).collect();
+                touched.iter().filter(at_top).fold(0, |causes, block| causes | 1 << block)";
 }
 
 slips! {

@@ -1,5 +1,5 @@
-//! Prints ns per tick of the proved engine and of the Rust simulator on the same long sheets, and ns per byte of the check and of the
-//! builder.
+//! Prints ns per tick of the proved engine and of the Rust simulator on the same long sheets, ns per byte of the check and of the
+//! builder, and ns per tick on sheets of transactions alone.
 
 use std::hint::black_box;
 use std::time::{Duration, Instant};
@@ -11,7 +11,9 @@ use simulator::generator::{valid_sheet, SEED};
 use simulator::machine::Machine;
 use simulator::observer::NoObserver;
 use simulator::random::Random;
-use simulator::{sheet, TOP_LIMIT};
+use simulator::sheet::{self, MAX_BLOCKS, MAX_COMMANDS};
+use simulator::write::{begin, block, commit, end, get, put, release, task, Bytes};
+use simulator::TOP_LIMIT;
 
 const SHEETS: usize = 6;
 const ROUNDS: usize = 200;
@@ -22,23 +24,10 @@ fn main() {
     let mut ratios = Vec::new();
     println!("sheet   ticks  engine ns/tick  simulator ns/tick  ratio");
     for (number, bytes) in sheets.iter().enumerate() {
-        let (engine, simulator) = best_of_both(
-            &mut buffer,
-            |buffer| {
-                let _ = black_box(hizgrael::run(black_box(bytes), TOP_LIMIT, buffer));
-            },
-            |buffer| {
-                black_box(simulator::run(black_box(bytes), TOP_LIMIT, buffer));
-            },
-        );
-        let per_tick = |time: Duration| time.as_nanos() as f64 / TOP_LIMIT as f64;
-        let ratio = per_tick(engine) / per_tick(simulator);
+        let (engine, simulator) = ns_per_tick(&mut buffer, bytes);
+        let ratio = engine / simulator;
         ratios.push(ratio);
-        println!(
-            "{number:>5} {TOP_LIMIT:>7} {:>15.2} {:>18.2} {ratio:>6.2}",
-            per_tick(engine),
-            per_tick(simulator)
-        );
+        println!("{number:>5} {TOP_LIMIT:>7} {engine:>15.2} {simulator:>18.2} {ratio:>6.2}");
     }
     println!("mean ratio {:.2}", ratios.iter().sum::<f64>() / ratios.len() as f64);
 
@@ -83,6 +72,58 @@ fn main() {
         per_byte(engine),
         per_byte(simulator)
     );
+
+    println!("transactions      engine ns/tick  simulator ns/tick  ratio");
+    for (name, transaction) in transactions() {
+        let bytes = sheet_of(&transaction);
+        assert!(reaches_the_limit(&bytes));
+        let (engine, simulator) = ns_per_tick(&mut buffer, &bytes);
+        println!("{name:<16} {engine:>15.2} {simulator:>18.2} {:>6.2}", engine / simulator);
+    }
+}
+
+/// Engine and simulator, whole calls of a sheet that reaches the limit.
+fn ns_per_tick(buffer: &mut [u8], bytes: &[u8]) -> (f64, f64) {
+    let (engine, simulator) = best_of_both(
+        buffer,
+        |buffer| {
+            let _ = black_box(hizgrael::run(black_box(bytes), TOP_LIMIT, buffer));
+        },
+        |buffer| {
+            black_box(simulator::run(black_box(bytes), TOP_LIMIT, buffer));
+        },
+    );
+    let per_tick = |time: Duration| time.as_nanos() as f64 / TOP_LIMIT as f64;
+    (per_tick(engine), per_tick(simulator))
+}
+
+/// One block read, one block PUT, and eight blocks, four of them PUT. Alone they take 16, 24 and 125 ticks, one of which gathers.
+fn transactions() -> [(&'static str, Vec<Bytes>); 3] {
+    let mut eight = vec![begin()];
+    for pair in 0..4 {
+        eight.push(put(15 - 4 * pair, 0, 1));
+        eight.push(get(1, 4 * pair, 0));
+    }
+    eight.push(commit());
+    [
+        ("one block read", vec![begin(), get(1, 7, 0), commit()]),
+        ("one block PUT", vec![begin(), put(7, 0, 1), commit()]),
+        ("eight blocks", eight),
+    ]
+}
+
+/// One task with a body of as many such transactions as there may be, released again in the tick in which its job has ended.
+fn sheet_of(transaction: &[Bytes]) -> Vec<u8> {
+    let blocks = (0..MAX_BLOCKS as u32).map(|number| block(number, [number; 8]));
+    let body = transaction.iter().cloned().cycle();
+    let body = body.take(MAX_COMMANDS / transaction.len() * transaction.len());
+    let front: Vec<Bytes> = blocks.chain([task()]).chain(body).collect();
+    let released_at = |ticks: &mut dyn Iterator<Item = u16>| {
+        let releases = ticks.map(|tick| release(tick, 0));
+        front.iter().cloned().chain(releases).chain([end()]).collect::<Vec<Bytes>>().concat()
+    };
+    let ticks_of_a_job = ticks_done(&released_at(&mut std::iter::once(0)));
+    released_at(&mut (0..TOP_LIMIT as u16).step_by(ticks_of_a_job as usize))
 }
 
 /// Long sheets of the generator that reach the limit.
@@ -95,10 +136,15 @@ fn long_sheets() -> Vec<Vec<u8>> {
 }
 
 fn reaches_the_limit(bytes: &[u8]) -> bool {
-    sheet::parse(bytes).is_ok_and(|parsed| {
+    ticks_done(bytes) == TOP_LIMIT
+}
+
+/// None of a sheet that is turned down.
+fn ticks_done(bytes: &[u8]) -> u64 {
+    sheet::parse(bytes).map_or(0, |parsed| {
         let mut machine = Machine::new(&parsed);
         machine.run(TOP_LIMIT as u32, &mut NoObserver);
-        u64::from(machine.tick) == TOP_LIMIT
+        machine.tick.into()
     })
 }
 
