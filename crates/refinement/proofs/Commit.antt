@@ -20,7 +20,7 @@ use Rattle.state.specs.State.{Shared, Own, withEntries}
 use Rattle.state.specs.Held.{memoryOf, touchedIn, blocksOf}
 use Rattle.exchanges.specs.Places.{if, Noted, noted}
 use Rattle.jobs.specs.Jobs.{jobAt, spent, counted, afterDone}
-use Rattle.transactions.specs.Blocks.{slotAt, rememberedAt, touchedBlocks, gathering, gathers, takingBack}
+use Rattle.transactions.specs.Blocks.{slotAt, rememberedAt, touchedBlocks, gathering, gatheredAll, takingBack}
 use Rattle.transactions.specs.Commits.{exchangeOf, commitBy, committedBy}
 use Rattle.machine.specs.Flat.{closed}
 use Rattle.exchanges.specs.declared.exchange.Exchanged.{Exchanged}
@@ -81,13 +81,13 @@ module _ (program : List BodyCommand) (size : length program ≡ 512) (end : ℕ
         quotient (rememberedAt t b) (f .value b k h i q)
         (eqb-false _ _ (none-spent (x .blocks) b (rememberedAt t b) k e (at-blocks (t .blocks) b h ∙ rw (i, q))))
 
-    gathered : EntriesSized (gathers t .entries)
+    gathered : EntriesSized (gatheredAll t .entries)
     gathered = gathered-sized t (touchedBlocks t) (gathering 0 (t .entries)) (entriesSized own)
 
     abbrev commits : Bool → Bool → Noted Job
     commits a b =
         if a (noted (afterDone j 0) t)
-        (if b (noted (jobAt Idle (j .at) 0) (counted (withEntries t (gathers t .entries)) spent)) (exchangeOf t j (gathers t)))
+        (if b (noted (jobAt Idle (j .at) 0) (counted (withEntries t (gatheredAll t .entries)) spent)) (exchangeOf t j (gatheredAll t)))
 
     commit-by : (a b : Bool) → T.spent? (x .blocks) ≡ b → Goal m (commits a b) (T.commitCommandBy a b (memoryOf m) z x)
     unfolding T.commitCommandBy counted
@@ -97,7 +97,7 @@ module _ (program : List BodyCommand) (size : length program ≡ 512) (end : ℕ
     commit-by false true e =
         record {
           same = rw (
-            no-pairs (gathers t .entries),
+            no-pairs (gatheredAll t .entries),
             counted-counts t (own .counts) J.spent (few 1 (omega arith)),
           );
           sharedSized = shared;

@@ -14,7 +14,7 @@ use Rattle.state.specs.State.{Own}
 use Rattle.state.specs.Held.{touchedIn, touchedOf, blocksFrom, blocksOf}
 use Rattle.exchanges.specs.Places.{if}
 use Rattle.jobs.specs.Jobs.{enteredIn}
-use Rattle.transactions.specs.Blocks.{bankOf, slotAt, rememberedAt, touchedFrom, Gathering, gathering, gatheredOne, gatheredOver, gathers}
+use Rattle.transactions.specs.Blocks.{bankOf, slotAt, rememberedAt, touchedFrom, Gathering, gathering, gatheredOne, gatheredOver, gatheredAll}
 use Rattle.transactions.proofs.Walks.{copied-slot}
 use Rattle.refinement.proofs.View.{entriesOf}
 use Rattle.refinement.proofs.Sized.{EntriesSized}
@@ -99,7 +99,7 @@ module _ (t : Own)
           ap (after (touchedFrom n (t .blocks .touched) (suc b))) one ∙ gathered-entry n b old new rest g s room
 
   pub gathered-same : EntriesSized (t .entries) → touchedCount (blocksOf (t .blocks)) ≤ 8
-      → entriesOf (gathers t .count) (gathers t .entries) ≡ gather (t .copies) 0 (blocksOf (t .blocks))
+      → entriesOf (gatheredAll t .count) (gatheredAll t .entries) ≡ gather (t .copies) 0 (blocksOf (t .blocks))
   gathered-same s most =
       gathered-from 16 0 (omega arith) (gathering 0 (t .entries)) s (omega arith)
       ∙ ap (λ (l : List Entry). l ++ gather (t .copies) 0 (blocksOf (t .blocks))) (no-entries (t .entries))

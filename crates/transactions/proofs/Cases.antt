@@ -6,11 +6,12 @@ use mathlib.Core.List.{List, [], _∷_}
 use lib.ListN.{replicate}
 use Rattle.model.specs.Lists.{at, replace}
 use Rattle.model.specs.Transaction.{touchedCount, takenBack}
+use Rattle.state.specs.Packed.{packed}
 use Rattle.state.specs.State.{Entries, Blocks, Own}
 use Rattle.state.specs.Held.{blocksFrom, blocksOf}
 use Rattle.exchanges.specs.Places.{Noted, noted}
-use Rattle.jobs.specs.Jobs.{job, counted, copied}
-use Rattle.transactions.specs.Blocks.{isSpent, newBank, touchedFrom}
+use Rattle.jobs.specs.Jobs.{job, counted, copied, enteredIn}
+use Rattle.transactions.specs.Blocks.{isSpent, newBank, touchedFrom, gathering, gatheredOne, gatheredOver, gatheredAll, takenOne}
 use Rattle.transactions.specs.Accesses.{losesAttempt, checkedBy, againRead}
 use Rattle.transactions.specs.Commits.{committedBy}
 use Rattle.commands.specs.declared.Access.the-variants.{Get}
@@ -40,11 +41,15 @@ abbrev committing : Job
 committing = job (Transaction (Committing Start)) 0 6 3 2 1
 
 -- the slot of the block that was PUT takes its old store, whatever the block's number
+takes-one : takenOne blocks 2 (20 ∷ 21 ∷ 22 ∷ 23 ∷ []) ≡ 20 ∷ 9 ∷ 22 ∷ 23 ∷ []
+unfolding takenOne at replace
+takes-one = refl
+
 takes-back : takenBack (20 ∷ 21 ∷ 22 ∷ 23 ∷ []) (blocksOf blocks) ≡ 20 ∷ 9 ∷ 22 ∷ 23 ∷ []
 unfolding takenBack blocksFrom at replace
 takes-back = refl
 
--- two blocks are touched, 0 and 2, and none is spent; in a mask with all but block 3 the others come by rising number
+-- two blocks are touched, 0 and 2; of a mask with all but block 3 the others come by rising number
 touches-two : touchedCount (blocksOf blocks) ≡ 2
 unfolding touchedCount blocksFrom at
 touches-two = refl
@@ -52,6 +57,30 @@ touches-two = refl
 touches-rising : touchedFrom 16 65527 0 ≡ 0 ∷ 1 ∷ 2 ∷ 4 ∷ 5 ∷ 6 ∷ 7 ∷ 8 ∷ 9 ∷ 10 ∷ 11 ∷ 12 ∷ 13 ∷ 14 ∷ 15 ∷ []
 unfolding touchedFrom
 touches-rising = refl
+
+-- one pass for each of the two, by rising number: block 0 as it is, block 2 with one version more in its copy's store
+abbrev with-room : Own
+with-room =
+    record {
+      registers = [];
+      kept = [];
+      copies = 20 ∷ 21 ∷ [];
+      entries =
+          record { targets = 7 ∷ 7 ∷ 7 ∷ []; olds = 7 ∷ 7 ∷ 7 ∷ []; news = 7 ∷ 7 ∷ 7 ∷ []; inits = 7 ∷ 7 ∷ 7 ∷ []; overlapped = 7 ∷ 7 ∷ 7 ∷ [] };
+      blocks = blocks;
+      counts = [];
+    }
+
+gathers-two : gatheredAll with-room
+    ≡ gathering 2 (record {
+      targets = 32 ∷ 34 ∷ 7 ∷ [];
+      olds = 775 ∷ 1033 ∷ 7 ∷ [];
+      news = 775 ∷ 1301 ∷ 7 ∷ [];
+      inits = 34359738368 ∷ 34359738368 ∷ 7 ∷ [];
+      overlapped = 0 ∷ 0 ∷ 7 ∷ [];
+    })
+unfolding gatheredOver gatheredOne touchedFrom enteredIn packed at replace
+gathers-two = refl
 
 -- a yes: the command is done, and no attempt was lost
 says-yes : committedBy (record-of [] (20 ∷ 21 ∷ 22 ∷ 23 ∷ []) blocks (0 ∷ 0 ∷ 0 ∷ 0 ∷ [])) committing (Ends true)

@@ -17,7 +17,7 @@ use Rattle.state.specs.Held.{blocksOf}
 use Rattle.exchanges.specs.Places.{noted}
 use Rattle.jobs.specs.Jobs.{entered}
 use Rattle.transactions.specs.Blocks.{bankOf, slotAt, rememberedAt, touchedFrom, touchedBlocks, isSpent, newBank}
-use Rattle.transactions.specs.Blocks.{gathering, gatheredOne, gatheredOver, gathers, takenOne, takingOne, takingBack}
+use Rattle.transactions.specs.Blocks.{gathering, gatheredOne, gatheredOver, gatheredAll, takenOne, takingOne, takingBack}
 use Rattle.transactions.specs.Commits.{gatheredIn, Gathers}
 use Rattle.transactions.specs.declared.commits.Gathered.{Gathered}
 use Rattle.transactions.proofs.Mask.{lowest-first, fewer}
@@ -32,7 +32,7 @@ mask-below l = mod-lt (at 0 (part 108 1 l) 0) (lit< tt)
 pub record Passed (t u : Own) (rest n : ℕ) (spent : Bool) : Type 0 where
   pub below : rest < 65536
   pub task : u ≡ withEntries t (u .entries)
-  pub entries : gatheredOver t (touchedFrom 16 rest 0) (gathering n (u .entries)) ≡ gathers t
+  pub entries : gatheredOver t (touchedFrom 16 rest 0) (gathering n (u .entries)) ≡ gatheredAll t
   pub passes : n + length (touchedFrom 16 rest 0) ≡ length (touchedBlocks t)
   pub spent? : spent || spentOver (t .blocks) (touchedFrom 16 rest 0) ≡ spentOver (t .blocks) (touchedBlocks t)
 

@@ -74,8 +74,8 @@ gatheredOver t [] g = g
 gatheredOver t (b ∷ l) g = gatheredOver t l (gatheredOne t b g)
 
 -- all that are touched
-abbrev pub gathers : Own → Gathering
-gathers t = gatheredOver t (touchedBlocks t) (gathering 0 (t .entries))
+abbrev pub gatheredAll : Own → Gathering
+gatheredAll t = gatheredOver t (touchedBlocks t) (gathering 0 (t .entries))
 
 -- the copy slot of block b, if PUT, takes the block's old store
 unfoldable pub takenOne : Blocks → ℕ → List ℕ → List ℕ

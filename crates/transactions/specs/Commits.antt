@@ -7,7 +7,7 @@ use Rattle.state.specs.State.{Own, withEntries}
 use Rattle.state.specs.Held.{blocksOf}
 use Rattle.exchanges.specs.Places.{if, Noted, noted}
 use Rattle.jobs.specs.Jobs.{job, jobAt, withValue, spent, counted, afterDone}
-use Rattle.transactions.specs.Blocks.{Gathering, gathers, takingBack}
+use Rattle.transactions.specs.Blocks.{Gathering, gatheredAll, takingBack}
 use Rattle.transactions.specs.Accesses.{inner, losesAttempt}
 use Rattle.exchanges.specs.declared.exchange.Step.the-variants.{Start, Save}
 use Rattle.exchanges.specs.declared.exchange.Exchanged.{Exchanged}
@@ -24,7 +24,7 @@ gatheredIn t g = noted (g .count) (withEntries t (g .entries))
 -- GATHERING leaves of a task t the task u
 pub record Gathers (t : Own) (g : Gathered) (u : Own) : Type 0 where
   -- each pass adds one of the touched blocks, by rising number
-  pub entries : noted (g .passes) u ≡ gatheredIn t (gathers t)
+  pub entries : noted (g .passes) u ≡ gatheredIn t (gatheredAll t)
   pub passes : g .passes ≡ touchedCount (blocksOf (t .blocks))
   pub spent : g .spent ≡ spent? (blocksOf (t .blocks))
 
@@ -37,8 +37,8 @@ exchangeOf t j g =
 unfoldable pub commitBy : Own → Job → Noted Job
 commitBy t j =
     if (nothing? (blocksOf (t .blocks))) (noted (afterDone j 0) t)
-    (if (spent? (blocksOf (t .blocks))) (noted (jobAt Idle (j .at) 0) (counted (withEntries t (gathers t .entries)) spent))
-    (exchangeOf t j (gathers t)))
+    (if (spent? (blocksOf (t .blocks))) (noted (jobAt Idle (j .at) 0) (counted (withEntries t (gatheredAll t .entries)) spent))
+    (exchangeOf t j (gatheredAll t)))
 
 unfoldable pub committedBy : Own → Job → Exchanged → Noted Job
 committedBy t j (Goes s) = noted (inner j (Committing s)) t

@@ -1,6 +1,9 @@
 // COMMIT: the touched bank words gathered, spent, and what its exchange's answer leaves: old stores taken back, or a lost attempt.
 ghost use mathlib.Core.Path.{_≡_};
 ghost use mathlib.Core.Bool.{_||_};
+ghost use Prim.Native.Nat.{_-_, _<_};
+ghost use lib.Bits.{bitAnd};
+ghost use lib.Count.{trailingZeros};
 ghost use Rattle.state.specs.State.{own};
 ghost use Rattle.exchanges.specs.Places.{noted};
 ghost use Rattle.jobs.specs.Jobs.{entered};
@@ -70,6 +73,20 @@ pub struct Gathered {
     pub spent: bool,
 }
 
+// The lowest block of a mask, and the mask of the others.
+fn lowest(mask: u32) -> u32
+    ensures { λ r. ⌜ r ≡ trailingZeros 32 mask ⌝ }
+{
+    u32::trailing_zeros(mask)
+}
+
+fn others(mask: u32) -> u32
+    requires { ⌜ 0 < mask ⌝ }
+    ensures { λ r. ⌜ r ≡ bitAnd mask (mask - 1) ⌝ }
+{
+    mask & (mask - 1)
+}
+
 // The touched bank words by rising number, straight from one touched block to the next.
 fn gather(task: &mut Task) -> Gathered
     ensures { λ r. ⌜ Gathers (own (now (task .entry))) r (own (now (task .exit))) ⌝ }
@@ -78,10 +95,10 @@ fn gather(task: &mut Task) -> Gathered
     let mut passes: u8 = 0;
     let mut spent = false;
     while rest != 0 {
-        let b = u32::trailing_zeros(rest) as u8;
+        let b = lowest(rest) as u8;
+        rest = others(rest);
         let last = gather_one(&mut *task, b, passes);
         spent = either(spent, last);
-        rest = rest & (rest - 1);
         passes += 1;
     }
     Gathered { passes, spent }
@@ -124,11 +141,10 @@ fn take_one(task: &mut Task, b: u8)
 fn take_back(task: &mut Task)
     ensures { λ r. ⌜ own (now (task .exit)) ≡ takingBack (own (now (task .entry))) ⌝ }
 {
-    let mut rest = task::touched(&*task) as u32;
-    while rest != 0 {
-        let b = u32::trailing_zeros(rest) as u8;
-        take_one(&mut *task, b);
-        rest = rest & (rest - 1);
+    let mut left = task::touched(&*task) as u32;
+    while left != 0 {
+        take_one(&mut *task, lowest(left) as u8);
+        left = others(left);
     }
 }
 

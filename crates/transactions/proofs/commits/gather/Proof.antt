@@ -24,8 +24,14 @@ cast-rest c = search needs
 loop-holds : tie.Need-loop-holds Inv-loop μ-loop
 loop-holds c = rw (c .touched .ensures) (passed-none _ (mask-below _))
 
+lowest-requires : tie.Need-lowest-requires Inv-loop μ-loop
+lowest-requires c κs = search needs
+
 cast-b : tie.Need-cast-b Inv-loop μ-loop
-cast-b c = omega (arith, trailing-le 32 (c .before .loop .rest))
+cast-b c = omega (arith, c .lowest .ensures, trailing-le 32 (c .before .before .loop .rest))
+
+others-requires : tie.Need-others-requires Inv-loop μ-loop
+others-requires c κs = omega (arith, c .before .loop-test)
 
 gather-one-requires : tie.Need-gather-one-requires Inv-loop μ-loop
 gather-one-requires c κs = search needs
@@ -33,23 +39,20 @@ gather-one-requires c κs = search needs
 either-requires : tie.Need-either-requires Inv-loop μ-loop
 either-requires c κs = search needs
 
-sub-rest : tie.Need-sub-rest Inv-loop μ-loop
-sub-rest c = omega (arith, c .before .before .before .loop-test)
-
 add-passes : tie.Need-add-passes Inv-loop μ-loop
-add-passes c = let l = c .before .before .before .before .loop in omega (arith, passed-room (l .inv) (omega (arith, c .before .before .before .loop-test)))
+add-passes c = let l = c .before .before .before .before .before .before .loop in omega (arith, passed-room (l .inv) (omega (arith, c .before .before .before .before .before .loop-test)))
 
 loop-less : tie.Need-loop-less Inv-loop μ-loop
-loop-less c = fewer _ (omega (arith, c .before .before .before .loop-test))
+loop-less c = rw (c .before .before .before .others .ensures) (fewer _ (omega (arith, c .before .before .before .before .before .loop-test)))
 
 loop-again : tie.Need-loop-again Inv-loop μ-loop
-loop-again c = let l = c .before .before .before .before .loop in rw (c .either .ensures)
-    (passed-more (l .inv) (omega (arith, c .before .before .before .loop-test)) _ _ (c .before .gather-one .ensures .0) (c .before .gather-one .ensures .1))
+loop-again c = let l = c .before .before .before .before .before .before .loop in let g = rw (c .before .before .before .before .lowest .ensures) at (c .before .gather-one .ensures) in
+    rw (c .either .ensures, c .before .before .before .others .ensures) (passed-more (l .inv) (omega (arith, c .before .before .before .before .before .loop-test)) _ _ (g .0) (g .1))
 
 returns : tie.Need-returns Inv-loop μ-loop
 returns c = let l = c .before .loop in let q : l .rest ≡ 0 = omega (arith, c .loop-test) in passed-all (rw q at (l .inv))
 
 pub gather-spec : {M : Type 1} → statement M
 gather-spec = tie.close
-    (tie.spec Inv-loop μ-loop touched-requires cast-rest loop-holds cast-b gather-one-requires either-requires sub-rest add-passes
-    loop-less loop-again returns)
+    (tie.spec Inv-loop μ-loop touched-requires cast-rest loop-holds lowest-requires cast-b others-requires gather-one-requires
+    either-requires add-passes loop-less loop-again returns)
