@@ -1,5 +1,7 @@
 -- `gather` meets its contract.
-use mathlib.Core.Path.{_≡_}
+use Prim.Native.Nat.{ℕ}
+use mathlib.Core.Path.{_≡_, sym, subst}
+use mathlib.Core.Bool.{false}
 use native.Mathlib.Omega.{arith}
 use lib.Count.{trailing-le}
 use borrow.Author.Needs.{needs}
@@ -22,7 +24,8 @@ cast-rest : tie.Need-cast-rest Inv-loop μ-loop
 cast-rest c = search needs
 
 loop-holds : tie.Need-loop-holds Inv-loop μ-loop
-loop-holds c = rw (c .touched .ensures) (passed-none _ (mask-below _))
+loop-holds c = let t = own (c .before .before .args .task .now) in
+    subst (λ (rest : ℕ). Passed t t rest 0 false) (sym (c .touched .ensures)) (passed-none t (mask-below _))
 
 lowest-requires : tie.Need-lowest-requires Inv-loop μ-loop
 lowest-requires c κs = search needs
