@@ -1,12 +1,10 @@
 -- The blocks of a transaction, read, touched and copied.
-use Prim.Native.Nat.{ℕ, zero, suc, _+_, _%_, _<_}
+use Prim.Native.Nat.{ℕ, zero, suc, _+_, _<_}
 use mathlib.Core.Path.{_≡_, refl, sym, ap, _∙_}
 use mathlib.Core.Bool.{Bool, true, false, false≢true}
 use mathlib.Core.List.{List, _∷_}
 use native.Mathlib.Nat.{mod-eq-of-lt}
 use native.Mathlib.Omega.{arith}
-use lib.Bits.{bitOr}
-use lib.ListN.{length}
 use Rattle.model.specs.Lists.{at, replace}
 use Rattle.model.specs.Job.{Touched, untouched, remembered, copied}
 use Rattle.model.specs.Transaction.{rememberedOf}

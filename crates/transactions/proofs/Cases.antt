@@ -7,7 +7,7 @@ use lib.ListN.{replicate}
 use Rattle.model.specs.Lists.{at, replace}
 use Rattle.model.specs.Transaction.{touchedCount, takenBack}
 use Rattle.state.specs.Packed.{packed}
-use Rattle.state.specs.State.{Entries, Blocks, Own}
+use Rattle.state.specs.State.{Blocks, Own}
 use Rattle.state.specs.Held.{blocksFrom, blocksOf}
 use Rattle.exchanges.specs.Places.{Noted, noted}
 use Rattle.jobs.specs.Jobs.{job, counted, copied, enteredIn}

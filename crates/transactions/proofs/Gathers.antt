@@ -1,8 +1,8 @@
 -- Each pass gathers one touched block, or takes its old store back: the lowest of those that are left.
-use Prim.Native.Nat.{ℕ, zero, suc, _+_, _-_, _<_, _≤_}
+use Prim.Native.Nat.{ℕ, _+_, _-_, _<_}
 use mathlib.Core.Path.{_≡_, refl, sym, ap, _∙_}
 use mathlib.Core.Bool.{Bool, true, false, _||_}
-use mathlib.Core.List.{List, []}
+use mathlib.Core.List.{List}
 use native.Mathlib.Nat.{mod-lt}
 use native.Mathlib.Omega.{arith}
 use lib.Bits.{bitAnd}
@@ -10,16 +10,14 @@ use lib.Count.{trailingZeros}
 use lib.Dec.{lit<}
 use lib.ListN.{length}
 use Rattle.model.specs.Lists.{at}
-use Rattle.model.specs.Transaction.{touchedCount, spent?, takenBack}
+use Rattle.model.specs.Transaction.{takenBack}
 use Rattle.state.specs.Parts.{part}
 use Rattle.state.specs.State.{Own, own, withEntries, withCopies}
 use Rattle.state.specs.Held.{blocksOf}
 use Rattle.exchanges.specs.Places.{noted}
-use Rattle.jobs.specs.Jobs.{entered}
-use Rattle.transactions.specs.Blocks.{bankOf, slotAt, rememberedAt, touchedFrom, touchedBlocks, isSpent, newBank}
+use Rattle.transactions.specs.Blocks.{touchedFrom, touchedBlocks, spentAt, enteredBank, entering}
 use Rattle.transactions.specs.Blocks.{gathering, gatheredOne, gatheredOver, gatheredAll, takenOne, takingOne, takingBack}
 use Rattle.transactions.specs.Commits.{gatheredIn, Gathers}
-use Rattle.transactions.specs.declared.commits.Gathered.{Gathered}
 use Rattle.transactions.proofs.Mask.{lowest-first, fewer}
 use Rattle.transactions.proofs.Walks.{touched-few, counted, spentOver, spent-over, takenOver, taken-over}
 
@@ -34,15 +32,12 @@ pub record Passed (t u : Own) (rest n : ℕ) (spent : Bool) : Type 0 where
   pub task : u ≡ withEntries t (u .entries)
   pub entries : gatheredOver t (touchedFrom 16 rest 0) (gathering n (u .entries)) ≡ gatheredAll t
   pub passes : n + length (touchedFrom 16 rest 0) ≡ length (touchedBlocks t)
-  pub spent? : spent || spentOver (t .blocks) (touchedFrom 16 rest 0) ≡ spentOver (t .blocks) (touchedBlocks t)
+  pub spends : spent || spentOver (t .blocks) (touchedFrom 16 rest 0) ≡ spentOver (t .blocks) (touchedBlocks t)
 
 pub passed-none : (t : Own) → t .blocks .touched < 65536 → Passed t t (t .blocks .touched) 0 false
-passed-none t l = record { below = l; task = refl; entries = refl; passes = omega arith; spent? = refl }
+passed-none t l = record { below = l; task = refl; entries = refl; passes = omega arith; spends = refl }
 
 module _ {t u : Own} {rest n : ℕ} {spent : Bool} (f : Passed t u rest n spent) where
-  pub passed-few : n ≤ 16
-  passed-few = omega (arith, f .passes, touched-few 16 (t .blocks .touched) 0)
-
   -- ONE MORE PASS
   module _ (p : 0 < rest) where
     abbrev b : ℕ
@@ -59,8 +54,7 @@ module _ {t u : Own} {rest n : ℕ} {spent : Bool} (f : Passed t u rest n spent)
     or-assoc true y z = refl
     or-assoc false y z = refl
 
-    pub passed-more : (v : Own) (s : Bool) → s ≡ isSpent (slotAt u b) (rememberedAt u b)
-        → v ≡ entered u n (bankOf b) (rememberedAt u b) (newBank u (slotAt u b) (rememberedAt u b))
+    pub passed-more : (v : Own) (s : Bool) → s ≡ spentAt u b → v ≡ entering b n u
         → Passed t v left (n + 1) (spent || s)
     unfolding gatheredOver gatheredOne spentOver
     passed-more v s is e =
@@ -70,10 +64,10 @@ module _ {t u : Own} {rest n : ℕ} {spent : Bool} (f : Passed t u rest n spent)
         rw (e, is)
         (record {
           below = omega (arith, fewer rest p, f .below);
-          task = ap (λ (w : Own). entered w n (bankOf b) (rememberedAt u b) (newBank u (slotAt u b) (rememberedAt u b))) (f .task);
+          task = ap (λ (w : Own). withEntries w (enteredBank u b n (u .entries))) (f .task);
           entries = rw (blocks, copies) (rw lowest at (f .entries));
           passes = omega (arith, f .passes, ap length lowest);
-          spent? = or-assoc spent _ _ ∙ rw blocks (rw lowest at (f .spent?));
+          spends = or-assoc spent _ _ ∙ rw blocks (rw lowest at (f .spends));
         })
 
 or-none : (x : Bool) → x || false ≡ x
@@ -88,7 +82,7 @@ passed-all {t} {u} {n} {spent} f =
     record {
       entries = ap (noted n) (f .task) ∙ ap (gatheredIn t) (f .entries);
       passes = omega (arith, counted (t .blocks) 16 0);
-      spent = sym (or-none spent) ∙ f .spent? ∙ sym (spent-over (t .blocks) 16 0);
+      spent = sym (or-none spent) ∙ f .spends ∙ sym (spent-over (t .blocks) 16 0);
     }
 
 -- OLD STORES TAKEN BACK, those of the blocks of `rest` still to come

@@ -1,6 +1,6 @@
 -- The blocks of a transaction in the task's record: touched, gathered, and the old stores taken back.
 use Prim.Native.Nat.{ℕ, zero, suc, _+_, _*_, _-_, _/_, _%_, _^_}
-use mathlib.Core.Bool.{Bool, true, false}
+use mathlib.Core.Bool.{Bool, false}
 use mathlib.Core.List.{List, [], _∷_}
 use lib.Bits.{bitOr}
 use lib.Dec.{eqb}
@@ -9,7 +9,7 @@ use Rattle.model.specs.Lists.{at, replace}
 use Rattle.model.specs.Transaction.{takenBack}
 use Rattle.commands.specs.declared.Access.{Access}
 use Rattle.commands.specs.declared.Access.the-variants.{Get, Put}
-use Rattle.state.specs.State.{Entries, Blocks, Own, withCopies, setTouched, setSlot, setRemembered}
+use Rattle.state.specs.State.{Entries, Blocks, Own, withCopies, withEntries, setTouched, setSlot, setRemembered}
 use Rattle.state.specs.Held.{touchedIn, blocksOf}
 use Rattle.exchanges.specs.Places.{if}
 use Rattle.jobs.specs.Jobs.{enteredIn}
@@ -48,10 +48,20 @@ touchedBlocks t = touchedFrom 16 (t .blocks .touched) 0
 abbrev pub isSpent : ℕ → ℕ → Bool
 isSpent slot bank = if (eqb slot 0) false (eqb (bank / 256) lastVersion)
 
+abbrev pub spentAt : Own → ℕ → Bool
+spentAt t b = isSpent (slotAt t b) (rememberedAt t b)
+
 -- what the bank word of a touched block becomes
 abbrev pub newBank : Own → ℕ → ℕ → ℕ
 newBank t slot bank =
     if (eqb slot 0) bank (((bank / 256 * 256 + 256) % 4294967296 + at 0 (t .copies) (slot - 1)) % 4294967296)
+
+-- entry n is the bank word of block b of the task
+abbrev pub enteredBank : Own → ℕ → ℕ → Entries → Entries
+enteredBank t b n e = enteredIn e n (bankOf b) (rememberedAt t b) (newBank t (slotAt t b) (rememberedAt t b))
+
+abbrev pub entering : ℕ → ℕ → Own → Own
+entering b n t = withEntries t (enteredBank t b n (t .entries))
 
 -- the entries so far, and how many
 pub record Gathering : Type 0 where
@@ -63,9 +73,7 @@ gathering n e = record { count = n; entries = e }
 
 -- block b of the task is one more entry
 unfoldable pub gatheredOne : Own → ℕ → Gathering → Gathering
-gatheredOne t b g =
-    gathering (g .count + 1)
-    (enteredIn (g .entries) (g .count) (bankOf b) (rememberedAt t b) (newBank t (slotAt t b) (rememberedAt t b)))
+gatheredOne t b g = gathering (g .count + 1) (enteredBank t b (g .count) (g .entries))
 
 -- those blocks, one after another
 unfoldable pub gatheredOver : Own → List ℕ → Gathering → Gathering

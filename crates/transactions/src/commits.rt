@@ -6,14 +6,12 @@ ghost use lib.Bits.{bitAnd};
 ghost use lib.Count.{trailingZeros};
 ghost use Rattle.state.specs.State.{own};
 ghost use Rattle.exchanges.specs.Places.{noted};
-ghost use Rattle.jobs.specs.Jobs.{entered};
-ghost use Rattle.transactions.specs.Blocks.{bankOf, slotAt, rememberedAt, isSpent, newBank, takingOne, takingBack};
+ghost use Rattle.transactions.specs.Blocks.{isSpent, spentAt, newBank, entering, takingOne, takingBack};
 ghost use Rattle.transactions.specs.Commits.{Gathers, commitBy, committedBy};
 use crate::accesses;
 use commands::ceilings::SheetCeilings;
 use exchanges::exchange::Exchanged;
 use exchanges::exchange::Step;
-use exchanges::places;
 use jobs::Inner;
 use jobs::Job;
 use jobs::Phase;
@@ -43,7 +41,7 @@ fn new_bank(task: &Task, slot: u32, bank: u32) -> u32
 
 // Entry n is the bank word of block b; whether that block is spent.
 fn gather_one(task: &mut Task, b: u8, n: u8) -> bool
-    ensures { λ r. ⌜ (r ≡ isSpent (slotAt (own (now (task .entry))) b) (rememberedAt (own (now (task .entry))) b)) × (own (now (task .exit)) ≡ entered (own (now (task .entry))) n (bankOf b) (rememberedAt (own (now (task .entry))) b) (newBank (own (now (task .entry))) (slotAt (own (now (task .entry))) b) (rememberedAt (own (now (task .entry))) b))) ⌝ }
+    ensures { λ r. ⌜ (r ≡ spentAt (own (now (task .entry))) b) × (own (now (task .exit)) ≡ entering b n (own (now (task .entry)))) ⌝ }
 {
     let slot = task::slot(&*task, b);
     let bank = task::remembered(&*task, b);
@@ -97,8 +95,8 @@ fn gather(task: &mut Task) -> Gathered
     while rest != 0 {
         let b = lowest(rest) as u8;
         rest = others(rest);
-        let last = gather_one(&mut *task, b, passes);
-        spent = either(spent, last);
+        let spends = gather_one(&mut *task, b, passes);
+        spent = either(spent, spends);
         passes += 1;
     }
     Gathered { passes, spent }
