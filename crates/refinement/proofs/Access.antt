@@ -179,7 +179,8 @@ module _ (program : List BodyCommand) (size : length program ≡ 512) (end : ℕ
       ∙ read-tick m (bankOf (namedBlock c)) (omega (arith, shared .cells)) (shared .saves) Load))
       (first-read c h _))
 
-  access-by : (c : Access) → AccessFits c → (i : Bool) → touchedIn (t .blocks .touched) (namedBlock c) ≡ i → (k : ℕ) → slotAt t (namedBlock c) ≡ k
+  access-by : (c : Access) → AccessFits c → (i : Bool) → touchedIn (t .blocks .touched) (namedBlock c) ≡ i
+      → (k : ℕ) → slotAt t (namedBlock c) ≡ k
       → Goal (accessTick m t j c) (T.accessTick (memoryOf m) z x (viewAccess c) (touchedOf i k (rememberedAt t (namedBlock c))))
   unfolding T.accessTick accessTick
   access-by c f false i k e = first-access c (f .block) i

@@ -41,7 +41,7 @@ abbrev committing : Job
 committing = job (Transaction (Committing Start)) 0 6 3 2 1
 
 -- the slot of the block that was PUT takes its old store, whatever the block's number
-takes-one : takenOne blocks 2 (20 ∷ 21 ∷ 22 ∷ 23 ∷ []) ≡ 20 ∷ 9 ∷ 22 ∷ 23 ∷ []
+pub takes-one : takenOne blocks 2 (20 ∷ 21 ∷ 22 ∷ 23 ∷ []) ≡ 20 ∷ 9 ∷ 22 ∷ 23 ∷ []
 unfolding takenOne at replace
 takes-one = refl
 
@@ -59,14 +59,16 @@ unfolding touchedFrom
 touches-rising = refl
 
 -- one pass for each of the two, by rising number: block 0 as it is, block 2 with one version more in its copy's store
+abbrev sevens : List ℕ
+sevens = 7 ∷ 7 ∷ 7 ∷ []
+
 abbrev with-room : Own
 with-room =
     record {
       registers = [];
       kept = [];
       copies = 20 ∷ 21 ∷ [];
-      entries =
-          record { targets = 7 ∷ 7 ∷ 7 ∷ []; olds = 7 ∷ 7 ∷ 7 ∷ []; news = 7 ∷ 7 ∷ 7 ∷ []; inits = 7 ∷ 7 ∷ 7 ∷ []; overlapped = 7 ∷ 7 ∷ 7 ∷ [] };
+      entries = record { targets = sevens; olds = sevens; news = sevens; inits = sevens; overlapped = sevens };
       blocks = blocks;
       counts = [];
     }
@@ -95,7 +97,8 @@ attempt = record-of (1 ∷ 2 ∷ 3 ∷ 4 ∷ 5 ∷ 6 ∷ 7 ∷ 8 ∷ []) (20 ∷
 abbrev attempt-lost : Noted Job
 attempt-lost =
     noted (job (Transaction Between) 0 3 3 0 0)
-    (record-of (replicate 8 7) (20 ∷ []) (record { touched = 0; slots = 0 ∷ 1 ∷ 2 ∷ []; remembered = 775 ∷ 2825 ∷ 1033 ∷ [] }) (0 ∷ 0 ∷ 5 ∷ 0 ∷ []))
+    (record-of (replicate 8 7) (20 ∷ []) (record { touched = 0; slots = blocks .slots; remembered = blocks .remembered })
+    (0 ∷ 0 ∷ 5 ∷ 0 ∷ []))
 
 -- a no
 says-no : committedBy attempt committing (Ends false) ≡ attempt-lost

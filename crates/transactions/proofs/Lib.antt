@@ -1,4 +1,4 @@
-pub mod Cases
 pub mod Mask
 pub mod Walks
 pub mod Gathers
+pub mod Cases

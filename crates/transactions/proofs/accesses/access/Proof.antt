@@ -25,10 +25,10 @@ get-requires c κs = search needs
 
 returns : tie.Need-returns
 unfolding accessTick
-returns c = rw (
-  ← c .before .before .before .before .before .before .before .before .before .before .block .ensures,
-  ap (λ (m : ℕ). touchedIn m (c .before .before .before .before .before .before .before .before .before .before .block .result % 16)) (sym (c .before .before .before .before .before .before .before .before .touched .ensures))
-      ∙ sym (c .before .before .before .before .before .before .before .is-touched .ensures) ∙ c .before .before .before .before .before .before .if1 .taken,
+returns c = let d = c .before .before .before .before .before .before in rw (
+  ← d .before .before .before .before .block .ensures,
+  ap (λ (m : ℕ). touchedIn m (d .before .before .before .before .block .result % 16)) (sym (d .before .before .touched .ensures))
+      ∙ sym (d .before .is-touched .ensures) ∙ d .if1 .taken,
   c .before .before .before .before .access .given .1,
   ← c .get .ensures,
 )
@@ -44,10 +44,10 @@ copy-requires c κs = search needs
 
 returns-2 : tie.Need-returns-2
 unfolding accessTick
-returns-2 c = rw (
-  ← c .before .before .before .before .before .before .before .before .before .before .before .before .before .block .ensures,
-  ap (λ (m : ℕ). touchedIn m (c .before .before .before .before .before .before .before .before .before .before .before .before .before .block .result % 16)) (sym (c .before .before .before .before .before .before .before .before .before .before .before .touched .ensures))
-      ∙ sym (c .before .before .before .before .before .before .before .before .before .before .is-touched .ensures) ∙ c .before .before .before .before .before .before .before .before .before .if1 .taken,
+returns-2 c = let d = c .before .before .before .before .before .before .before .before .before in rw (
+  ← d .before .before .before .before .block .ensures,
+  ap (λ (m : ℕ). touchedIn m (d .before .before .before .before .block .result % 16)) (sym (d .before .before .touched .ensures))
+      ∙ sym (d .before .is-touched .ensures) ∙ d .if1 .taken,
   c .before .before .before .before .before .before .before .access2 .given .1,
   ← c .before .before .before .before .slot .ensures,
   eq-eqb _ _ (c .before .before .before .if2 .taken),
@@ -59,10 +59,10 @@ put-requires c κs = search needs
 
 returns-3 : tie.Need-returns-3
 unfolding accessTick
-returns-3 c = rw (
-  ← c .before .before .before .before .before .before .before .before .before .before .before .before .before .block .ensures,
-  ap (λ (m : ℕ). touchedIn m (c .before .before .before .before .before .before .before .before .before .before .before .before .before .block .result % 16)) (sym (c .before .before .before .before .before .before .before .before .before .before .before .touched .ensures))
-      ∙ sym (c .before .before .before .before .before .before .before .before .before .before .is-touched .ensures) ∙ c .before .before .before .before .before .before .before .before .before .if1 .taken,
+returns-3 c = let d = c .before .before .before .before .before .before .before .before .before in rw (
+  ← d .before .before .before .before .block .ensures,
+  ap (λ (m : ℕ). touchedIn m (d .before .before .before .before .block .result % 16)) (sym (d .before .before .touched .ensures))
+      ∙ sym (d .before .is-touched .ensures) ∙ d .if1 .taken,
   c .before .before .before .before .before .before .before .access2 .given .1,
   ← c .before .before .before .before .slot .ensures,
   ne-eqb _ _ (c .before .before .before .if2 .left),
@@ -80,10 +80,10 @@ first-read-requires c κs = search needs
 
 returns-4 : tie.Need-returns-4
 unfolding accessTick
-returns-4 c = rw (
-  ← c .before .before .before .before .before .before .before .before .before .block .ensures,
-  ap (λ (m : ℕ). touchedIn m (c .before .before .before .before .before .before .before .before .before .block .result % 16)) (sym (c .before .before .before .before .before .before .before .touched .ensures))
-      ∙ sym (c .before .before .before .before .before .before .is-touched .ensures) ∙ c .before .before .before .before .before .if1 .left,
+returns-4 c = let d = c .before .before .before .before .before in rw (
+  ← d .before .before .before .before .block .ensures,
+  ap (λ (m : ℕ). touchedIn m (d .before .before .before .before .block .result % 16)) (sym (d .before .before .touched .ensures))
+      ∙ sym (d .before .is-touched .ensures) ∙ d .if1 .left,
   ← c .before .before .before .bank .ensures,
   ← c .before .before .read-tick .ensures,
   ← c .first-read .ensures,

@@ -23,7 +23,10 @@ done-requires c κs = search needs
 
 returns : tie.Need-returns
 unfolding commitBy
-returns c = rw (nothing-touched (own (c .before .before .before .before .args .task .now) .blocks) (sym (c .before .before .touched .ensures) ∙ c .before .if1 .taken), ← c .done .ensures)
+returns c = let t = own (c .before .before .before .before .args .task .now) in rw (
+  nothing-touched (t .blocks) (sym (c .before .before .touched .ensures) ∙ c .before .if1 .taken),
+  ← c .done .ensures,
+)
 
 gather-requires : tie.Need-gather-requires
 gather-requires c κs = search needs
@@ -36,23 +39,25 @@ job-at-requires c κs = search needs
 
 returns-2 : tie.Need-returns-2
 unfolding commitBy
-returns-2 c = let g = c .before .before .before .before .gather .ensures in rw (
-  something-touched (own (c .before .before .before .before .before .before .before .before .before .args .task .now) .blocks) (omega (arith, c .before .before .before .before .before .before .before .touched .ensures, c .before .before .before .before .before .before .if1 .left)) (mask-below _),
-  ← g .spent,
-  c .before .before .before .if2 .taken,
-  ← c .job-at .ensures,
-  c .before .count .ensures,
-  ap (λ (w : Noted ℕ). w .task) (g .entries),
-)
+returns-2 c = let d = c .before .before .before .before .before .before in
+    let t = own (d .before .before .before .args .task .now) in let g = c .before .before .before .before .gather .ensures in rw (
+      something-touched (t .blocks) (omega (arith, d .before .touched .ensures, d .if1 .left)) (mask-below _),
+      ← g .spent,
+      c .before .before .before .if2 .taken,
+      ← c .job-at .ensures,
+      c .before .count .ensures,
+      ap (λ (w : Noted ℕ). w .task) (g .entries),
+    )
 
 returns-3 : tie.Need-returns-3
 unfolding commitBy
-returns-3 c = let j = c .before .before .before .before .before .before .args .job in let g = c .before .gather .ensures in rw (
-  something-touched (own (c .before .before .before .before .before .before .args .task .now) .blocks) (omega (arith, c .before .before .before .before .touched .ensures, c .before .before .before .if1 .left)) (mask-below _),
+returns-3 c = let d = c .before .before .before in let a = d .before .before .before .args in let g = c .before .gather .ensures in rw (
+  something-touched (own (a .task .now) .blocks) (omega (arith, d .before .touched .ensures, d .if1 .left)) (mask-below _),
   ← g .spent,
   c .if2 .left,
 )
-    (ap (λ (w : Noted ℕ). noted (job (Transaction (Committing Start)) (j .value) (j .at) (j .begin) (w .next) (j .used)) (w .task))
+    (let j = a .job in
+    ap (λ (w : Noted ℕ). noted (job (Transaction (Committing Start)) (j .value) (j .at) (j .begin) (w .next) (j .used)) (w .task))
     (g .entries))
 
 pub commit-spec : {M : Type 1} → statement M

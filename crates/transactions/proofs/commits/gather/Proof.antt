@@ -43,14 +43,17 @@ either-requires : tie.Need-either-requires Inv-loop μ-loop
 either-requires c κs = search needs
 
 add-passes : tie.Need-add-passes Inv-loop μ-loop
-add-passes c = let l = c .before .before .before .before .before .before .loop in omega (arith, passed-room (l .inv) (omega (arith, c .before .before .before .before .before .loop-test)))
+add-passes c = let d = c .before .before .before .before .before in
+    omega (arith, passed-room (d .before .loop .inv) (omega (arith, d .loop-test)))
 
 loop-less : tie.Need-loop-less Inv-loop μ-loop
-loop-less c = rw (c .before .before .before .others .ensures) (fewer _ (omega (arith, c .before .before .before .before .before .loop-test)))
+loop-less c = let d = c .before .before .before in rw (d .others .ensures) (fewer _ (omega (arith, d .before .before .loop-test)))
 
 loop-again : tie.Need-loop-again Inv-loop μ-loop
-loop-again c = let l = c .before .before .before .before .before .before .loop in let g = rw (c .before .before .before .before .lowest .ensures) at (c .before .gather-one .ensures) in
-    rw (c .either .ensures, c .before .before .before .others .ensures) (passed-more (l .inv) (omega (arith, c .before .before .before .before .before .loop-test)) _ _ (g .0) (g .1))
+loop-again c = let d = c .before .before .before in
+    let g = rw (d .before .lowest .ensures) at (c .before .gather-one .ensures) in
+    rw (c .either .ensures, d .others .ensures)
+    (passed-more (d .before .before .before .loop .inv) (omega (arith, d .before .before .loop-test)) _ _ (g .0) (g .1))
 
 returns : tie.Need-returns Inv-loop μ-loop
 returns c = let l = c .before .loop in let q : l .rest ≡ 0 = omega (arith, c .loop-test) in passed-all (rw q at (l .inv))

@@ -40,8 +40,9 @@ loop-less : tie.Need-loop-less Inv-loop μ-loop
 loop-less c = rw (c .others .ensures) (fewer _ (omega (arith, c .before .before .before .before .loop-test)))
 
 loop-again : tie.Need-loop-again Inv-loop μ-loop
-loop-again c = let l = c .before .before .before .before .before .loop in rw (c .others .ensures)
-    (taken-more (l .inv) (omega (arith, c .before .before .before .before .loop-test)) _ (rw (c .before .before .lowest .ensures) at (c .before .take-one .ensures)))
+loop-again c = let d = c .before .before in rw (c .others .ensures)
+    (taken-more (d .before .before .before .loop .inv) (omega (arith, d .before .before .loop-test)) _
+    (rw (d .lowest .ensures) at (c .before .take-one .ensures)))
 
 returns : tie.Need-returns Inv-loop μ-loop
 returns c = let l = c .before .loop in let q : l .left ≡ 0 = omega (arith, c .loop-test) in taken-all (rw q at (l .inv))
