@@ -6,20 +6,20 @@ use simulator::observer::{Cause, Fate, NoObserver, Statement};
 use simulator::report::render;
 use simulator::sheet::{parse, Sheet};
 use simulator::TOP_LIMIT;
-use tools::chart::record::{Done, Recording, Tick};
-use tools::chart::series::all_series;
-use tools::chart::statement::Kind;
-use tools::chart::subject::Subject;
 use tools::chart::{draw, Options};
 use tools::encode::encode;
 use tools::examples::folder;
+use tools::recording::series::all_series;
+use tools::recording::statement::Kind;
+use tools::recording::subject::Subject;
+use tools::recording::{Done, Recording, Tick};
 
 fn example(name: &str) -> Vec<u8> {
     std::fs::read(folder().join(format!("{name}.sheet"))).unwrap()
 }
 
 fn recording(sheet: &[u8]) -> Recording {
-    Recording::new(&parse(sheet).unwrap(), 0, TOP_LIMIT as u32 - 1)
+    Recording::new(&parse(sheet).unwrap(), TOP_LIMIT as u32, 0, TOP_LIMIT as u32 - 1)
 }
 
 fn all_done(recording: &Recording) -> impl Iterator<Item = &Done> {
@@ -43,7 +43,7 @@ fn a_recording_has_the_figures_of_the_report() {
     for sheet in good_sheets() {
         let mut machine = Machine::new(&sheet);
         machine.run(TOP_LIMIT as u32, &mut NoObserver);
-        let recording = Recording::new(&sheet, 0, TOP_LIMIT as u32 - 1);
+        let recording = Recording::new(&sheet, TOP_LIMIT as u32, 0, TOP_LIMIT as u32 - 1);
         assert_eq!(recording.run_ticks, machine.tick);
         assert_eq!(recording.ticks.len(), machine.tick as usize);
         for (task, counts) in machine.counts.iter().enumerate().take(sheet.bodies.len()) {
@@ -97,7 +97,7 @@ fn cause_at(statement: Statement) -> Cause {
 #[test]
 fn the_highest_task_with_a_job_runs_before_lower_ones() {
     for sheet in good_sheets() {
-        let recording = Recording::new(&sheet, 0, TOP_LIMIT as u32 - 1);
+        let recording = Recording::new(&sheet, TOP_LIMIT as u32, 0, TOP_LIMIT as u32 - 1);
         for tick in &recording.ticks {
             match &tick.done {
                 Some(done) => assert!(tick.preempted.iter().all(|task| *task < done.task)),
@@ -111,7 +111,7 @@ fn the_highest_task_with_a_job_runs_before_lower_ones() {
 fn p5_statement_by_statement() {
     let recording = recording(&example("worked/p5"));
     let shown = |done: &Done| {
-        let label = tools::chart::statement::label(done.statement);
+        let label = tools::recording::statement::label(done.statement);
         let subject = done.subject.map(|subject| format!(" {subject}")).unwrap_or_default();
         format!("{}: {label}{subject}", done.task)
     };

@@ -5,12 +5,12 @@ use std::ops::Range;
 use simulator::machine::Counts;
 
 use super::marks;
-use super::names::Names;
-use super::record::{Done, Recording, Tick};
-use super::series::Series;
-use super::statement::{kind, label};
-use super::subject::Subject;
 use super::svg::{shortened, text_width, Svg, TEXT_SIZE};
+use crate::names::Names;
+use crate::recording::series::Series;
+use crate::recording::statement::{kind, label};
+use crate::recording::subject::Subject;
+use crate::recording::{Done, Recording, Tick};
 
 pub const LEFT: f32 = 128.0;
 /// The room for a value that changes in the last tick of a band.

@@ -3,8 +3,8 @@
 use simulator::observer::Fate;
 
 use super::marks;
-use super::statement::Kind;
 use super::svg::Svg;
+use crate::recording::statement::Kind;
 
 const COLUMN_WIDTH: f32 = 303.0;
 const LINE_HEIGHT: f32 = 18.0;

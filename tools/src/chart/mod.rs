@@ -3,21 +3,19 @@
 mod band;
 mod legend;
 mod marks;
-pub mod names;
-pub mod record;
-pub mod series;
-pub mod statement;
 mod style;
-pub mod subject;
 mod svg;
 
 use simulator::sheet::{parse, Fault};
+use simulator::TOP_LIMIT;
 
 use band::{Band, CELL_WIDTH, LEFT, RIGHT};
-use names::Names;
-use record::Recording;
-use series::{all_series, Series};
 use svg::{text_width, Svg};
+
+use crate::names::Names;
+use crate::recording::series::{all_series, Series};
+use crate::recording::Recording;
+use crate::source::Source;
 
 /// What the caller may choose.
 #[derive(Clone, Debug)]
@@ -29,6 +27,9 @@ pub struct Options {
     /// How many ticks stand side by side.
     pub ticks_in_band: usize,
     pub names: Names,
+    /// The limit of ticks of the run.
+    pub limit: u32,
+    pub source: Source,
 }
 
 impl Default for Options {
@@ -39,6 +40,8 @@ impl Default for Options {
             last: 299,
             ticks_in_band: 60,
             names: Names::default(),
+            limit: TOP_LIMIT as u32,
+            source: Source::SecondSimulatorAlone,
         }
     }
 }
@@ -52,7 +55,7 @@ const NOTE_HEIGHT: f32 = 14.0;
 /// Draws the run of a sheet, or hands on the fault that turns the sheet down.
 pub fn draw(sheet: &[u8], options: &Options) -> Result<String, Fault> {
     let sheet = parse(sheet)?;
-    let recording = Recording::new(&sheet, options.first, options.last);
+    let recording = Recording::new(&sheet, options.limit, options.first, options.last);
     let (changing, unchanged): (Vec<Series>, Vec<Series>) =
         all_series(&recording).into_iter().partition(|series| !series.changes.is_empty());
 
@@ -63,7 +66,8 @@ pub fn draw(sheet: &[u8], options: &Options) -> Result<String, Fault> {
     let mut svg = Svg::new();
     svg.text("title", 4.0, 18.0, &options.title);
     svg.text("note", 4.0, 34.0, &range_note(&recording));
-    let mut top = 46.0;
+    svg.text("note", 4.0, 46.0, &options.source.sentence());
+    let mut top = 58.0;
     for start in (0..shown).step_by(in_band) {
         let ticks = start..shown.min(start + in_band);
         let (recording, names) = (&recording, &options.names);

@@ -1,6 +1,6 @@
 //! The chart's style sheet: text, lines and colours.
 
-use super::statement::Kind;
+use crate::recording::statement::Kind;
 
 const STYLE: &str = "
 text { font-family: Helvetica, Arial, 'Liberation Sans', 'DejaVu Sans', sans-serif;

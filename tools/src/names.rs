@@ -1,6 +1,6 @@
 //! Names that the caller gives to tasks, words and blocks.
 
-use super::subject::Subject;
+use crate::recording::subject::Subject;
 
 /// Pairs of a number as the text form writes it (t4, w1, b0) and a name.
 #[derive(Clone, Debug, Default)]

@@ -1,12 +1,15 @@
-//! What happened in each tick of a run, recorded for the chart.
+//! What happened in each tick of a run, recorded for the charts.
+
+pub mod series;
+pub mod statement;
+pub mod subject;
 
 use simulator::machine::{Counts, Machine};
 use simulator::observer::{Cause, Event, Fate, NoObserver, Observer, Statement};
 use simulator::sheet::{Block, Sheet};
 use simulator::transaction::{bank_word, store_of, version_of};
-use simulator::TOP_LIMIT;
 
-use super::subject::{Standing, Subject};
+use subject::{Standing, Subject};
 
 /// The words and blocks of the W and B lines.
 #[derive(Clone, Debug, PartialEq, Eq)]
@@ -56,20 +59,22 @@ pub struct Recording {
     pub first: u32,
     pub before: Contents,
     pub ticks: Vec<Tick>,
-    /// The ticks of the whole run with limit 65,535, and each task's counts of it.
+    /// The ticks of the whole run, and each task's counts of it.
     pub run_ticks: u32,
     pub counts: Vec<Counts>,
 }
 
 impl Recording {
-    /// Runs the sheet and records the ticks from `first` to `last`, as far as the run comes.
-    pub fn new(sheet: &Sheet, first: u32, last: u32) -> Recording {
-        let limit = TOP_LIMIT as u32;
+    /// Runs the sheet for at most `limit` ticks and records the ticks from `first` to `last`, as far as the run comes.
+    pub fn new(sheet: &Sheet, limit: u32, first: u32, last: u32) -> Recording {
         let mut machine = Machine::new(sheet);
         machine.run(first.min(limit), &mut NoObserver);
         let before = contents(&machine);
         let mut ticks = Vec::new();
-        for tick in machine.tick..=last.min(limit - 1) {
+        for tick in machine.tick..=last {
+            if tick == limit {
+                break;
+            }
             match record_tick(&mut machine, tick) {
                 Some(recorded) => ticks.push(recorded),
                 None => break,

@@ -2,8 +2,8 @@
 
 use simulator::sheet::Block;
 
-use super::record::{Contents, Recording};
 use super::subject::Subject;
+use super::{Contents, Recording};
 
 /// A new current value: after which recorded tick, in short, and in full where there is room.
 #[derive(Clone, Debug, PartialEq, Eq)]
