@@ -29,7 +29,7 @@ fn printed(name: &str) -> String {
 #[test]
 fn every_stored_file_is_made_from_its_text() {
     let names = names().unwrap();
-    assert_eq!(names.len(), 44);
+    assert_eq!(names.len(), 45);
     for name in names {
         for (path, bytes) in made_files(&name).unwrap() {
             let stored = fs::read(&path).unwrap();
