@@ -119,6 +119,20 @@ E 52                          52 ticks in all, none of them idle
     assert_eq!(example("worked/spent-after-stale"), expected);
 }
 
+/// Each sentence of the legend stands only where its word has a number above 0.
+#[test]
+fn the_legend_has_what_occurs() {
+    let legend = |counts: &str| {
+        let text = plain(&format!("T 0 0 {counts}\nE 9\n"));
+        text.lines().skip(3).map(str::to_string).collect::<Vec<String>>()
+    };
+    assert_eq!(legend("0 0 9 0"), [REGISTERS]);
+    assert_eq!(legend("1 0 9 0"), [REGISTERS, SPENT, TICKS]);
+    assert_eq!(legend("0 1 9 0"), [REGISTERS, LOST, TICKS]);
+    assert_eq!(legend("0 0 9 1"), [REGISTERS, DROPPED]);
+    assert_eq!(legend("2 2 9 2"), [REGISTERS, SPENT, LOST, TICKS, DROPPED]);
+}
+
 #[test]
 fn counts_of_none_and_one() {
     let task = |ticks: &str| format!("T 0 1 0 1 {ticks} 1\n");
