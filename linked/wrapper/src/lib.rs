@@ -139,8 +139,10 @@ pub fn run(sheet: &[u8], limit: u64, report: &mut [u8]) -> Answer {
 /// The report of a run in a buffer of its own.
 ///
 /// ```
-/// let sheet = [0x01, 0x00, 0x00, 0x00, 0x07, 0x05];
-/// assert_eq!(hizgrael::report(&sheet, 10).unwrap(), "W 0 7\nE 0\n");
+/// // A word with 7 in it, and a task that is never released.
+/// let sheet = [0x01, 0x00, 0x00, 0x00, 0x07, 0x03, 0x11, 0x00, 0x00, 0x05];
+/// let report = hizgrael::report(&sheet, 10).unwrap();
+/// assert_eq!(report, "W 0 7\nT 0 0 0 0 0 0\nR 0 0 0 0 0 0 0 0 0\nE 0\n");
 /// assert_eq!(hizgrael::report(&sheet, 65_536).unwrap_err().number, 9);
 /// ```
 #[cfg(feature = "std")]
