@@ -104,7 +104,7 @@ fn texts_that_cannot_be_read() {
             "WORD 4294967296",
             "line 1: WORD: 4294967296 is too large for a value, the largest is 4294967295",
         ),
-        ("TASK\nADD r0", "line 2: ADD takes 2 operand(s) (register, register), not 1"),
+        ("TASK\nADD r0", "line 2: ADD takes 2 operands (register, register), not 1"),
         (
             "TASK\nBYTE 17\nBYTE 0\nBYTE 0",
             "line 2: ADD must be written as a whole, not as bare bytes",

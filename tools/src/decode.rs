@@ -2,8 +2,11 @@
 
 use std::fmt;
 
+use crate::declared::Declared;
 use crate::explain::verdict;
-use crate::form::{row_of_byte, Row, BARE_BYTE};
+use crate::form::{row_of_byte, Operand, Row, BARE_BYTE};
+use crate::names::Names;
+use crate::recording::subject::Subject;
 
 /// A command found in the bytes.
 #[derive(Clone, Debug, PartialEq, Eq)]
@@ -25,16 +28,24 @@ impl Command {
 
     /// The command as the text form writes it.
     pub fn written(&self) -> String {
+        self.written_with(&Names::default())
+    }
+
+    /// The same with these names in place of numbers.
+    fn written_with(&self, names: &Names) -> String {
         let mut text = self.row.word.to_string();
         for (kind, &number) in self.row.operands.iter().zip(&self.operands) {
             text.push(' ');
-            text.push_str(&kind.written(number));
+            match kind.subject(number as usize).and_then(|subject| names.name(subject)) {
+                Some(name) => text.push_str(name),
+                None => text.push_str(&kind.written(number)),
+            }
         }
         text
     }
 }
 
-/// Why bytes cannot be turned into text.
+/// Why no command can be read.
 #[derive(Clone, Debug, PartialEq, Eq)]
 pub struct ByteFault {
     pub place: usize,
@@ -69,34 +80,45 @@ pub fn command_at(bytes: &[u8], place: usize) -> Result<Command, ByteFault> {
 
 /// The commands from the first byte up to END, or up to the last byte if no END comes.
 pub fn commands(bytes: &[u8]) -> Result<Vec<Command>, ByteFault> {
-    let mut commands = Vec::new();
-    let mut place = 0;
-    while place < bytes.len() {
-        let command = command_at(bytes, place)?;
-        place = command.end();
-        let last = command.is("END");
-        commands.push(command);
-        if last {
-            break;
-        }
+    match readable(bytes) {
+        (commands, None) => Ok(commands),
+        (_, Some(fault)) => Err(fault),
     }
-    Ok(commands)
 }
 
-/// The whole text. Bytes after END are no commands any more and become BYTE lines.
-pub fn decode(bytes: &[u8]) -> Result<String, ByteFault> {
-    let commands = commands(bytes)?;
+/// The commands up to END as far as they can be read, and why no more.
+fn readable(bytes: &[u8]) -> (Vec<Command>, Option<ByteFault>) {
+    let mut commands: Vec<Command> = Vec::new();
+    let mut place = 0;
+    while place < bytes.len() && !commands.last().is_some_and(|last| last.is("END")) {
+        match command_at(bytes, place) {
+            Ok(command) => {
+                place = command.end();
+                commands.push(command);
+            }
+            Err(fault) => return (commands, Some(fault)),
+        }
+    }
+    (commands, None)
+}
+
+/// The whole text. What is no command, and what follows END, becomes BYTE lines. Names that the text form
+/// cannot have are left out.
+pub fn decode(bytes: &[u8], names: &Names) -> String {
+    let (commands, fault) = readable(bytes);
     let end = commands.last().map_or(0, Command::end);
     let mut writer = Writer::default();
     for command in &commands {
-        writer.command(command);
+        writer.command(command, names);
     }
+    let mut comment = fault.map_or(String::new(), |fault| fault.reason);
     for (place, byte) in bytes.iter().enumerate().skip(end) {
-        writer.line(place, &format!("{BARE_BYTE} {byte}"), "");
+        writer.line(place, &format!("{BARE_BYTE} {byte}"), &comment);
+        comment.clear();
     }
     let line_of = |place| writer.line_of(place);
     let answer = verdict(bytes, line_of).to_string();
-    Ok(format!("{}# check: {answer}\n", writer.text))
+    format!("{}# check: {answer}\n", writer.text)
 }
 
 /// Comments start at this column where the command leaves room.
@@ -108,33 +130,36 @@ struct Writer {
     text: String,
     /// The place at which each line starts.
     places: Vec<usize>,
-    words: usize,
-    blocks: usize,
-    tasks: usize,
+    declared: Declared,
+    /// The names that stand in the text.
+    written: Names,
 }
 
 impl Writer {
-    fn command(&mut self, command: &Command) {
-        let comment = self.comment(command);
+    fn command(&mut self, command: &Command, names: &Names) {
         let indent = if command.row.stands_in_body() { "  " } else { "" };
-        self.line(command.place, &format!("{indent}{}", command.written()), &comment);
+        let mut content = format!("{indent}{}", command.written_with(&self.written));
+        let mut comment = String::new();
+        if let Some(subject) = self.declared.declare(command.row) {
+            comment = format!("{} {subject}", Operand::of(subject).0.name());
+            if let Some(name) = names.name(subject).filter(|name| self.take(subject, name)) {
+                content.push_str(&format!(" {name}"));
+                comment = subject.to_string();
+            }
+        } else if let ("PAIR", [word, old, new]) = (command.row.word, &command.operands[..]) {
+            comment = format!("w{word}: old in r{old}, new in r{new}");
+        }
+        self.line(command.place, &content, &comment);
     }
 
-    fn comment(&mut self, command: &Command) -> String {
-        let next = |counter: &mut usize| {
-            *counter += 1;
-            *counter - 1
-        };
-        match command.row.word {
-            "WORD" => format!("word w{}", next(&mut self.words)),
-            "BLOCK" => format!("block b{}", next(&mut self.blocks)),
-            "TASK" => format!("task t{}", next(&mut self.tasks)),
-            "PAIR" => {
-                let [word, old, new] = command.operands[..] else { return String::new() };
-                format!("w{word}: old in r{old}, new in r{new}")
-            }
-            _ => String::new(),
+    /// Can the text have this name? It cannot if it is no name there, or is somebody else's.
+    fn take(&mut self, subject: Subject, name: &str) -> bool {
+        let line = self.places.len() + 1;
+        let taken = self.declared.give(subject, name, line).is_ok();
+        if taken {
+            self.written.set(subject, name);
         }
+        taken
     }
 
     fn line(&mut self, place: usize, content: &str, comment: &str) {

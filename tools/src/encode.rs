@@ -1,13 +1,21 @@
 //! Text to bytes: one command a line, `#` opens a comment, blank lines are skipped.
 
 use std::fmt;
+use std::iter::Enumerate;
+use std::str;
 
+use crate::declared::{too_large, Declared};
 use crate::form::{row_of_word, Operand, Row, BARE_BYTE};
+use crate::names::Names;
+use crate::quote::{cut, quoted};
+use crate::recording::subject::Subject;
 
 /// The bytes of a text, and which line each of them comes from.
 #[derive(Clone, Debug, Default, PartialEq, Eq)]
 pub struct Encoded {
     pub bytes: Vec<u8>,
+    /// Those of the declarations; the bytes do not have them.
+    pub names: Names,
     /// For each line that gave bytes, the place of its first byte and the line number, from 1.
     lines: Vec<(usize, usize)>,
 }
@@ -42,10 +50,12 @@ pub struct Line {
     /// From 1.
     pub number: usize,
     pub byte: u8,
-    /// As they are written; an operand may be too large for its bytes in the sheet.
+    /// As they are written, names as their numbers; an operand may be too large for its bytes in the sheet.
     pub operands: Vec<u32>,
     /// The command of document 01; none for a bare byte.
     pub row: Option<&'static Row>,
+    /// What a declaration gives a name, and the name.
+    pub named: Option<(Subject, String)>,
 }
 
 impl Line {
@@ -63,12 +73,32 @@ impl Line {
     }
 }
 
-/// The lines with a command, one after another, up to the first that is none.
-pub fn lines(text: &str) -> impl Iterator<Item = Result<Line, TextFault>> + '_ {
-    let numbered = text.lines().enumerate().map(|(index, content)| (index + 1, content));
-    numbered.filter_map(|(number, content)| {
-        read_line(number, content).map_err(|reason| TextFault { line: number, reason }).transpose()
-    })
+/// The lines with a command, one after another.
+pub struct Lines<'a> {
+    rest: Enumerate<str::Lines<'a>>,
+    declared: Declared,
+}
+
+/// The lines of a text. A mark in front that says no more than that the text is UTF-8 is skipped.
+pub fn lines(text: &str) -> Lines<'_> {
+    let text = text.strip_prefix('\u{FEFF}').unwrap_or(text);
+    Lines { rest: text.lines().enumerate(), declared: Declared::default() }
+}
+
+impl Iterator for Lines<'_> {
+    type Item = Result<Line, TextFault>;
+
+    fn next(&mut self) -> Option<Result<Line, TextFault>> {
+        loop {
+            let (index, content) = self.rest.next()?;
+            let line = index + 1;
+            match self.read(line, content) {
+                Ok(None) => {}
+                Ok(Some(read)) => return Some(Ok(read)),
+                Err(reason) => return Some(Err(TextFault { line, reason })),
+            }
+        }
+    }
 }
 
 /// Encodes every line, or finds the first one at fault. Sheets that the check would refuse pass.
@@ -79,6 +109,9 @@ pub fn encode(text: &str) -> Result<Encoded, TextFault> {
         let bytes = line.bytes().map_err(|reason| TextFault { line: line.number, reason })?;
         encoded.lines.push((encoded.bytes.len(), line.number));
         encoded.bytes.extend(bytes);
+        if let Some((subject, name)) = line.named {
+            encoded.names.set(subject, &name);
+        }
     }
     Ok(encoded)
 }
@@ -90,67 +123,104 @@ pub fn encode_utf8(text: &[u8]) -> Result<Encoded, TextFault> {
 
 /// The text of a file, or its first line that is none.
 pub fn utf8(text: &[u8]) -> Result<&str, TextFault> {
-    std::str::from_utf8(text).map_err(|error| {
+    str::from_utf8(text).map_err(|error| {
         let before = &text[..error.valid_up_to()];
         let line = 1 + before.iter().filter(|byte| **byte == b'\n').count();
         TextFault { line, reason: "the line is no UTF-8 text".to_string() }
     })
 }
 
-fn read_line(number: usize, line: &str) -> Result<Option<Line>, String> {
-    let content = line.split('#').next().unwrap_or_default();
-    let mut parts = content.split_whitespace();
-    let Some(word) = parts.next() else { return Ok(None) };
-    let operands: Vec<&str> = parts.collect();
-    if word == BARE_BYTE {
-        let byte = read_operands(word, &[Operand::Byte], &operands)?[0];
-        let Ok(byte) = u8::try_from(byte) else {
-            return Err(format!("{word}: {}", too_large(Operand::Byte, operands[0])));
+impl Lines<'_> {
+    fn read(&mut self, number: usize, line: &str) -> Result<Option<Line>, String> {
+        let content = line.split('#').next().unwrap_or_default();
+        let mut parts = content.split_whitespace();
+        let Some(word) = parts.next() else { return Ok(None) };
+        let parts: Vec<&str> = parts.collect();
+        let read = if word == BARE_BYTE {
+            self.read_byte(number, &parts)
+        } else {
+            let row = row_of_word(word).ok_or_else(|| format!("{} is no command", quoted(word)))?;
+            self.read_command(number, row, &parts)
         };
-        return Ok(Some(Line { number, byte, operands: Vec::new(), row: None }));
+        read.map(Some)
     }
-    let Some(row) = row_of_word(word) else {
-        return Err(format!("'{word}' is no command"));
-    };
-    let operands = read_operands(word, row.operands, &operands)?;
-    Ok(Some(Line { number, byte: row.byte, operands, row: Some(row) }))
+
+    fn read_byte(&mut self, number: usize, parts: &[&str]) -> Result<Line, String> {
+        let byte = self.operands(BARE_BYTE, &[Operand::Byte], parts)?[0];
+        let Ok(byte) = u8::try_from(byte) else {
+            return Err(format!("{BARE_BYTE}: {}", too_large(Operand::Byte, parts[0])));
+        };
+        self.declared.take_bare_byte();
+        Ok(Line { number, byte, operands: Vec::new(), row: None, named: None })
+    }
+
+    fn read_command(
+        &mut self,
+        number: usize,
+        row: &'static Row,
+        parts: &[&str],
+    ) -> Result<Line, String> {
+        let (operands, name) = if row.declares() { split_name(row, parts)? } else { (parts, None) };
+        let operands = self.operands(row.word, row.operands, operands)?;
+        let mut named = None;
+        if let (Some(subject), Some(name)) = (self.declared.declare(row), name) {
+            let given = self.declared.give(subject, name, number);
+            given.map_err(|reason| format!("{}: {reason}", row.word))?;
+            named = Some((subject, name.to_string()));
+        }
+        Ok(Line { number, byte: row.byte, operands, row: Some(row), named })
+    }
+
+    fn operands(&self, word: &str, kinds: &[Operand], parts: &[&str]) -> Result<Vec<u32>, String> {
+        if parts.len() != kinds.len() {
+            return Err(format!("{word} takes {}, not {}", wanted(kinds), parts.len()));
+        }
+        let number = |(&kind, operand): (&Operand, &&str)| {
+            let number = self.declared.number_of(kind, operand);
+            number.map_err(|reason| format!("{word}: {reason}"))
+        };
+        kinds.iter().zip(parts).map(number).collect()
+    }
 }
 
-fn read_operands(word: &str, kinds: &[Operand], operands: &[&str]) -> Result<Vec<u32>, String> {
-    if operands.len() != kinds.len() {
-        let (wanted, given) = (kinds.len(), operands.len());
-        return Err(format!("{word} takes {wanted} operand(s){}, not {given}", listed(kinds)));
+/// The operands of a declaration, and the name behind them.
+fn split_name<'a>(
+    row: &Row,
+    parts: &'a [&'a str],
+) -> Result<(&'a [&'a str], Option<&'a str>), String> {
+    let wanted_count = row.operands.len();
+    let is_name = |part: &&str| part.starts_with(|first: char| first.is_alphabetic());
+    if parts.len() > wanted_count + 1 && is_name(&parts[wanted_count]) {
+        let name = cut(&parts[wanted_count..].join("-"));
+        return Err(format!("{}: a name has no spaces; write {name}", row.word));
     }
-    let number = |(&kind, operand): (&Operand, &&str)| {
-        number_of(kind, operand).map_err(|reason| format!("{word}: {reason}"))
-    };
-    kinds.iter().zip(operands).map(number).collect()
+    match parts.split_last() {
+        Some((name, operands)) if parts.len() == wanted_count + 1 => Ok((operands, Some(name))),
+        // Operands are missing: say how many, and not that the name is no number.
+        Some((name, operands)) if parts.len() <= wanted_count && is_name(name) => {
+            let (word, wanted, given) = (row.word, wanted(row.operands), operands.len());
+            Err(format!("{word} takes {wanted} before its name, not {given}"))
+        }
+        _ => Ok((parts, None)),
+    }
 }
 
-fn listed(kinds: &[Operand]) -> String {
-    let names: Vec<&str> = kinds.iter().map(|kind| kind.name()).collect();
-    if names.is_empty() {
-        String::new()
-    } else {
-        format!(" ({})", names.join(", "))
+/// How many operands, and which.
+fn wanted(kinds: &[Operand]) -> String {
+    let names: Vec<String> = kinds.chunk_by(PartialEq::eq).map(listed).collect();
+    match kinds.len() {
+        0 => "0 operands".to_string(),
+        1 => format!("1 operand ({})", names[0]),
+        count => format!("{count} operands ({})", names.join(", ")),
     }
 }
 
-fn number_of(kind: Operand, operand: &str) -> Result<u32, String> {
-    let digits = match kind.letter() {
-        Some(letter) => operand.strip_prefix(letter).unwrap_or_default(),
-        None => operand,
-    };
-    if digits.is_empty() || !digits.bytes().all(|byte| byte.is_ascii_digit()) {
-        return Err(match kind.letter() {
-            Some(letter) => format!("'{operand}' is no {}, as in {letter}0", kind.name()),
-            None => format!("'{operand}' is no decimal number ({})", kind.name()),
-        });
+/// Operands of one kind that stand side by side.
+fn listed(alike: &[Operand]) -> String {
+    let name = alike[0].name();
+    match alike.len() {
+        1 => name.to_string(),
+        2 => format!("{name}, {name}"),
+        count => format!("{count} {name}s"),
     }
-    digits.parse().map_err(|_| too_large(kind, operand))
-}
-
-fn too_large(kind: Operand, operand: &str) -> String {
-    let largest = kind.written(kind.largest());
-    format!("{operand} is too large for a {}, the largest is {largest}", kind.name())
 }

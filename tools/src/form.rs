@@ -2,6 +2,8 @@
 
 use simulator::sheet;
 
+use crate::recording::subject::Subject;
+
 /// What an operand means, which also fixes how it is written and how many bytes it takes.
 #[derive(Clone, Copy, Debug, PartialEq, Eq)]
 pub enum Operand {
@@ -67,7 +69,39 @@ impl Operand {
             None => number.to_string(),
         }
     }
+
+    /// The digits of an operand that is written as a number.
+    pub fn digits(self, text: &str) -> Option<&str> {
+        let digits = match self.letter() {
+            Some(letter) => text.strip_prefix(letter)?,
+            None => text,
+        };
+        let all = digits.bytes().all(|byte| byte.is_ascii_digit());
+        (all && !digits.is_empty()).then_some(digits)
+    }
+
+    /// The operand that stands for a word, a block or a task, and its number.
+    pub fn of(subject: Subject) -> (Operand, usize) {
+        match subject {
+            Subject::Word(number) => (Operand::Word, number),
+            Subject::Block(number) => (Operand::Block, number),
+            Subject::Task(number) => (Operand::Task, number),
+        }
+    }
+
+    /// What it numbers, if that can have a name.
+    pub fn subject(self, number: usize) -> Option<Subject> {
+        match self {
+            Operand::Word => Some(Subject::Word(number)),
+            Operand::Block => Some(Subject::Block(number)),
+            Operand::Task => Some(Subject::Task(number)),
+            _ => None,
+        }
+    }
 }
+
+/// The operands for which a name may stand.
+pub const NAMED: [Operand; 3] = [Operand::Word, Operand::Block, Operand::Task];
 
 /// One command of document 01.
 #[derive(Debug, PartialEq, Eq)]
@@ -85,6 +119,11 @@ impl Row {
 
     pub fn stands_in_body(&self) -> bool {
         self.byte >= sheet::LOAD
+    }
+
+    /// Does it declare something, which may have a name?
+    pub fn declares(&self) -> bool {
+        matches!(self.byte, sheet::WORD | sheet::BLOCK | sheet::TASK)
     }
 }
 
@@ -116,6 +155,11 @@ pub const BARE_BYTE: &str = "BYTE";
 
 pub fn row_of_word(word: &str) -> Option<&'static Row> {
     TABLE.iter().find(|row| row.word == word)
+}
+
+/// Does a line of the text form begin with it?
+pub fn is_command_word(word: &str) -> bool {
+    word == BARE_BYTE || row_of_word(word).is_some()
 }
 
 pub fn row_of_byte(byte: u8) -> Option<&'static Row> {

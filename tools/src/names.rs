@@ -1,35 +1,113 @@
-//! Names that the caller gives to tasks, words and blocks.
+//! Names of words, blocks and tasks: what a name may be in the text form, and who has which.
 
+use std::collections::BTreeMap;
+
+use crate::form::{is_command_word, Operand, NAMED};
+use crate::quote::quoted;
 use crate::recording::subject::Subject;
 
-/// Pairs of a number as the text form writes it (t4, w1, b0) and a name.
-#[derive(Clone, Debug, Default)]
-pub struct Names(Vec<(String, String)>);
+/// The longest name in the text form.
+pub const LONGEST_NAME: usize = 32;
+
+/// The names of words, blocks and tasks by their numbers.
+#[derive(Clone, Debug, Default, PartialEq, Eq)]
+pub struct Names {
+    words: BTreeMap<usize, String>,
+    blocks: BTreeMap<usize, String>,
+    tasks: BTreeMap<usize, String>,
+}
 
 impl Names {
-    /// Takes a text like `t4=guard`.
+    /// Gives a name, in place of one that was there.
+    pub fn set(&mut self, subject: Subject, name: &str) {
+        let (names, number) = match subject {
+            Subject::Word(number) => (&mut self.words, number),
+            Subject::Block(number) => (&mut self.blocks, number),
+            Subject::Task(number) => (&mut self.tasks, number),
+        };
+        names.insert(number, name.to_string());
+    }
+
+    /// Takes a text like `t4=guard`. Such a name is only shown, so it may be any text, with spaces too.
     pub fn add(&mut self, text: &str) -> Result<(), String> {
-        match text.split_once('=') {
-            Some((number, name)) if is_number(number) => {
-                self.0.push((number.to_string(), name.to_string()));
-                Ok(())
-            }
-            _ => Err(format!("'{text}' is no name, as in t4=guard")),
+        let wrong = |reason: &str| Err(format!("{} is no name, {reason}", quoted(text)));
+        let Some((number, name)) = text.split_once('=') else { return wrong("as in t4=guard") };
+        let Some(subject) = subject_of(number) else { return wrong("as in t4=guard") };
+        if name.trim().is_empty() {
+            return wrong("nothing stands behind the =");
         }
+        if name.chars().any(char::is_control) {
+            return wrong("it has a control character");
+        }
+        self.set(subject, name);
+        Ok(())
+    }
+
+    pub fn name(&self, subject: Subject) -> Option<&str> {
+        let name = match subject {
+            Subject::Word(number) => self.words.get(&number),
+            Subject::Block(number) => self.blocks.get(&number),
+            Subject::Task(number) => self.tasks.get(&number),
+        };
+        name.map(String::as_str)
     }
 
     /// The number, and the name behind it if there is one.
     pub fn of(&self, subject: Subject) -> String {
-        let number = subject.to_string();
-        match self.0.iter().find(|(key, _)| *key == number) {
-            Some((_, name)) => format!("{number} {name}"),
-            None => number,
+        match self.name(subject) {
+            Some(name) => format!("{subject} {name}"),
+            None => subject.to_string(),
         }
+    }
+
+    /// Is everything that has a name there, in a sheet with so many words, blocks and tasks?
+    pub fn check(&self, words: usize, blocks: usize, tasks: usize) -> Result<(), String> {
+        let kinds = [
+            (Operand::Word, &self.words, words),
+            (Operand::Block, &self.blocks, blocks),
+            (Operand::Task, &self.tasks, tasks),
+        ];
+        for (kind, names, count) in kinds {
+            if let Some((number, _)) = names.range(count..).next() {
+                return Err(not_there(kind, *number, count));
+            }
+        }
+        Ok(())
     }
 }
 
-/// A task, word or block as the text form writes it.
-fn is_number(text: &str) -> bool {
-    let digits = text.strip_prefix(['t', 'w', 'b']).unwrap_or_default();
-    !digits.is_empty() && digits.bytes().all(|byte| byte.is_ascii_digit())
+fn not_there(kind: Operand, number: usize, count: usize) -> String {
+    let letter = kind.letter().unwrap_or_default();
+    let there = match count {
+        0 => "none".to_string(),
+        1 => format!("1 ({letter}0)"),
+        _ => format!("{count} ({letter}0 to {letter}{})", count - 1),
+    };
+    format!("there is no {} {letter}{number}, the sheet has {there}", kind.name())
+}
+
+/// A word, block or task as the text form writes it: w0, b1, t4.
+fn subject_of(text: &str) -> Option<Subject> {
+    let number = |kind: Operand| kind.subject(kind.digits(text)?.parse().ok()?);
+    NAMED.into_iter().find_map(number)
+}
+
+/// Why a text can be no name in the text form, if it cannot.
+pub fn name_fault(text: &str) -> Option<String> {
+    let length = text.chars().count();
+    let foreign = |letter: &char| !(letter.is_ascii_alphanumeric() || "-_".contains(*letter));
+    let numbered = [Operand::Register, Operand::Word, Operand::Block, Operand::Task];
+    if !text.starts_with(|first: char| first.is_ascii_alphabetic()) {
+        Some("it must begin with a letter, a to z or A to Z".to_string())
+    } else if length > LONGEST_NAME {
+        Some(format!("it has {length} characters, the most is {LONGEST_NAME}"))
+    } else if let Some(letter) = text.chars().find(foreign) {
+        let letter = quoted(&letter.to_string());
+        Some(format!("{letter} may not stand in it, only a to z, A to Z, digits, - and _"))
+    } else if is_command_word(text) {
+        Some("it is the word of a command".to_string())
+    } else {
+        let number = numbered.into_iter().find(|kind| kind.digits(text).is_some());
+        number.map(|kind| format!("it is the number of a {}", kind.name()))
+    }
 }

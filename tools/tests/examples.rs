@@ -7,7 +7,7 @@ use std::fs;
 
 use lines::task_lines;
 use simulator::observer::NoObserver;
-use simulator::{check, run_observed, TOP_LIMIT};
+use simulator::{run_observed, TOP_LIMIT};
 use tools::decode::decode;
 use tools::encode::encode;
 use tools::examples::{folder, made_files, names};
@@ -29,7 +29,7 @@ fn printed(name: &str) -> String {
 #[test]
 fn every_stored_file_is_made_from_its_text() {
     let names = names().unwrap();
-    assert_eq!(names.len(), 44);
+    assert_eq!(names.len(), 45);
     for name in names {
         for (path, bytes) in made_files(&name).unwrap() {
             let stored = fs::read(&path).unwrap();
@@ -43,11 +43,8 @@ fn text_to_bytes_to_text_to_bytes() {
     for name in names().unwrap() {
         let bytes = encode(&text(&name)).unwrap().bytes;
         assert_eq!(bytes, sheet(&name), "{name}");
-        match decode(&bytes) {
-            Ok(decoded) => assert_eq!(encode(&decoded).unwrap().bytes, bytes, "{name}"),
-            // No command, or a cut one: no text but bare bytes.
-            Err(_) => assert!(matches!(check(&bytes).number, 1 | 2), "{name}"),
-        }
+        let encoded = encode(&text(&name)).unwrap();
+        assert_eq!(encode(&decode(&bytes, &encoded.names)).unwrap().bytes, bytes, "{name}");
     }
 }
 

@@ -53,9 +53,6 @@ fn faults_end_with_status_2_and_no_output() {
     let text = run(SHEET_TEXT, &["encode"], b"WORD 1\nWARD 2");
     assert_eq!((status(&text), text.stdout.len()), (2, 0));
     assert_eq!(message(&text), "line 2: 'WARD' is no command\n");
-    let bytes = run(SHEET_TEXT, &["decode"], &[3, 0xFF]);
-    assert_eq!((status(&bytes), bytes.stdout.len()), (2, 0));
-    assert_eq!(message(&bytes), "place 1: the byte FF names no command\n");
     for arguments in [&[][..], &["encode", "--chek"], &["turn"], &["decode", "--check"]] {
         let usage = run(SHEET_TEXT, arguments, b"");
         assert_eq!(status(&usage), 2);

@@ -11,6 +11,7 @@ use std::process::ExitCode;
 use tools::decode::decode;
 use tools::encode::encode_utf8;
 use tools::explain::verdict;
+use tools::names::Names;
 
 const USAGE: &str = "usage: sheet-text encode [--check] < TEXT > BYTES
        sheet-text decode < BYTES > TEXT";
@@ -42,7 +43,7 @@ fn encode_input(check: bool) -> Result<ExitCode, String> {
 }
 
 fn decode_input() -> Result<ExitCode, String> {
-    let text = decode(&input()?).map_err(|fault| fault.to_string())?;
+    let text = decode(&input()?, &Names::default());
     output(text.as_bytes())?;
     Ok(ExitCode::SUCCESS)
 }

@@ -1,0 +1,133 @@
+//! What the lines of a text have declared so far, and which number an operand stands for.
+
+use std::collections::HashMap;
+
+use simulator::sheet;
+
+use crate::form::{Operand, Row, NAMED};
+use crate::names::{name_fault, LONGEST_NAME};
+use crate::quote::{cut, quoted};
+use crate::recording::subject::Subject;
+
+/// Who has a name, and the line that says so.
+#[derive(Clone, Copy, Debug)]
+struct Named {
+    subject: Subject,
+    line: usize,
+}
+
+#[derive(Clone, Debug, Default)]
+pub struct Declared {
+    words: usize,
+    blocks: usize,
+    tasks: usize,
+    /// A name may stand once in each kind.
+    names: HashMap<String, Vec<Named>>,
+    bare_bytes: bool,
+}
+
+impl Declared {
+    /// Counts what the row declares, and returns it.
+    pub fn declare(&mut self, row: &Row) -> Option<Subject> {
+        let next = |count: &mut usize| {
+            *count += 1;
+            *count - 1
+        };
+        match row.byte {
+            sheet::WORD => Some(Subject::Word(next(&mut self.words))),
+            sheet::BLOCK => Some(Subject::Block(next(&mut self.blocks))),
+            sheet::TASK => Some(Subject::Task(next(&mut self.tasks))),
+            _ => None,
+        }
+    }
+
+    /// Bare bytes may declare something too: from here on nobody knows which number a declaration gets.
+    pub fn take_bare_byte(&mut self) {
+        self.bare_bytes = true;
+    }
+
+    /// Takes the name that a declaration in this line gives.
+    pub fn give(&mut self, subject: Subject, name: &str, line: usize) -> Result<(), String> {
+        if let Some(reason) = name_fault(name) {
+            return Err(format!("{} is no name: {reason}", quoted(name)));
+        }
+        if let Some(Named { subject, line }) = self.find(name, Operand::of(subject).0) {
+            return Err(format!("{} is already the name of {subject}, line {line}", quoted(name)));
+        }
+        if self.bare_bytes {
+            return Err("no name may stand here, behind a BYTE line".to_string());
+        }
+        self.names.entry(name.to_string()).or_default().push(Named { subject, line });
+        Ok(())
+    }
+
+    fn find(&self, name: &str, kind: Operand) -> Option<&Named> {
+        self.names.get(name)?.iter().find(|named| Operand::of(named.subject).0 == kind)
+    }
+
+    /// The number of an operand, which may be a name.
+    pub fn number_of(&self, kind: Operand, operand: &str) -> Result<u32, String> {
+        if let Some(digits) = kind.digits(operand) {
+            return digits.parse().map_err(|_| too_large(kind, operand));
+        }
+        match self.find(operand, kind) {
+            Some(named) => Ok(Operand::of(named.subject).1 as u32),
+            None => Err(self.no_number(kind, operand)),
+        }
+    }
+
+    fn no_number(&self, kind: Operand, operand: &str) -> String {
+        let (wanted, shown) = (kind.name(), quoted(operand));
+        if let Some(other) = self.names.get(operand).and_then(|named| named.first()) {
+            let (subject, found) = (other.subject, Operand::of(other.subject).0.name());
+            return format!("{shown} is a {found} ({subject}), and a {wanted} is wanted here");
+        }
+        match kind.letter() {
+            Some(_) if NAMED.contains(&kind) && name_fault(operand).is_none() => {
+                format!("no {wanted} is named {shown}{}", self.hint(kind, operand))
+            }
+            Some(letter) => format!("{shown} is no {wanted}, as in {letter}0"),
+            None => format!("{shown} is no decimal number ({wanted})"),
+        }
+    }
+
+    /// The name that was meant, if one is close.
+    fn hint(&self, kind: Operand, operand: &str) -> String {
+        let known = self.names.keys().filter(|name| self.find(name, kind).is_some());
+        let measured = known.map(|name| (distance(name, operand), name));
+        // By name where two are as close, so that the answer is always the same.
+        match measured.filter(|(distance, _)| *distance <= most_slips(operand)).min() {
+            Some((_, name)) => format!("; did you mean {name}?"),
+            None => String::new(),
+        }
+    }
+}
+
+/// How many slips a name may have and still be guessed.
+fn most_slips(name: &str) -> usize {
+    match name.len() {
+        0..=2 => 0,
+        3..=5 => 1,
+        _ => 2,
+    }
+}
+
+/// The letters to change, add or leave out to get from one name to the other; capitals do not count.
+fn distance(name: &str, other: &str) -> usize {
+    let mut row: [usize; LONGEST_NAME + 1] = std::array::from_fn(|index| index);
+    for (line, letter) in name.bytes().enumerate() {
+        let mut before = row[0];
+        row[0] = line + 1;
+        for (column, beside) in other.bytes().enumerate() {
+            let change = before + usize::from(!letter.eq_ignore_ascii_case(&beside));
+            before = row[column + 1];
+            row[column + 1] = change.min(before + 1).min(row[column] + 1);
+        }
+    }
+    row[other.len()]
+}
+
+pub fn too_large(kind: Operand, operand: &str) -> String {
+    let largest = kind.written(kind.largest());
+    format!("{} is too large for a {}, the largest is {largest}", cut(operand), kind.name())
+}
