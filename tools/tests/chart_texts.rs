@@ -219,6 +219,9 @@ fn what_cannot_be_drawn_is_refused_with_a_reason() {
     assert_eq!(refusal(&room, wide), reason);
     let limit = Options { limit: TOP_LIMIT as u32 + 1, ..options() };
     assert_eq!(draw(&room, &limit), Err(Refused::Sheet(Fault { number: 9, place: 0 })));
+    let names = names(&["t4=guard", "t5=nobody"]);
+    let reason = "there is no task t5, the sheet has 5 (t0 to t4)";
+    assert_eq!(refusal(&room, Options { names, ..options() }), reason);
     // The sheet's own faults come first.
     let both = Options { limit: TOP_LIMIT as u32 + 1, ticks_in_band: 0, ..options() };
     assert_eq!(refusal(&[0xFF], both), "X 1 0");

@@ -32,7 +32,7 @@ const NOTE_HEIGHT: f32 = 12.0;
 /// Draws the run of a sheet, or says why not.
 pub fn draw(sheet: &[u8], options: &Options) -> Result<String, Refused> {
     let sheet = parse(sheet)?;
-    options.check()?;
+    options.check(&sheet)?;
     let recording = Recording::new(&sheet, options.limit, options.first, options.last);
     options.check_range(recording.run_ticks)?;
     let (changing, unchanged): (Vec<Series>, Vec<Series>) =

@@ -2,7 +2,7 @@
 
 use std::fmt;
 
-use simulator::sheet::Fault;
+use simulator::sheet::{Fault, Sheet};
 use simulator::TOP_LIMIT;
 
 use crate::names::Names;
@@ -67,7 +67,7 @@ impl From<Fault> for Refused {
 
 impl Options {
     /// What can be judged before the run.
-    pub fn check(&self) -> Result<(), Refused> {
+    pub fn check(&self, sheet: &Sheet) -> Result<(), Refused> {
         let Options { first, last, ticks_in_band, limit, .. } = *self;
         if u64::from(limit) > TOP_LIMIT {
             return Err(Refused::Sheet(Fault { number: 9, place: 0 }));
@@ -82,7 +82,9 @@ impl Options {
         } else if last < first {
             format!("--last {last} comes before --first {first}")
         } else {
-            return Ok(());
+            let (words, blocks, tasks) =
+                (sheet.words.len(), sheet.blocks.len(), sheet.bodies.len());
+            return self.names.check(words, blocks, tasks).map_err(Refused::Options);
         };
         Err(Refused::Options(reason))
     }
