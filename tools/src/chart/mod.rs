@@ -100,5 +100,6 @@ fn unchanged_note(unchanged: &[Series], names: &Names, width: f32) -> Vec<String
             Some(_) => lines.push(item),
         }
     }
-    lines
+    // One item with a long name may be wider than the picture.
+    lines.iter().flat_map(|line| wrapped(line, NOTE_SIZE, width)).collect()
 }

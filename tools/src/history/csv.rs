@@ -106,7 +106,8 @@ fn line(fields: [String; 15]) -> String {
     fields.map(|field| quoted(&field)).join(",") + "\n"
 }
 
-/// In quotes where the field has a character that would end it.
+/// In quotes where the field has a character that would end it. Nothing is put in front of a field that a spreadsheet
+/// might take for a formula: only a task's name could begin so, one that the user has given with --name.
 fn quoted(field: &str) -> String {
     if field.contains([',', '"', '\n', '\r']) {
         format!("\"{}\"", field.replace('"', "\"\""))
