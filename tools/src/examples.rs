@@ -32,9 +32,8 @@ pub fn made_files(name: &str) -> io::Result<Vec<(PathBuf, Vec<u8>)>> {
     let sheet = encode(&text).map_err(|fault| io::Error::other(format!("{name}.txt, {fault}")))?;
     let mut files = Vec::new();
     if let Some(options) = chart_options(name) {
-        let picture = draw(&sheet.bytes, &options).map_err(|fault| {
-            io::Error::other(format!("{name}: X {} {}", fault.number, fault.place))
-        })?;
+        let picture = draw(&sheet.bytes, &options)
+            .map_err(|refused| io::Error::other(format!("{name}: {refused}")))?;
         files.push((file("svg"), picture.into_bytes()));
     }
     files.push((file("sheet"), sheet.bytes));

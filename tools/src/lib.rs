@@ -4,6 +4,7 @@
 //! its two directions; `names` are those of words, blocks and tasks; `explain` says in a sentence why
 //! the check turns a sheet down; `report` what a report's numbers mean; `quote` repeats a user's text.
 //! `recording` is what happened in each tick of a run; `chart` draws it as SVG, with its `source`.
+//! `history` lists the operations of a run as CSV and JSON.
 //! `examples` makes the stored files of examples/.
 
 pub mod chart;
@@ -13,6 +14,7 @@ pub mod encode;
 pub mod examples;
 pub mod explain;
 pub mod form;
+pub mod history;
 pub mod names;
 pub mod quote;
 pub mod recording;

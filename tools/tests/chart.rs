@@ -260,11 +260,6 @@ fn first_and_last_tick_cut_the_picture() {
     assert_eq!(cells_drawn(&part), 30);
     // Ticks 237 to 239 are idle.
     assert_eq!(cells_drawn(&whole), 279 - 3);
-    let beyond = Options { first: 1000, last: 2000, ..Options::default() };
-    assert!(draw(&sheet, &beyond).unwrap().contains("No ticks; the whole run has 279."));
-    let far_beyond = Options { first: u32::MAX, last: u32::MAX, ..Options::default() };
-    assert!(draw(&sheet, &far_beyond).unwrap().contains("No ticks; the whole run has 279."));
-    assert_eq!(draw(&[0xFF], &Options::default()).unwrap_err().number, 1);
 }
 
 /// The sizes of the words in the cells that had to be made smaller.

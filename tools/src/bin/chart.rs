@@ -7,7 +7,7 @@
 use std::io::{self, Read, Write};
 use std::process::ExitCode;
 
-use tools::chart::{draw, Options};
+use tools::chart::{draw, Options, Refused};
 use tools::explain::reason;
 
 const USAGE: &str = "usage: chart [--first TICK] [--last TICK] [--band TICKS] [--title TEXT]
@@ -33,7 +33,8 @@ fn draw_input() -> Result<ExitCode, String> {
             io::stdout().write_all(picture.as_bytes()).map_err(|error| error.to_string())?;
             Ok(ExitCode::SUCCESS)
         }
-        Err(fault) => {
+        Err(Refused::Options(reason)) => Err(reason),
+        Err(Refused::Sheet(fault)) => {
             eprintln!("X {} {}: {}", fault.number, fault.place, reason(&sheet, fault.into()));
             Ok(ExitCode::FAILURE)
         }

@@ -4,8 +4,9 @@ use std::ops::Range;
 
 use simulator::machine::Counts;
 
-use super::marks;
 use super::svg::{shortened, text_width, Svg, TEXT_SIZE};
+use super::values::{place, Placed, Side};
+use super::{marks, titles};
 use crate::names::Names;
 use crate::recording::series::Series;
 use crate::recording::statement::{kind, label};
@@ -13,7 +14,7 @@ use crate::recording::subject::Subject;
 use crate::recording::{Done, Recording, Tick};
 
 pub const LEFT: f32 = 128.0;
-/// The room for a value that changes in the last tick of a band.
+/// The room for most values that change in the last tick of a band.
 pub const RIGHT: f32 = 64.0;
 pub const CELL_WIDTH: f32 = 14.0;
 const CELL_HEIGHT: f32 = 48.0;
@@ -27,33 +28,65 @@ const BESIDE: f32 = 9.0;
 const ABOVE: f32 = 15.0;
 const BELOW: f32 = 8.0;
 const SERIES_HEIGHT: f32 = 14.0;
+/// What a further line of values adds.
+const VALUE_LINE: f32 = 10.0;
 
-/// Some ticks of the recording, to be drawn from `top` on.
-pub struct Band<'a> {
+/// What the bands of a picture have in common.
+pub struct Shared<'a> {
     pub recording: &'a Recording,
+    /// The words and blocks that change.
     pub series: &'a [Series],
     pub names: &'a Names,
-    pub ticks: Range<usize>,
-    pub top: f32,
     /// The width of the picture.
     pub width: f32,
 }
 
-impl Band<'_> {
+/// Some ticks of the recording, to be drawn from `top` on.
+pub struct Band<'a> {
+    shared: &'a Shared<'a>,
+    recording: &'a Recording,
+    ticks: Range<usize>,
+    top: f32,
+    /// For each of the series, its changes in this band.
+    placed: Vec<Vec<Placed<'a>>>,
+}
+
+impl<'a> Band<'a> {
+    pub fn new(shared: &'a Shared<'a>, ticks: Range<usize>, top: f32) -> Band<'a> {
+        let placed = Vec::new();
+        let mut band = Band { shared, recording: shared.recording, ticks, top, placed };
+        band.placed = shared.series.iter().map(|series| band.place(series)).collect();
+        band
+    }
+
+    fn place(&self, series: &'a Series) -> Vec<Placed<'a>> {
+        let shown = series.changes.iter().filter(|change| self.ticks.contains(&change.tick));
+        let marks: Vec<_> = shown.map(|change| (self.middle(change.tick), change)).collect();
+        place(&marks, LEFT, self.shared.width - 2.0)
+    }
+
     pub fn draw(&self, svg: &mut Svg) {
         self.draw_scale(svg);
         self.draw_idle(svg);
         for task in 0..self.recording.tasks {
             self.draw_row(svg, task);
         }
-        for (index, series) in self.series.iter().enumerate() {
-            let y = self.rows_end() + SERIES_HEIGHT * (index as f32 + 0.6);
-            self.draw_series(svg, series, y);
+        for (index, series) in self.shared.series.iter().enumerate() {
+            let y = self.series_top(index) + SERIES_HEIGHT * 0.6;
+            self.draw_series(svg, series, &self.placed[index], y);
         }
     }
 
     pub fn bottom(&self) -> f32 {
-        self.rows_end() + SERIES_HEIGHT * self.series.len() as f32
+        self.series_top(self.placed.len())
+    }
+
+    /// The upper edge of a series: those above it are as high as the lines of their values need.
+    fn series_top(&self, index: usize) -> f32 {
+        let lines =
+            |placed: &Vec<Placed>| placed.iter().map(|one| one.lines.len()).max().unwrap_or(1);
+        let height = |placed| SERIES_HEIGHT + VALUE_LINE * (lines(placed) - 1) as f32;
+        self.rows_end() + self.placed[..index].iter().map(height).sum::<f32>()
     }
 
     fn rows_start(&self) -> f32 {
@@ -67,6 +100,15 @@ impl Band<'_> {
     /// The left edge of a recorded tick's cell.
     fn x(&self, tick: usize) -> f32 {
         LEFT + CELL_WIDTH * (tick - self.ticks.start) as f32
+    }
+
+    /// The run's number of a recorded tick, and those of several.
+    fn number(&self, tick: usize) -> u32 {
+        self.recording.first + tick as u32
+    }
+
+    fn numbers(&self, ticks: &Range<usize>) -> Range<u32> {
+        self.number(ticks.start)..self.number(ticks.end)
     }
 
     fn middle(&self, tick: usize) -> f32 {
@@ -109,7 +151,7 @@ impl Band<'_> {
     fn draw_scale(&self, svg: &mut Svg) {
         svg.text("margin", 4.0, self.top + 10.0, "tick");
         for tick in self.ticks.clone() {
-            let number = self.recording.first as usize + tick;
+            let number = self.number(tick);
             if number.is_multiple_of(5) {
                 svg.text("number", self.middle(tick), self.top + 10.0, &number.to_string());
             }
@@ -126,8 +168,10 @@ impl Band<'_> {
         for run in runs(self.ticks.clone(), is_idle) {
             let width = CELL_WIDTH * run.len() as f32;
             let x = self.x(run.start);
-            svg.rectangle("idle", x, self.rows_start(), width, height);
-            self.draw_idle_text(svg, x + width / 2.0, run.len());
+            svg.titled(&titles::idle(self.numbers(&run)), |svg| {
+                svg.rectangle("idle", x, self.rows_start(), width, height);
+                self.draw_idle_text(svg, x + width / 2.0, run.len());
+            });
         }
     }
 
@@ -145,9 +189,14 @@ impl Band<'_> {
         let middle = top + self.cells_height(task) / 2.0;
         svg.line("row-line", (0.0, bottom), (self.x(self.ticks.end), bottom));
         self.draw_name(svg, task, middle);
+        let name = self.shared.names.of(Subject::Task(task));
         let preempted = |tick: usize| self.recording.ticks[tick].preempted.contains(&task);
         for run in runs(self.ticks.clone(), preempted) {
-            marks::preempted(svg, self.x(run.start), self.x(run.end), middle);
+            svg.titled(&titles::preempted(self.numbers(&run), &name), |svg| {
+                let (from, to) = (self.x(run.start), self.x(run.end));
+                svg.rectangle("hit", from, middle - BESIDE / 2.0, to - from, BESIDE);
+                marks::preempted(svg, from, to, middle);
+            });
         }
         for (tick, recorded) in self.recorded() {
             if let Some(done) = recorded.done.as_ref().filter(|done| done.task == task) {
@@ -157,7 +206,10 @@ impl Band<'_> {
             // One may arrive where one that waited starts: then they stand side by side.
             for (number, (_, fate)) in releases.enumerate() {
                 let x = self.x(tick) + BESIDE * number as f32;
-                marks::release(svg, *fate, x, top - 1.0);
+                svg.titled(&titles::release(self.number(tick), &name, *fate), |svg| {
+                    svg.rectangle("hit", x - BESIDE / 2.0, top - ABOVE, BESIDE, ABOVE);
+                    marks::release(svg, *fate, x, top - 1.0);
+                });
             }
         }
     }
@@ -165,7 +217,7 @@ impl Band<'_> {
     /// The task's name, and its totals below it.
     fn draw_name(&self, svg: &mut Svg, task: usize, middle: f32) {
         // The name is in bold, so it takes more room than its width says.
-        let name = shortened(&self.names.of(Subject::Task(task)), LEFT - 24.0);
+        let name = shortened(&self.shared.names.of(Subject::Task(task)), LEFT - 24.0);
         match self.totals(task) {
             None => svg.text("task", 4.0, middle + 3.0, &name),
             Some(totals) => {
@@ -176,6 +228,11 @@ impl Band<'_> {
     }
 
     fn draw_cell(&self, svg: &mut Svg, tick: usize, done: &Done) {
+        let title = titles::cell(self.number(tick), self.shared.names, done);
+        svg.titled(&title, |svg| self.draw_statement(svg, tick, done));
+    }
+
+    fn draw_statement(&self, svg: &mut Svg, tick: usize, done: &Done) {
         let (x, top) = (self.x(tick), self.cells_top(done.task));
         let kind = kind(done.statement);
         // A little smaller than the cell, so that neighbours do not cover its outline.
@@ -198,30 +255,34 @@ impl Band<'_> {
         }
     }
 
-    fn draw_series(&self, svg: &mut Svg, series: &Series, y: f32) {
-        let right = self.x(self.ticks.end);
-        let value = series.before(self.ticks.start);
-        let room = LEFT - 16.0 - text_width(value, TEXT_SIZE);
-        svg.text("margin", 4.0, y + 3.0, &shortened(&self.names.of(series.subject), room));
-        svg.fitted_text("value-before", LEFT - 6.0, y + 3.0, LEFT, value);
-        svg.line("level", (LEFT, y), (right, y));
-        let shown = series.changes.iter().filter(|change| self.ticks.contains(&change.tick));
-        let shown: Vec<_> = shown.collect();
-        for (index, change) in shown.iter().enumerate() {
-            let x = self.middle(change.tick);
-            let text_start = x + 6.0;
-            let text_end = match shown.get(index + 1) {
-                Some(next) => self.middle(next.tick) - 6.0,
-                None => self.width - 2.0,
-            };
-            let room = text_end - text_start;
-            let fits = text_width(&change.full, TEXT_SIZE) <= room;
-            let text = if fits { &change.full } else { &change.short };
-            let width = text_width(text, TEXT_SIZE).min(room);
-            marks::change(svg, x, y);
-            svg.rectangle("paper", text_start - 1.0, y - 5.0, width + 1.0, 10.0);
-            svg.fitted_text("value", text_start, y + 3.0, room, text);
+    fn draw_series(&self, svg: &mut Svg, series: &Series, placed: &[Placed], y: f32) {
+        let (recording, names, subject) = (self.recording, self.shared.names, series.subject);
+        svg.titled(&titles::before(recording, names, subject, self.ticks.start), |svg| {
+            let value = series.before(self.ticks.start);
+            let room = LEFT - 16.0 - text_width(value, TEXT_SIZE);
+            svg.text("margin", 4.0, y + 3.0, &shortened(&names.of(subject), room));
+            svg.fitted_text("value-before", LEFT - 6.0, y + 3.0, LEFT, value);
+        });
+        svg.line("level", (LEFT, y), (self.x(self.ticks.end), y));
+        for one in placed {
+            let title = titles::change(recording, names, subject, one.change.tick);
+            svg.titled(&title, |svg| draw_change(svg, one, y));
         }
+    }
+}
+
+/// The mark, and the lines of its text beside it.
+fn draw_change(svg: &mut Svg, placed: &Placed, y: f32) {
+    marks::change(svg, placed.mark, y);
+    let room = placed.to - placed.from;
+    let height = VALUE_LINE * placed.lines.len() as f32;
+    svg.rectangle("paper", placed.from - 1.0, y - 5.0, room + 1.0, height);
+    let (class, x) = match placed.side {
+        Side::Right => ("value", placed.from),
+        Side::Left => ("value-before", placed.to),
+    };
+    for (number, line) in placed.lines.iter().enumerate() {
+        svg.fitted_text(class, x, y + 3.0 + VALUE_LINE * number as f32, room, line);
     }
 }
 

@@ -4,6 +4,9 @@ use simulator::observer::Fate;
 
 use super::svg::Svg;
 
+/// Half a bar: so short that a commit's circle in the tick before does not touch it.
+const BAR: f32 = 2.8;
+
 /// A release at (x, y): an arrow where it starts a job, crossed out where it is dropped. One that
 /// waits stops at a bar, and its arrow comes from a bar where it starts at last.
 pub fn release(svg: &mut Svg, fate: Fate, x: f32, y: f32) {
@@ -11,16 +14,16 @@ pub fn release(svg: &mut Svg, fate: Fate, x: f32, y: f32) {
         Fate::Starts => arrow(svg, "arrow", x, y),
         Fate::Waits => {
             svg.line("arrow", (x, y - 12.0), (x, y - 4.0));
-            svg.line("bar", (x - 3.5, y - 3.5), (x + 3.5, y - 3.5));
+            svg.line("bar", (x - BAR, y - 3.5), (x + BAR, y - 3.5));
         }
         Fate::StartsAfterWaiting => {
-            svg.line("bar", (x - 3.5, y - 12.0), (x + 3.5, y - 12.0));
+            svg.line("bar", (x - BAR, y - 12.0), (x + BAR, y - 12.0));
             arrow(svg, "arrow", x, y);
         }
         Fate::Dropped => {
             arrow(svg, "dropped", x, y);
-            svg.line("cross", (x - 3.5, y - 12.0), (x + 3.5, y - 3.0));
-            svg.line("cross", (x - 3.5, y - 3.0), (x + 3.5, y - 12.0));
+            svg.line("cross", (x - BAR, y - 12.0), (x + BAR, y - 3.0));
+            svg.line("cross", (x - BAR, y - 3.0), (x + BAR, y - 12.0));
         }
     }
 }

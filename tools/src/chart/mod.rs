@@ -3,84 +3,79 @@
 mod band;
 mod legend;
 mod marks;
+mod options;
 mod style;
 mod svg;
+mod titles;
+mod values;
 
-use simulator::sheet::{parse, Fault};
-use simulator::TOP_LIMIT;
+pub use options::{Options, Refused, MOST_IN_BAND, MOST_TICKS};
 
-use band::{Band, CELL_WIDTH, LEFT, RIGHT};
-use svg::{text_width, Svg};
+use simulator::sheet::parse;
+
+use band::{Band, Shared, CELL_WIDTH, LEFT, RIGHT};
+use svg::{text_width, wrapped, Svg};
 
 use crate::names::Names;
 use crate::recording::series::{all_series, Series};
 use crate::recording::Recording;
-use crate::source::Source;
-
-/// What the caller may choose.
-#[derive(Clone, Debug)]
-pub struct Options {
-    pub title: String,
-    /// The first and the last tick shown, as far as the run comes.
-    pub first: u32,
-    pub last: u32,
-    /// How many ticks stand side by side.
-    pub ticks_in_band: usize,
-    pub names: Names,
-    /// The limit of ticks of the run.
-    pub limit: u32,
-    pub source: Source,
-}
-
-impl Default for Options {
-    fn default() -> Options {
-        Options {
-            title: "A run, one statement a tick".to_string(),
-            first: 0,
-            last: 299,
-            ticks_in_band: 60,
-            names: Names::default(),
-            limit: TOP_LIMIT as u32,
-            source: Source::SecondSimulatorAlone,
-        }
-    }
-}
 
 /// A shorter run still leaves room for two columns of the legend.
 const FEWEST_CELLS: usize = 32;
 const BAND_GAP: f32 = 22.0;
+const MARGIN: f32 = 4.0;
+const TITLE_SIZE: f32 = 13.0;
+const TITLE_HEIGHT: f32 = 16.0;
 const NOTE_SIZE: f32 = 9.5;
-const NOTE_HEIGHT: f32 = 14.0;
+const NOTE_HEIGHT: f32 = 12.0;
 
-/// Draws the run of a sheet, or hands on the fault that turns the sheet down.
-pub fn draw(sheet: &[u8], options: &Options) -> Result<String, Fault> {
+/// Draws the run of a sheet, or says why not.
+pub fn draw(sheet: &[u8], options: &Options) -> Result<String, Refused> {
     let sheet = parse(sheet)?;
+    options.check(&sheet)?;
     let recording = Recording::new(&sheet, options.limit, options.first, options.last);
+    options.check_range(recording.run_ticks)?;
     let (changing, unchanged): (Vec<Series>, Vec<Series>) =
         all_series(&recording).into_iter().partition(|series| !series.changes.is_empty());
 
     let shown = recording.ticks.len();
-    let in_band = options.ticks_in_band.max(1);
+    let in_band = options.ticks_in_band;
     let cells = in_band.min(shown).max(FEWEST_CELLS);
     let width = LEFT + CELL_WIDTH * cells as f32 + RIGHT;
+    let names = &options.names;
+    let shared = Shared { recording: &recording, series: &changing, names, width };
     let mut svg = Svg::new();
-    svg.text("title", 4.0, 18.0, &options.title);
-    svg.text("note", 4.0, 34.0, &range_note(&recording));
-    svg.text("note", 4.0, 46.0, &options.source.sentence());
-    let mut top = 58.0;
+    let mut top = draw_head(&mut svg, &recording, options, width);
     for start in (0..shown).step_by(in_band) {
-        let ticks = start..shown.min(start + in_band);
-        let (recording, names) = (&recording, &options.names);
-        let band = Band { recording, series: &changing, names, ticks, top, width };
+        let band = Band::new(&shared, start..shown.min(start + in_band), top);
         band.draw(&mut svg);
         top = band.bottom() + BAND_GAP;
     }
-    for line in unchanged_note(&unchanged, &options.names, width - 8.0) {
-        svg.text("note", 4.0, top, &line);
-        top += NOTE_HEIGHT;
+    for line in unchanged_note(&unchanged, names, width - 2.0 * MARGIN) {
+        svg.text("note", MARGIN, top, &line);
+        top += NOTE_HEIGHT + 2.0;
     }
-    let height = legend::draw(&mut svg, top, width) + 4.0;
+    let height = legend::draw(&mut svg, top, width) + MARGIN;
     Ok(svg.finish(width, height, &style::style()))
+}
+
+/// Title, range and source, each in as many lines as it needs; returns where the first band begins.
+fn draw_head(svg: &mut Svg, recording: &Recording, options: &Options, width: f32) -> f32 {
+    let room = width - 2.0 * MARGIN;
+    let mut y = 2.0;
+    // Bold letters are wider than their width says.
+    for line in wrapped(&options.title, TITLE_SIZE, room * 0.95) {
+        y += TITLE_HEIGHT;
+        svg.text("title", MARGIN, y, &line);
+    }
+    y += MARGIN;
+    for note in [range_note(recording), options.source.sentence()] {
+        for line in wrapped(&note, NOTE_SIZE, room) {
+            y += NOTE_HEIGHT;
+            svg.text("note", MARGIN, y, &line);
+        }
+    }
+    y + NOTE_HEIGHT
 }
 
 fn range_note(recording: &Recording) -> String {
@@ -105,5 +100,6 @@ fn unchanged_note(unchanged: &[Series], names: &Names, width: f32) -> Vec<String
             Some(_) => lines.push(item),
         }
     }
-    lines
+    // One item with a long name may be wider than the picture.
+    lines.iter().flat_map(|line| wrapped(line, NOTE_SIZE, width)).collect()
 }

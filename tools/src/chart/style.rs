@@ -28,6 +28,7 @@ text { font-family: Helvetica, Arial, 'Liberation Sans', 'DejaVu Sans', sans-ser
 .back { stroke: #000; stroke-width: 1.2; }
 .back-head, .job-end { fill: #000; }
 .preempted { stroke: #555; stroke-width: 1.4; stroke-dasharray: 2 3; }
+.hit { fill: none; pointer-events: all; }
 .level { stroke: #999; stroke-width: 0.8; }
 ";
 

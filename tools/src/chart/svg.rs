@@ -18,6 +18,14 @@ impl Svg {
         let _ = writeln!(self.elements, "{element}");
     }
 
+    /// What is drawn here shows the title where the pointer rests on it.
+    pub fn titled(&mut self, title: &str, draw: impl FnOnce(&mut Svg)) {
+        let title = escaped(title);
+        self.element(format_args!("<g><title>{title}</title>"));
+        draw(self);
+        self.element(format_args!("</g>"));
+    }
+
     pub fn rectangle(&mut self, class: &str, x: f32, y: f32, width: f32, height: f32) {
         self.element(format_args!(
             r#"<rect class="{class}" x="{x}" y="{y}" width="{width}" height="{height}"/>"#
@@ -112,11 +120,32 @@ pub fn text_width(text: &str, size: f32) -> f32 {
         'w' => 0.82,
         'm' | 'M' | 'W' => 0.99,
         'A'..='Z' => 0.72,
-        _ => 0.64,
+        ' '..='~' => 0.64,
+        _ => 1.0,
     };
     size * text.chars().map(width).sum::<f32>()
 }
 
+/// The text in lines that fit the room, broken between words; a word that does not fit is broken too.
+pub fn wrapped(text: &str, size: f32, room: f32) -> Vec<String> {
+    let mut lines = vec![String::new()];
+    for letter in text.chars() {
+        let last = lines.len() - 1;
+        if text_width(&lines[last], size) + text_width(letter.encode_utf8(&mut [0; 4]), size) > room
+        {
+            let break_at = lines[last].rfind(' ').map_or(lines[last].len(), |space| space + 1);
+            let rest = lines[last].split_off(break_at);
+            lines.push(rest);
+        }
+        if let Some(line) = lines.last_mut() {
+            line.push(letter);
+        }
+    }
+    lines.iter().map(|line| line.trim_end().to_string()).collect()
+}
+
+/// The text as XML has it: control characters, which it may not hold, are replaced.
 fn escaped(text: &str) -> String {
-    text.replace('&', "&amp;").replace('<', "&lt;").replace('>', "&gt;")
+    let text = text.replace('&', "&amp;").replace('<', "&lt;").replace('>', "&gt;");
+    text.replace(|letter: char| letter.is_control() && letter != '\n', "\u{FFFD}")
 }

@@ -1,0 +1,117 @@
+//! The table of operations as CSV.
+
+use simulator::sheet::Command;
+
+use super::rows::{cause, Arguments, Row, Table};
+use crate::recording::subject::Subject;
+use crate::source::Source;
+
+/// The columns' names, from left to right.
+pub const COLUMNS: [&str; 15] = [
+    "number",
+    "task",
+    "task_name",
+    "operation",
+    "first_tick",
+    "last_tick",
+    "own_ticks",
+    "arguments",
+    "answers",
+    "outcome",
+    "lost_attempts",
+    "commit_tick",
+    "order",
+    "order_tick",
+    "source",
+];
+
+/// What stands between several arguments, answers or attempts in one field.
+const BETWEEN: &str = "; ";
+
+pub fn write(table: &Table, source: &Source) -> String {
+    let mut text = line(COLUMNS.map(str::to_string));
+    for (number, row) in table.rows.iter().enumerate() {
+        text += &line(fields(table, number, row, source));
+    }
+    text
+}
+
+fn fields(table: &Table, number: usize, row: &Row, source: &Source) -> [String; 15] {
+    let name = table.names.name(Subject::Task(row.task)).unwrap_or_default();
+    [
+        number.to_string(),
+        row.task.to_string(),
+        name.to_string(),
+        row.arguments.operation().to_string(),
+        row.first_tick.to_string(),
+        optional(row.last_tick),
+        row.own_ticks.to_string(),
+        arguments(table, &row.arguments),
+        joined(row.answers.iter().map(u32::to_string)),
+        row.outcome.to_string(),
+        joined(row.lost.iter().map(|lost| format!("{} {}", lost.tick, cause(lost)))),
+        optional(row.commit_tick),
+        optional(row.order.map(|place| place.number)),
+        optional(row.order.map(|place| place.tick)),
+        short(source),
+    ]
+}
+
+/// A line of a table travels without its head, so each says where it comes from.
+fn short(source: &Source) -> String {
+    match source {
+        Source::Compared { version } => format!("compared with hizgrael {version}"),
+        Source::SecondSimulatorAlone => "NOT PROVED".to_string(),
+    }
+}
+
+fn optional<T: ToString>(value: Option<T>) -> String {
+    value.map(|value| value.to_string()).unwrap_or_default()
+}
+
+fn joined(parts: impl Iterator<Item = String>) -> String {
+    parts.collect::<Vec<String>>().join(BETWEEN)
+}
+
+fn arguments(table: &Table, arguments: &Arguments) -> String {
+    let word = |word: u8| table.names.of(Subject::Word(word.into()));
+    match arguments {
+        Arguments::Read { word: number } => word(*number),
+        Arguments::Swap { pairs } => joined(
+            pairs.iter().map(|pair| format!("{}: {} -> {}", word(pair.word), pair.old, pair.new)),
+        ),
+        Arguments::Transaction { registers, gets_and_puts } => {
+            let registers = registers.map(|value| value.to_string()).join(" ");
+            let commands = gets_and_puts.iter().map(|command| get_or_put(table, command));
+            joined(std::iter::once(format!("registers {registers}")).chain(commands))
+        }
+    }
+}
+
+fn get_or_put(table: &Table, command: &Command) -> String {
+    let block = |block: u8| table.names.of(Subject::Block(block.into()));
+    match *command {
+        Command::Get { register, block: number, offset } => {
+            format!("GET r{register} {} at {offset}", block(number))
+        }
+        Command::Put { block: number, offset, register } => {
+            format!("PUT {} at {offset} from r{register}", block(number))
+        }
+        // The table has no other commands.
+        _ => String::new(),
+    }
+}
+
+fn line(fields: [String; 15]) -> String {
+    fields.map(|field| quoted(&field)).join(",") + "\n"
+}
+
+/// In quotes where the field has a character that would end it. Nothing is put in front of a field that a spreadsheet
+/// might take for a formula: only a task's name could begin so, one that the user has given with --name.
+fn quoted(field: &str) -> String {
+    if field.contains([',', '"', '\n', '\r']) {
+        format!("\"{}\"", field.replace('"', "\"\""))
+    } else {
+        field.to_string()
+    }
+}
