@@ -2,8 +2,6 @@
 
 use std::collections::HashMap;
 
-use simulator::sheet;
-
 use crate::form::{Operand, Row, NAMED};
 use crate::names::{name_fault, LONGEST_NAME};
 use crate::quote::{cut, quoted};
@@ -29,16 +27,14 @@ pub struct Declared {
 impl Declared {
     /// Counts what the row declares, and returns it.
     pub fn declare(&mut self, row: &Row) -> Option<Subject> {
-        let next = |count: &mut usize| {
-            *count += 1;
-            *count - 1
+        let kind = row.declares()?;
+        let count = match kind {
+            Operand::Word => &mut self.words,
+            Operand::Block => &mut self.blocks,
+            _ => &mut self.tasks,
         };
-        match row.byte {
-            sheet::WORD => Some(Subject::Word(next(&mut self.words))),
-            sheet::BLOCK => Some(Subject::Block(next(&mut self.blocks))),
-            sheet::TASK => Some(Subject::Task(next(&mut self.tasks))),
-            _ => None,
-        }
+        *count += 1;
+        kind.subject(*count - 1)
     }
 
     /// Bare bytes may declare something too: from here on nobody knows which number a declaration gets.

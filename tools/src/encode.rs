@@ -79,7 +79,7 @@ pub struct Lines<'a> {
     declared: Declared,
 }
 
-/// The lines of a text. A mark in front that says no more than that the text is UTF-8 is skipped.
+/// The lines of a text. A byte order mark in front, as some editors write it, is skipped.
 pub fn lines(text: &str) -> Lines<'_> {
     let text = text.strip_prefix('\u{FEFF}').unwrap_or(text);
     Lines { rest: text.lines().enumerate(), declared: Declared::default() }
@@ -160,7 +160,10 @@ impl Lines<'_> {
         row: &'static Row,
         parts: &[&str],
     ) -> Result<Line, String> {
-        let (operands, name) = if row.declares() { split_name(row, parts)? } else { (parts, None) };
+        let (operands, name) = match row.declares() {
+            Some(_) => split_name(row, parts)?,
+            None => (parts, None),
+        };
         let operands = self.operands(row.word, row.operands, operands)?;
         let mut named = None;
         if let (Some(subject), Some(name)) = (self.declared.declare(row), name) {

@@ -121,9 +121,14 @@ impl Row {
         self.byte >= sheet::LOAD
     }
 
-    /// Does it declare something, which may have a name?
-    pub fn declares(&self) -> bool {
-        matches!(self.byte, sheet::WORD | sheet::BLOCK | sheet::TASK)
+    /// What it declares, which may have a name.
+    pub fn declares(&self) -> Option<Operand> {
+        match self.byte {
+            sheet::WORD => Some(Operand::Word),
+            sheet::BLOCK => Some(Operand::Block),
+            sheet::TASK => Some(Operand::Task),
+            _ => None,
+        }
     }
 }
 

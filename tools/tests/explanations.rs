@@ -133,6 +133,26 @@ fn pairs_and_releases() {
     );
 }
 
+/// With the largest numbers that an operand can have.
+#[test]
+fn reasons_stay_short() {
+    let cases = [
+        "BLOCK 4294967295 0 0 0 0 0 0 0 0",
+        "TASK\nLOAD r255 4294967295",
+        "TASK\nREAD r0 w255",
+        "TASK\nADD r0 r0\nRELEASE 65535 t0\nRELEASE 65535 t0",
+        "TASK a-name-of-32-letters-in-this-tex\nBEGIN\nEND",
+    ];
+    for text in cases {
+        let encoded = encode(text).unwrap();
+        let reason = reason(&encoded.bytes, check(&encoded.bytes));
+        assert!((1..=LONGEST_REASON).contains(&reason.len()), "{reason}");
+    }
+}
+
+/// In letters: a line of a terminal, and some.
+const LONGEST_REASON: usize = 100;
+
 #[test]
 fn every_refusal_of_the_corpus_has_a_reason() {
     let mut numbers = [0; 9];
@@ -140,7 +160,10 @@ fn every_refusal_of_the_corpus_has_a_reason() {
         let sheet = case(SEED, index).sheet;
         let answer = check(&sheet);
         numbers[usize::from(answer.number)] += 1;
-        assert!(answer.number == 0 || !reason(&sheet, answer).is_empty(), "{answer:?}");
+        if answer.number > 0 {
+            let reason = reason(&sheet, answer);
+            assert!((1..=LONGEST_REASON).contains(&reason.len()), "{answer:?}: {reason}");
+        }
     }
     assert!(numbers.iter().all(|count| *count > 0), "{numbers:?}");
 }
