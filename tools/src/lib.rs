@@ -12,5 +12,6 @@ pub mod examples;
 pub mod explain;
 pub mod form;
 pub mod names;
+pub mod page;
 pub mod recording;
 pub mod source;
