@@ -13,7 +13,11 @@ fn main() {
             _ => file = argument,
         }
     }
-    let sheet = std::fs::read(&file).expect("a sheet");
+    let mut sheet = std::fs::read(&file).expect("a sheet");
+    if sheet.first().is_some_and(|byte| byte.is_ascii_graphic()) {
+        let text = String::from_utf8(sheet).expect("text");
+        sheet = tools::encode::encode(&text).expect("a sheet's text").bytes;
+    }
     if command == "run" {
         let mut report = vec![0; 1 << 16];
         let answer = simulator::run(&sheet, options.limit.into(), &mut report);

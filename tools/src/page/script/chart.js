@@ -3,8 +3,8 @@
 const SCALE_HEIGHT = 20;
 // The room above the cells for releases and commits, and below them for lost attempts.
 const ABOVE = 16;
-const CELL_HEIGHT = 50;
-const BELOW = 10;
+const CELL_HEIGHT = 48;
+const BELOW = 9;
 const ROW_HEIGHT = ABOVE + CELL_HEIGHT + BELOW;
 const SERIES_HEIGHT = 16;
 
@@ -42,8 +42,9 @@ function drawChart() {
   context.beginPath();
   context.rect(LEFT, 0, view.width, chartHeight);
   context.clip();
-  drawHighlight(context, view.pointed, "#eef3fb");
-  drawHighlight(context, view.pinned, "#d5e3f8");
+  if (view.zoom >= CELL_ZOOM) drawIdle(context, first, last);
+  drawHighlight(context, view.pointed, "#e9effa");
+  drawHighlight(context, view.pinned, "#d0dff7");
   if (view.zoom >= CELL_ZOOM) drawCells(context, first, last); else drawColumns(context, first, last);
   drawScale(context);
   drawReleases(context, first, last);
@@ -63,13 +64,18 @@ function drawHighlight(context, tick, colour) {
 // The tick's number in the scale, and for narrow ticks a line down to the lower edge.
 function drawTickMark(context, tick, colour) {
   if (tick === null) return;
-  const middle = tickToX(tick + 0.5), text = String(tick), width = context.measureText(text).width + 8;
-  const left = clamp(middle - width / 2, LEFT, LEFT + view.width - width);
+  const [left, right] = markEdges(context, tick), middle = tickToX(tick + 0.5);
   context.fillStyle = colour;
-  context.fillRect(left, 1, width, 15);
+  context.fillRect(left, 1, right - left, 15);
   if (view.zoom < SIGN_ZOOM) context.fillRect(middle - 0.5, 15, 1, chartHeight - 15);
   context.fillStyle = "#fff";
-  context.fillText(text, left + 4, 12.5);
+  context.fillText(String(tick), left + 4, 12.5);
+}
+
+// Where the number of a pinned or pointed tick begins and ends.
+function markEdges(context, tick) {
+  const width = context.measureText(String(tick)).width + 8, left = tickToX(tick + 0.5) - width / 2;
+  return [left, left + width];
 }
 
 // The distance between two numbers of a scale that leaves room for them: 1, 2 or 5 with zeros.
@@ -81,13 +87,15 @@ function scaleStep(zoom, room) {
 
 function drawScale(context) {
   const step = scaleStep(view.zoom, 60);
+  const marks = [view.pinned, view.pointed].filter((tick) => tick !== null).map((tick) => markEdges(context, tick));
   context.fillStyle = "#000";
   for (let tick = Math.ceil(view.from / step) * step; tick < Math.min(run.ticks, view.from + shownTicks()); tick += step) {
     const x = tickToX(tick), text = String(tick);
     line(context, "#ccc", 0.7, x, 15, x, chartHeight);
     // A wide cell has its number in its middle, a narrow one behind the line at its left edge.
-    const behind = view.zoom >= WORDS_ZOOM ? (view.zoom - context.measureText(text).width) / 2 : 3;
-    context.fillText(text, x + behind, 12.5);
+    const width = context.measureText(text).width;
+    const start = x + (view.zoom >= WORDS_ZOOM ? (view.zoom - width) / 2 : 3);
+    if (marks.every(([left, right]) => start > right || start + width < left)) context.fillText(text, start, 12.5);
   }
   for (let row = 1; row <= run.tasks.length; row++) {
     const y = SCALE_HEIGHT + row * ROW_HEIGHT;
@@ -105,7 +113,7 @@ function* stretches(first, last, test) {
   }
 }
 
-function drawCells(context, first, last) {
+function drawIdle(context, first, last) {
   context.textAlign = "center";
   for (const [start, end] of stretches(first, last, isIdle)) {
     const x = tickToX(start), width = (end - start) * view.zoom;
@@ -117,6 +125,9 @@ function drawCells(context, first, last) {
     if (text) context.fillText(text, x + width / 2, SCALE_HEIGHT + 12);
   }
   context.textAlign = "left";
+}
+
+function drawCells(context, first, last) {
   run.tasks.forEach((_, task) => {
     const middle = cellsTop(task) + CELL_HEIGHT / 2;
     const isPreempted = (tick) => (run.preempted[tick] >> task & 1) === 1;
@@ -131,8 +142,7 @@ function drawCell(context, tick) {
   const x = tickToX(tick), top = cellsTop(taskOf(tick)), kind = run.kinds[statementOf(tick).kind];
   context.fillStyle = kind.colour;
   if (view.zoom < OUTLINE_ZOOM) {
-    // White cells without an outline would not be seen.
-    if (kind.colour === "#ffffff") context.fillStyle = "#d8d8d8";
+    context.fillStyle = seenColour(kind);
     context.fillRect(x, top, view.zoom, CELL_HEIGHT);
     return;
   }
@@ -147,6 +157,9 @@ function drawCell(context, tick) {
   if (view.zoom >= ACROSS_ZOOM) drawWordAcross(context, tick, x, top);
   else if (view.zoom >= UPWARD_ZOOM) drawWordUpward(context, tick, x, top);
 }
+
+// A white cell without an outline would not be seen.
+function seenColour(kind) { return kind.colour === "#ffffff" ? "#a9b4c6" : kind.colour; }
 
 function cellText(tick) {
   const subject = subjectOf(tick);
@@ -224,8 +237,7 @@ function drawColumns(context, first, last) {
     context.fillRect(edges[bin], bottom - height, edges[bin + 1] - edges[bin], height);
   };
   for (let kind = 0; kind <= kinds; kind++) {
-    const colour = kind < kinds ? run.kinds[kind].colour : "#dedede";
-    context.fillStyle = colour === "#ffffff" ? "#b9b9b9" : colour;
+    context.fillStyle = kind < kinds ? seenColour(run.kinds[kind]) : "#e2e2e2";
     for (let cell = 0; cell < bins.bins * tasks; cell++) {
       const ticks = kind < kinds ? bins.ran[cell * kinds + kind] : bins.preempted[cell];
       if (ticks > 0) pile(Math.floor(cell / tasks), cell % tasks, ticks);
@@ -258,9 +270,10 @@ function drawReleases(context, first, last) {
   for (let index = countBelow(ticks, first); index < ticks.length && ticks[index] < last; index++) {
     // One may arrive where one that waited starts: then they stand side by side.
     const second = index > 0 && ticks[index - 1] === ticks[index] && task[index - 1] === task[index];
-    const x = tickToX(ticks[index]) + (second && view.zoom >= SIGN_ZOOM ? BESIDE : 0), y = cellsTop(task[index]) - 1;
     // The arrow of the run's first tick stands inside the window as a whole.
-    releaseSign(context, fate[index], Math.max(x, LEFT + 4), y);
+    const x = Math.max(tickToX(ticks[index]), LEFT + 4), y = cellsTop(task[index]) - 1;
+    if (view.zoom >= SIGN_ZOOM) releaseSign(context, fate[index], x + (second ? BESIDE : 0), y);
+    else smallReleaseSign(context, fate[index], x, y - 8);
   }
 }
 
@@ -279,7 +292,7 @@ function drawSeries(context) {
       drawnAt = x;
       changeSign(context, x, y, view.zoom >= SIGN_ZOOM ? 4 : 2.5);
       const next = change + 1 < ticks.length ? tickToX(ticks[change + 1] + 0.5) - 6 : Infinity;
-      drawChangedValue(context, series, tick, x + 6, y, next - x - 6);
+      drawChangedValue(context, series, tick, x + 6, y, Math.min(next, LEFT + view.width - 2) - x - 6);
     }
   });
 }

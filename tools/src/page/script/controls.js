@@ -187,11 +187,9 @@ function showAddress() {
     return text !== null && /^[0-9]+(\.[0-9]+)?$/.test(text) ? Number(text) : null;
   };
   const [tick, from, zoom] = ["tick", "from", "zoom"].map(number);
-  if (tick === null && from === null && zoom === null) return;
   if (tick !== null && run.ticks > 0) view.pinned = clamp(Math.floor(tick), 0, run.ticks - 1);
-  if (from !== null) setView(from, zoom ?? view.zoom);
-  else if (tick !== null) centre(view.pinned ?? 0, zoom ?? view.zoom);
-  else setView(view.from, zoom);
+  if (from === null && tick !== null) centre(view.pinned ?? 0, zoom ?? view.zoom);
+  else setView(from ?? view.from, zoom ?? view.zoom);
 }
 
 // Browsers limit how often the address may change, so it follows a moment later.

@@ -102,7 +102,7 @@ function whatHolds(tick) {
   if (run.words.length > 0) {
     add(`Words ${when}`, element("div", "grid", ...run.words.map((name, word) => pair(name, number(word)))));
   }
-  if (run.blocks.length > 0) add(`Blocks ${when}`, blockTable(number));
+  if (run.blocks.length > 0) add(`Blocks ${when}`, ...run.blocks.map((name, block) => blockLine(name, block, number)));
   if (tick !== null && !isIdle(tick)) add(`Registers of ${run.tasks[taskOf(tick)]} ${when}`, registerGrid(taskOf(tick), number));
   return parts;
 }
@@ -116,20 +116,14 @@ function pair(name, value) {
 function registerGrid(task, number) {
   const first = run.firstRegisterPlace + task * REGISTERS;
   const registers = Array.from({ length: REGISTERS }, (_, register) => pair(`r${register}`, number(first + register)));
-  return element("div", "grid narrow", ...registers);
+  return element("div", "grid", ...registers);
 }
 
-function blockTable(number) {
-  const rows = run.blocks.map((name, block) => {
-    const first = run.firstBlockPlace + block * BLOCK_NUMBERS;
-    const cells = element("td", "");
-    cells.append("version ", number(first), ":");
-    for (let offset = 1; offset < BLOCK_NUMBERS; offset++) cells.append(" ", number(first + offset));
-    const head = element("th", "", name);
-    head.scope = "row";
-    return element("tr", "", head, cells);
-  });
-  return element("table", "", element("tbody", "", ...rows));
+function blockLine(name, block, number) {
+  const first = run.firstBlockPlace + block * BLOCK_NUMBERS;
+  const made = element("p", "block", element("span", "name", name), " version ", number(first), ":");
+  for (let offset = 1; offset < BLOCK_NUMBERS; offset++) made.append(" ", number(first + offset));
+  return made;
 }
 
 // Words and blocks that keep their start values have no row in the chart.

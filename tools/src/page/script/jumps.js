@@ -56,8 +56,10 @@ function buildJumps() {
     jump.after = jumpButton(jump, true);
     jump.count = element("span", "count");
     jump.count.id = `${jump.id}-count`;
+    // Room for "12 of 12", so that the buttons behind do not move at every jump.
+    if (jump.ticks.length > 0) jump.count.style.minWidth = `${2 * String(jump.ticks.length).length + 3}ch`;
     const name = element("span", "name", jump.name);
-    const group = element("span", "group jump", jump.before, name, jump.count, jump.after);
+    const group = element("span", "group jump", jump.before, jump.after, name, jump.count);
     group.setAttribute("role", "group");
     group.setAttribute("aria-label", jump.name);
     box.append(group);

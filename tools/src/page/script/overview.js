@@ -55,14 +55,23 @@ function drawStrip(width) {
     context.fillStyle = "#333";
     context.fillText(name, 6, y + 9);
     line(context, "#e4e4e4", 1, LEFT, y + 0.5, width, y + 0.5);
-    // Many in a pixel are one mark.
-    let drawnAt = -1;
-    for (const tick of ticks) {
-      const x = Math.round(overviewX(tick));
-      if (x !== drawnAt) drawStroke(context, colour, x, y + 2, MARKS_HEIGHT - 3);
-      drawnAt = x;
-    }
+    drawMarks(context, colour, ticks, y + 2);
   });
+}
+
+// A mark for each pixel, the darker the more events it stands for.
+function drawMarks(context, colour, ticks, y) {
+  const counts = new Map();
+  for (const tick of ticks) {
+    const x = Math.round(overviewX(tick));
+    counts.set(x, (counts.get(x) ?? 0) + 1);
+  }
+  const most = Math.max(...counts.values());
+  for (const [x, count] of counts) {
+    context.globalAlpha = 0.45 + 0.55 * count / most;
+    drawStroke(context, colour, x, y, MARKS_HEIGHT - 3);
+  }
+  context.globalAlpha = 1;
 }
 
 function drawStripScale(context, width) {
@@ -70,7 +79,7 @@ function drawStripScale(context, width) {
   context.fillStyle = "#444";
   context.fillText("whole run", 6, 10);
   for (let tick = 0; tick < run.ticks; tick += step) {
-    const x = overviewX(tick), text = tick.toLocaleString("en");
+    const x = overviewX(tick), text = String(tick);
     line(context, "#ccc", 0.7, x, 2, x, overviewHeight);
     if (x + context.measureText(text).width + 3 < width) context.fillText(text, x + 3, 10);
   }

@@ -47,6 +47,16 @@ function releaseSign(context, fate, x, y) {
   }
 }
 
+// The same where ticks are narrow: no more than a head, a bar or a cross.
+function smallReleaseSign(context, fate, x, y) {
+  if (fate === WAITS) line(context, "#666", 1.4, x - 2.5, y - 1, x + 2.5, y - 1);
+  else if (fate !== DROPPED) polygon(context, BLACK, [[x - 2.5, y - 5], [x + 2.5, y - 5], [x, y]]);
+  else {
+    line(context, BLACK, 1.2, x - 2.5, y - 5, x + 2.5, y);
+    line(context, BLACK, 1.2, x - 2.5, y, x + 2.5, y - 5);
+  }
+}
+
 // A full circle for yes, an open one for no.
 function commitSign(context, yes, x, y, radius = 3.2) {
   context.beginPath();
