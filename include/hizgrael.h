@@ -1,25 +1,28 @@
-/* Hizgrael, the exchange engine: the three entries of the proved libraries (x86-64 Linux): hizgrael_check and hizgrael_run of
- * libengine.a, hizgrael_compose of libbuilder.a.
+/* Hizgrael, the exchange engine: the three entries of the proved library (x86-64 Linux). `make install` puts all three in place as
+ * libhizgrael.a; `rt staticlib` writes hizgrael_check and hizgrael_run as libengine.a, and hizgrael_compose as libbuilder.a.
  *
  * A run sheet is a string of commands that declares words, blocks of eight words, tasks and their releases (docs/SHEETS.md).
- * hizgrael_compose makes one command by command; sheet-text of tools/ makes sheets from text. The engine runs a sheet one statement
- * a tick, always the highest task with work, and writes a report. A release to a task whose job is unfinished waits behind it, up to
- * four for a task; one more is dropped, and the report counts it for its task. A transaction that loses an attempt, by a stale
- * version or a rejected commit, restarts by itself, and the report counts that too.
+ * hizgrael_compose makes one command by command; the program makes sheets from text (`hizgrael encode`). The engine runs a sheet one
+ * statement a tick, always the highest task with work, and writes a report. A release to a task whose job is unfinished waits behind
+ * it, up to four for a task; one more is dropped, and the report counts it for its task. A transaction that loses an attempt, by a
+ * stale version or a rejected commit, restarts by itself, and the report counts that too.
  *
  * What is proved, for every sheet, limit, state and buffer: the entries return; number, place and every byte of the report buffer, and
  * of the builder's buffer, are those of the definitions in crates/model/specs (Answer.antt, Builder.antt); a sheet is accepted exactly
  * when it is well formed (WellFormed.antt); an accepted run is a sequence of whole operations (Claim.antt), each task's drops are those
  * of its releases that neither started a job nor wait (Drops.antt), and its lost attempts are the ticks in which its transactions
- * restarted (LostAttempts.antt); every accepted sheet can be composed, and by one list of commands. What the caller must see to: each pointer
- * is valid for its length and for the whole call, and what the pointers of one call point to does not overlap. A pointer whose length
- * is 0 is not read but must not be null. No entry keeps a pointer, allocates, or uses more stack than docs/FIGURES.md states.
+ * restarted (LostAttempts.antt); every accepted sheet can be composed, and by one list of commands. What the caller must see to: each
+ * pointer is valid for its length and for the whole call, and what the pointers of one call point to does not overlap. A pointer whose
+ * length is 0 is not read but must not be null. No entry keeps a pointer, allocates, or uses more stack than docs/BOARDS.md states.
  */
 #ifndef HIZGRAEL_H
 #define HIZGRAEL_H
 
 #include <stddef.h>
 #include <stdint.h>
+
+/* The version. It stands here and nowhere else: the Makefile, the pkg-config file, the Rust wrapper and the program read this line. */
+#define HIZGRAEL_VERSION "0.7.0"
 
 #ifdef __cplusplus
 extern "C" {

@@ -1,5 +1,6 @@
 /* Composes sheet A of document 01 through the proved library, command by command, runs it and prints its report. */
 #include <inttypes.h>
+#include <signal.h>
 #include <stdio.h>
 #include "hizgrael.h"
 
@@ -27,6 +28,8 @@ int main(void)
     uint64_t filled = 0, length = 0;
     uint8_t number;
 
+    /* So that a broken pipe is told below, as a full disk is. */
+    signal(SIGPIPE, SIG_IGN);
     for (size_t i = 0; i < sizeof SHEET_A / sizeof *SHEET_A; i++) {
         const struct command *command = &SHEET_A[i];
         number = hizgrael_compose(state, sheet, sizeof sheet, command->byte, command->operands, &filled);

@@ -1,5 +1,7 @@
-/* Runs a sheet from a file through the proved library and prints its report, or says what is wrong and where. */
+/* Runs a sheet from a file through the proved library and prints its report, or says what is wrong and where. Its status is 0 for a
+ * report, 1 for a sheet that is refused, 2 for what could not be done. */
 #include <inttypes.h>
+#include <signal.h>
 #include <stdio.h>
 #include "hizgrael.h"
 
@@ -29,6 +31,8 @@ int main(int count, char **words)
     size_t length;
     FILE *file;
 
+    /* So that a broken pipe is told below, as a full disk is. */
+    signal(SIGPIPE, SIG_IGN);
     if (count != 2) {
         fprintf(stderr, "usage: run_sheet FILE\n");
         return 2;

@@ -1,4 +1,4 @@
-//! A safe wrapper of the proved library's three C entries (include/hizgrael.h).
+//! A safe wrapper of the proved library's three C entries (include/hizgrael.h). Without the feature `std` it is no_std.
 //!
 //! ```
 //! let sheet = [0x03, 0x11, 0x08, 0x00];
@@ -6,12 +6,17 @@
 //! assert_eq!((refusal.number, refusal.place), (6, 1));
 //! ```
 
+#![cfg_attr(not(feature = "std"), no_std)]
+
 mod builder;
 
 pub use builder::{Builder, Command};
 
-use std::error::Error;
-use std::fmt;
+use core::error::Error;
+use core::fmt;
+
+/// HIZGRAEL_VERSION of include/hizgrael.h, where the version stands.
+pub const VERSION: &str = env!("HIZGRAEL_VERSION");
 
 /// No report is longer, so a buffer of this length is always enough.
 pub const LONGEST_REPORT: usize = 3925;
@@ -129,6 +134,23 @@ pub fn run(sheet: &[u8], limit: u64, report: &mut [u8]) -> Answer {
         )
     };
     Answer { number, place }
+}
+
+/// The report of a run in a buffer of its own.
+///
+/// ```
+/// // A word with 7 in it, and a task that is never released.
+/// let sheet = [0x01, 0x00, 0x00, 0x00, 0x07, 0x03, 0x11, 0x00, 0x00, 0x05];
+/// let report = hizgrael::report(&sheet, 10).unwrap();
+/// assert_eq!(report, "W 0 7\nT 0 0 0 0 0 0\nR 0 0 0 0 0 0 0 0 0\nE 0\n");
+/// assert_eq!(hizgrael::report(&sheet, 65_536).unwrap_err().number, 9);
+/// ```
+#[cfg(feature = "std")]
+pub fn report(sheet: &[u8], limit: u64) -> Result<String, Refusal> {
+    let mut report = vec![0; LONGEST_REPORT];
+    let length = run(sheet, limit, &mut report).accepted()?;
+    report.truncate(length);
+    Ok(String::from_utf8(report).expect("a report is letters, digits, spaces and line ends"))
 }
 
 /// Hands over one more command of a sheet that is composed in the buffer; `Builder` does so more readably. State and buffer are as the

@@ -1,9 +1,9 @@
 //! Composes sheet A of document 01 through the proved library, command by command, runs it and prints its report.
 
-use std::error::Error;
-use std::io::{stdout, Write};
+use std::process::ExitCode;
 
-use hizgrael::{Builder, Command, LONGEST_REPORT, LONGEST_SHEET, TOP_LIMIT};
+use hizgrael::{Builder, Command, Refusal, LONGEST_SHEET, TOP_LIMIT};
+use run_sheet::{ends, print, REFUSED};
 
 const SHEET_A: [Command; 8] = [
     Command::Word { value: 12 },
@@ -16,14 +16,18 @@ const SHEET_A: [Command; 8] = [
     Command::End,
 ];
 
-fn main() -> Result<(), Box<dyn Error>> {
+fn main() -> ExitCode {
+    match report_of_sheet_a() {
+        Ok(report) => print(&report),
+        Err(refusal) => ends(REFUSED, refusal),
+    }
+}
+
+fn report_of_sheet_a() -> Result<String, Refusal> {
     let mut buffer = [0; LONGEST_SHEET];
     let mut builder = Builder::new(&mut buffer);
     for command in SHEET_A {
         builder.compose(command)?;
     }
-    let mut report = [0; LONGEST_REPORT];
-    let length = hizgrael::run(builder.filled(), TOP_LIMIT, &mut report).accepted()?;
-    stdout().write_all(&report[..length])?;
-    Ok(())
+    hizgrael::report(builder.filled(), TOP_LIMIT)
 }
