@@ -22,7 +22,10 @@ pub fn decode(given: &Given) -> Result<(), Failure> {
     sheet.must_be_whole()?;
     // The text has the answer of the second simulator's check.
     check_of(engine(), &sheet.bytes).map_err(|stop| sheet.stopped(stop, &limit))?;
-    let text = decode::decode(&sheet.bytes, &sheet.names());
+    let mut text = decode::decode(&sheet.bytes, &sheet.names());
+    if !engine().is_proved() {
+        text.push_str(&format!("# {}\n", engine().note()));
+    }
     sheet.write(given, text.as_bytes())?;
     sheet.check(&limit)
 }
