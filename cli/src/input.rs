@@ -46,7 +46,7 @@ pub fn read(given: &Given) -> Result<Input, Failure> {
         true => "standard input".to_string(),
         false => file_name(&given.sheet),
     };
-    let failed = |error: io::Error| not_done(format!("{label}: {}", plain(&error)));
+    let failed = |error: io::Error| not_done(format!("{label}: {}", plain(&error, "reading")));
     let mut file = opened(given).map_err(failed)?;
     let identity = file.metadata().ok().as_ref().and_then(identity);
     let content = content(&mut file, form(given)?).map_err(failed)?;

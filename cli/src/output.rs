@@ -27,7 +27,7 @@ pub fn to_standard_output(bytes: &[u8]) -> Result<(), Failure> {
     // Rust's own standard output takes a failed write to a stream that is not open for writing for done.
     let stream = io::stdout().as_fd().try_clone_to_owned().map(File::from);
     let written = stream.and_then(|mut stream| stream.write_all(bytes));
-    written.map_err(|error| not_done(format!("standard output: {}", plain(&error))))
+    written.map_err(|error| not_done(format!("standard output: {}", plain(&error, "writing"))))
 }
 
 fn to_file(name: &OsStr, input: Option<Identity>, bytes: &[u8]) -> Result<(), Failure> {
@@ -43,11 +43,14 @@ fn to_file(name: &OsStr, input: Option<Identity>, bytes: &[u8]) -> Result<(), Fa
             io::ErrorKind::NotFound => {
                 "the directory that it would stand in is not there".to_string()
             }
-            _ => plain(&error),
+            _ => plain(&error, "writing"),
         };
         not_done(format!("{shown}: {reason}"))
     })?;
     file.write_all(bytes).map_err(|error| {
-        not_done(format!("{shown}: {}; what stands there now is not whole", plain(&error)))
+        not_done(format!(
+            "{shown}: {}; what stands there now is not whole",
+            plain(&error, "writing")
+        ))
     })
 }

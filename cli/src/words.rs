@@ -34,10 +34,10 @@ pub fn counted(count: usize, thing: &str) -> String {
     }
 }
 
-/// Why the system did not do it, in words.
-pub fn plain(error: &io::Error) -> String {
+/// Why the system did not do it, in words. What it should have done is reading or writing.
+pub fn plain(error: &io::Error, doing: &str) -> String {
     if error.raw_os_error() == Some(BAD_DESCRIPTOR) {
-        return "it is not open for that".to_string();
+        return format!("it is not open for {doing}");
     }
     match error.kind() {
         io::ErrorKind::NotFound => "there is no such file".to_string(),
