@@ -45,6 +45,7 @@ pub fn plain(error: &io::Error, doing: &str) -> String {
         io::ErrorKind::PermissionDenied => "permission denied".to_string(),
         io::ErrorKind::BrokenPipe => "its reader has gone (broken pipe)".to_string(),
         io::ErrorKind::StorageFull => "no space is left on the device".to_string(),
+        io::ErrorKind::FileTooLarge => "the file would be larger than it may be".to_string(),
         io::ErrorKind::NotADirectory => "a part of its path is no directory".to_string(),
         _ => {
             let text = error.to_string();

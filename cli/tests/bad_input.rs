@@ -23,7 +23,7 @@ const LONGEST_SHOWN: usize = 400;
 const GIGABYTE: u64 = 1 << 30;
 
 /// A heading, and the command line; CMD stands for the subcommand. Every subcommand is tried.
-const CASES: [(&str, &str); 37] = [
+const CASES: [(&str, &str); 38] = [
     ("An empty file", "hizgrael CMD empty"),
     ("Junk in bytes", "hizgrael CMD junk-bytes"),
     ("Junk in bytes that begins as a sheet does", "hizgrael CMD junk-later"),
@@ -54,6 +54,7 @@ const CASES: [(&str, &str); 37] = [
     ("The output's directory is not there", "hizgrael CMD -o missing/out good.txt"),
     ("The output is a directory", "hizgrael CMD -o folder good.txt"),
     ("The output is full", "hizgrael CMD -o /dev/full good.txt"),
+    ("The output grows too large", "ulimit -f 0; hizgrael CMD -o written good.txt"),
     ("The output is the sheet itself", "hizgrael CMD -o ./folder/../good.txt good.txt"),
     ("A limit above the top", "hizgrael CMD --limit 65536 good.txt"),
     ("A limit that is no number", "hizgrael CMD --limit ten good.txt"),
