@@ -186,7 +186,7 @@ fn a_file_that_may_not_be_read() {
     let folder = own_folder("unreadable");
     let secret = folder.join("secret.txt");
     fs::write(&secret, GOOD).unwrap();
-    fs::set_permissions(&secret, fs::Permissions::from_mode(0)).unwrap();
+    fs::set_permissions(&secret, fs::Permissions::from_mode(0o000)).unwrap();
     fs::set_permissions(&folder, fs::Permissions::from_mode(0o755)).unwrap();
     let program = folder.join("hizgrael");
     fs::copy(PROGRAM, &program).unwrap();

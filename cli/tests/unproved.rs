@@ -41,7 +41,9 @@ fn what_is_printed_is_labelled() {
         &["history", "--json", "worked/p5.txt"],
     ] {
         let shown = printed(&run(arguments, b""));
-        assert!(shown.contains(SOURCE) && !shown.contains("byte for byte"), "{arguments:?}");
+        let label = if arguments.contains(&"--csv") { ",NOT PROVED\n" } else { SOURCE };
+        assert!(shown.contains(label), "{arguments:?}");
+        assert!(!shown.contains("proved engine's") && !shown.contains("compared"), "{arguments:?}");
     }
     let version = printed(&run(&["--version"], b""));
     assert!(version.starts_with(&format!("hizgrael {}, NOT PROVED: ", hizgrael_cli::VERSION)));
