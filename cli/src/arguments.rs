@@ -1,6 +1,7 @@
 //! The arguments, read by the table.
 
 use std::ffi::{OsStr, OsString};
+use std::os::unix::ffi::OsStrExt;
 
 use tools::quote::cut;
 
@@ -33,8 +34,7 @@ pub struct Limit {
     pub written: String,
 }
 
-pub fn asked(arguments: impl Iterator<Item = OsString>) -> Result<Asked, Failure> {
-    let mut arguments = arguments.peekable();
+pub fn asked(mut arguments: impl Iterator<Item = OsString>) -> Result<Asked, Failure> {
     let Some(first) = arguments.next() else {
         return Err(not_done(help::usage()));
     };
@@ -177,18 +177,15 @@ impl Given {
         argument: &OsStr,
         rest: &mut impl Iterator<Item = OsString>,
     ) -> Result<(), Failure> {
-        let text = argument.to_string_lossy();
-        let (option, attached) = match text.split_once('=') {
-            Some((option, value)) if option.starts_with("--") => (option, Some(value)),
-            _ => (&*text, None),
-        };
-        let choice = self.subcommand.choices().find(|choice| is(OsStr::new(option), choice));
+        let (option, attached) = parts(argument);
+        let choice = self.subcommand.choices().find(|choice| is(option, choice));
         let choice = choice.ok_or_else(|| self.unknown(option))?;
         let value = match (choice.value, attached) {
             (None, None) => OsString::new(),
             (None, Some(_)) => return Err(self.fault(&format!("{} takes no value", choice.long))),
-            (Some(_), Some(value)) => OsString::from(value),
+            (Some(_), Some(value)) => value.to_os_string(),
             (Some(kind), None) => rest.next().ok_or_else(|| {
+                let option = option.to_string_lossy();
                 self.fault(&format!("{option} takes a value, as in {option} {kind}"))
             })?,
         };
@@ -199,8 +196,21 @@ impl Given {
         Ok(())
     }
 
-    fn unknown(&self, option: &str) -> Failure {
-        let hint = hint(nearest(option, self.subcommand.choices().map(|choice| choice.long)));
-        self.fault(&format!("unknown option {}{hint}", quoted(OsStr::new(option))))
+    fn unknown(&self, option: &OsStr) -> Failure {
+        let known = self.subcommand.choices().map(|choice| choice.long);
+        let hint = hint(nearest(&option.to_string_lossy(), known));
+        self.fault(&format!("unknown option {}{hint}", quoted(option)))
+    }
+}
+
+/// What stands before and behind the first `=` of a long option. File names need not be UTF-8.
+fn parts(argument: &OsStr) -> (&OsStr, Option<&OsStr>) {
+    let bytes = argument.as_bytes();
+    match bytes.iter().position(|byte| *byte == b'=') {
+        Some(place) if bytes.starts_with(b"--") => {
+            let (option, value) = (&bytes[..place], &bytes[place + 1..]);
+            (OsStr::from_bytes(option), Some(OsStr::from_bytes(value)))
+        }
+        _ => (argument, None),
     }
 }

@@ -1,6 +1,7 @@
 //! A sheet that was read: its bytes, its names, the line of each byte, and refusals in these terms.
 
 use std::ffi::OsStr;
+use std::path::Path;
 
 use simulator::Answer;
 use tools::encode::{encode_utf8, Encoded};
@@ -81,7 +82,7 @@ impl Sheet {
         }
     }
 
-    /// Refuses to write an input on of which only the beginning was read.
+    /// What was read only in part is not written in another form.
     pub fn must_be_whole(&self) -> Result<(), Failure> {
         if self.whole {
             return Ok(());
@@ -98,7 +99,7 @@ impl Sheet {
 
     /// The file's name without its folders.
     pub fn title(&self, given: &Given) -> String {
-        let name = std::path::Path::new(&given.sheet).file_name().map(OsStr::to_string_lossy);
+        let name = Path::new(&given.sheet).file_name().map(OsStr::to_string_lossy);
         match name {
             Some(name) if !given.is_standard_input() => name.into_owned(),
             _ => self.label.clone(),

@@ -1,7 +1,7 @@
 //! chart and history: what the run did tick by tick, after both engines gave the same report.
 
 use simulator::sheet::parse;
-use tools::chart;
+use tools::chart::{self, Refused};
 use tools::history;
 use tools::names::Names;
 use tools::page;
@@ -17,64 +17,73 @@ use crate::table::{BAND, CSV, FIRST, HTML, JSON, LAST, NAME, TITLE};
 /// A sheet whose run may be shown.
 struct Shown {
     sheet: Sheet,
-    limit: u32,
+    limit: Limit,
     names: Names,
     source: Source,
 }
 
+impl Shown {
+    fn new(given: &Given) -> Result<Shown, Failure> {
+        let limit = given.limit()?;
+        let sheet = Sheet::read(given)?;
+        let source = source_of(engine(), &sheet.bytes, limit.ticks);
+        let source = source.map_err(|stop| sheet.stopped(stop, &limit))?;
+        let names = names_of(given, &sheet)?;
+        Ok(Shown { sheet, limit, names, source })
+    }
+
+    /// The limit, which is not above the top: that would have been refused.
+    fn ticks(&self) -> u32 {
+        self.limit.ticks as u32
+    }
+}
+
 pub fn chart(given: &Given) -> Result<(), Failure> {
-    let (first, last) = (given.number(&FIRST)?, given.number(&LAST)?);
-    let band = given.number(&BAND)?;
-    for choice in [&FIRST, &LAST, &BAND].into_iter().filter(|_| given.has(&HTML)) {
-        if given.has(choice) {
-            let reason = format!("{} is for the SVG picture; the page has every tick", choice.long);
-            return Err(given.fault(&reason));
+    let options = picture_options(given)?;
+    let shown = Shown::new(given)?;
+    let title = given.shown(&TITLE).unwrap_or_else(|| shown.sheet.title(given));
+    let (limit, names, source) = (shown.ticks(), shown.names, shown.source);
+    let bytes = &shown.sheet.bytes;
+    let drawn = match given.has(&HTML) {
+        true => {
+            let options = page::Options { title, names, limit, source };
+            page::draw(bytes, &options).map_err(Refused::Sheet)
         }
-    }
-    let Shown { sheet, limit, names, source } = shown(given)?;
-    let title = given.shown(&TITLE).unwrap_or_else(|| sheet.title(given));
-    if given.has(&HTML) {
-        let options = page::Options { title, names, limit, source };
-        let page = page::draw(&sheet.bytes, &options);
-        let page = page.map_err(|fault| sheet.refused(fault.into(), &exact(limit)))?;
-        return sheet.write(given, page.as_bytes());
-    }
-    let mut options = chart::Options { title, names, limit, source, ..chart::Options::default() };
+        false => chart::draw(bytes, &chart::Options { title, names, limit, source, ..options }),
+    };
+    let drawn = drawn.map_err(|refused| match refused {
+        Refused::Sheet(fault) => shown.sheet.refused(fault.into(), &shown.limit),
+        Refused::Options(reason) => given.fault(&reason),
+    })?;
+    shown.sheet.write(given, drawn.as_bytes())
+}
+
+/// What the arguments choose about the picture. The page shows everything.
+fn picture_options(given: &Given) -> Result<chart::Options, Failure> {
+    let mut options = chart::Options::default();
+    let (first, last, band) = (given.number(&FIRST)?, given.number(&LAST)?, given.number(&BAND)?);
     options.first = first.unwrap_or(options.first);
     options.last = last.unwrap_or(options.first.saturating_add(options.last));
     options.ticks_in_band = band.map_or(options.ticks_in_band, |band| band as usize);
-    let picture = chart::draw(&sheet.bytes, &options).map_err(|refused| match refused {
-        chart::Refused::Sheet(fault) => sheet.refused(fault.into(), &exact(limit)),
-        chart::Refused::Options(reason) => given.fault(&reason),
-    })?;
-    sheet.write(given, picture.as_bytes())
+    let chosen = [&FIRST, &LAST, &BAND].into_iter().find(|choice| given.has(choice));
+    match chosen.filter(|_| given.has(&HTML)) {
+        None => Ok(options),
+        Some(choice) => {
+            let reason = "is for the SVG picture; the page has every tick";
+            Err(given.fault(&format!("{} {reason}", choice.long)))
+        }
+    }
 }
 
 pub fn history(given: &Given) -> Result<(), Failure> {
     if given.has(&CSV) && given.has(&JSON) {
         return Err(given.fault("--csv and --json exclude each other"));
     }
-    let Shown { sheet, limit, names, source } = shown(given)?;
-    let list = match given.has(&JSON) {
-        true => history::json(&sheet.bytes, limit, &names, &source),
-        false => history::csv(&sheet.bytes, limit, &names, &source),
-    };
-    let list = list.map_err(|reason| not_done(format!("{}: {reason}", sheet.label)))?;
-    sheet.write(given, list.as_bytes())
-}
-
-fn shown(given: &Given) -> Result<Shown, Failure> {
-    let limit = given.limit()?;
-    let sheet = Sheet::read(given)?;
-    let source = source_of(engine(), &sheet.bytes, limit.ticks);
-    let source = source.map_err(|stop| sheet.stopped(stop, &limit))?;
-    let names = names_of(given, &sheet)?;
-    // A limit above the top is refused.
-    Ok(Shown { sheet, limit: limit.ticks as u32, names, source })
-}
-
-fn exact(limit: u32) -> Limit {
-    Limit { ticks: limit.into(), written: limit.to_string() }
+    let shown = Shown::new(given)?;
+    let write = if given.has(&JSON) { history::json } else { history::csv };
+    let list = write(&shown.sheet.bytes, shown.ticks(), &shown.names, &shown.source);
+    let list = list.map_err(|reason| not_done(format!("{}: {reason}", shown.sheet.label)))?;
+    shown.sheet.write(given, list.as_bytes())
 }
 
 /// The names of an accepted sheet: those of its text, and over them those that the option gives.
@@ -84,9 +93,7 @@ pub fn names_of(given: &Given, sheet: &Sheet) -> Result<Names, Failure> {
     for value in given.values(&NAME) {
         names.add(&value.to_string_lossy()).map_err(fault)?;
     }
-    let declared = parse(&sheet.bytes).unwrap_or_default();
-    let (words, blocks, tasks) =
-        (declared.words.len(), declared.blocks.len(), declared.bodies.len());
-    names.check(words, blocks, tasks).map_err(fault)?;
+    let has = parse(&sheet.bytes).unwrap_or_default();
+    names.check(has.words.len(), has.blocks.len(), has.bodies.len()).map_err(fault)?;
     Ok(names)
 }
