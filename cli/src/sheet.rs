@@ -3,6 +3,7 @@
 use std::ffi::OsStr;
 use std::path::Path;
 
+use simulator::sheet::parse;
 use simulator::Answer;
 use tools::encode::{encode_utf8, Encoded};
 use tools::explain;
@@ -14,6 +15,7 @@ use crate::engine::{engine, LONGEST_SHEET, TOP_LIMIT};
 use crate::failure::{not_done, Failure, Refusal, Standing};
 use crate::input::{self, Content, Identity, Input};
 use crate::output;
+use crate::table::NAME;
 
 #[derive(Clone, Debug)]
 pub struct Sheet {
@@ -46,6 +48,18 @@ impl Sheet {
     /// The names that the text gives.
     pub fn names(&self) -> Names {
         self.text.as_ref().map(|text| text.names.clone()).unwrap_or_default()
+    }
+
+    /// The names of an accepted sheet: those of its text, and over them those of `--name`.
+    pub fn names_with(&self, given: &Given) -> Result<Names, Failure> {
+        let mut names = self.names();
+        let fault = |reason: String| given.fault(&format!("{}: {reason}", NAME.long));
+        for value in given.values(&NAME) {
+            names.add(&value.to_string_lossy()).map_err(fault)?;
+        }
+        let has = parse(&self.bytes).unwrap_or_default();
+        names.check(has.words.len(), has.blocks.len(), has.bodies.len()).map_err(fault)?;
+        Ok(names)
     }
 
     /// The engine's check, which a limit too high follows.

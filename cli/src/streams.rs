@@ -20,7 +20,7 @@ extern "C" {
 }
 
 #[used]
-#[link_section = ".init_array"]
+#[cfg_attr(target_os = "linux", link_section = ".init_array")]
 static BEFORE_MAIN: extern "C" fn() = look;
 
 extern "C" fn look() {

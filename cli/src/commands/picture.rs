@@ -1,6 +1,5 @@
 //! chart and history: what the run did tick by tick, after both engines gave the same report.
 
-use simulator::sheet::parse;
 use tools::chart::{self, Refused};
 use tools::history;
 use tools::names::Names;
@@ -12,7 +11,7 @@ use crate::compared::source_of;
 use crate::engine::engine;
 use crate::failure::{not_done, Failure};
 use crate::sheet::Sheet;
-use crate::table::{BAND, CSV, FIRST, HTML, JSON, LAST, NAME, TITLE};
+use crate::table::{BAND, CSV, FIRST, HTML, JSON, LAST, TITLE};
 
 /// A sheet whose run may be shown.
 struct Shown {
@@ -28,7 +27,7 @@ impl Shown {
         let sheet = Sheet::read(given)?;
         let source = source_of(engine(), &sheet.bytes, limit.ticks);
         let source = source.map_err(|stop| sheet.stopped(stop, &limit))?;
-        let names = names_of(given, &sheet)?;
+        let names = sheet.names_with(given)?;
         Ok(Shown { sheet, limit, names, source })
     }
 
@@ -84,16 +83,4 @@ pub fn history(given: &Given) -> Result<(), Failure> {
     let list = write(&shown.sheet.bytes, shown.ticks(), &shown.names, &shown.source);
     let list = list.map_err(|reason| not_done(format!("{}: {reason}", shown.sheet.label)))?;
     shown.sheet.write(given, list.as_bytes())
-}
-
-/// The names of an accepted sheet: those of its text, and over them those that the option gives.
-pub fn names_of(given: &Given, sheet: &Sheet) -> Result<Names, Failure> {
-    let mut names = sheet.names();
-    let fault = |reason: String| given.fault(&format!("{}: {reason}", NAME.long));
-    for value in given.values(&NAME) {
-        names.add(&value.to_string_lossy()).map_err(fault)?;
-    }
-    let has = parse(&sheet.bytes).unwrap_or_default();
-    names.check(has.words.len(), has.blocks.len(), has.bodies.len()).map_err(fault)?;
-    Ok(names)
 }

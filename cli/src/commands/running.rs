@@ -9,8 +9,6 @@ use crate::failure::{meaning, Failure};
 use crate::sheet::Sheet;
 use crate::words::counted;
 
-use super::picture::names_of;
-
 pub fn check(given: &Given) -> Result<(), Failure> {
     let limit = given.limit()?;
     let sheet = Sheet::read(given)?;
@@ -57,7 +55,7 @@ pub fn explain(given: &Given) -> Result<(), Failure> {
         }
         failure
     })?;
-    let names = names_of(given, &sheet)?;
+    let names = sheet.names_with(given)?;
     let text = explained(&String::from_utf8_lossy(&report), &names);
     let label = match engine().is_proved() {
         true => String::new(),
