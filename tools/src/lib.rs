@@ -16,6 +16,7 @@ pub mod explain;
 pub mod form;
 pub mod history;
 pub mod names;
+pub mod page;
 pub mod quote;
 pub mod recording;
 pub mod report;

@@ -10,7 +10,7 @@ use simulator::observer::NoObserver;
 use simulator::{run_observed, TOP_LIMIT};
 use tools::decode::decode;
 use tools::encode::encode;
-use tools::examples::{folder, made_files, names};
+use tools::examples::{folder, names};
 
 fn text(name: &str) -> String {
     fs::read_to_string(folder().join(format!("{name}.txt"))).unwrap()
@@ -27,14 +27,12 @@ fn printed(name: &str) -> String {
 }
 
 #[test]
-fn every_stored_file_is_made_from_its_text() {
+fn every_stored_sheet_is_made_from_its_text() {
     let names = names().unwrap();
     assert_eq!(names.len(), 45);
     for name in names {
-        for (path, bytes) in made_files(&name).unwrap() {
-            let stored = fs::read(&path).unwrap();
-            assert!(stored == bytes, "{} is out of date: run make-examples", path.display());
-        }
+        let made = encode(&text(&name)).unwrap().bytes;
+        assert!(sheet(&name) == made, "{name}.sheet is out of date: run scripts/make-examples");
     }
 }
 

@@ -4,9 +4,11 @@ pub mod series;
 pub mod statement;
 pub mod subject;
 
+use std::rc::Rc;
+
 use simulator::machine::{Counts, Machine};
 use simulator::observer::{Cause, Event, Fate, NoObserver, Observer, Statement};
-use simulator::sheet::{Block, Sheet};
+use simulator::sheet::{Block, Sheet, MAX_TASKS, REGISTERS};
 use simulator::transaction::{bank_word, store_of, version_of};
 
 use subject::{Standing, Subject};
@@ -23,12 +25,22 @@ pub struct Contents {
 pub struct Done {
     pub task: usize,
     pub statement: Statement,
+    /// The command that the statement belongs to, as its number among the sheet's commands.
+    pub command: usize,
     pub subject: Option<Subject>,
     /// What Commit answered, if this was one.
     pub commit: Option<bool>,
     /// Why an attempt is lost, if one is: the transaction goes back to the command after BEGIN.
     pub lost: Option<Cause>,
     pub ends_job: bool,
+}
+
+/// A register with another value than before the tick.
+#[derive(Clone, Copy, Debug, PartialEq, Eq)]
+pub struct RegisterChange {
+    pub task: usize,
+    pub register: usize,
+    pub value: u32,
 }
 
 #[derive(Clone, Debug)]
@@ -39,8 +51,10 @@ pub struct Tick {
     pub releases: Vec<(usize, Fate)>,
     /// The tasks with an unfinished job below the one that ran.
     pub preempted: Vec<usize>,
-    /// The contents after the tick.
-    pub after: Contents,
+    /// The contents after the tick. Ticks that change nothing share them with the tick before.
+    pub after: Rc<Contents>,
+    /// What the statement, and the starts of jobs before it, changed in registers.
+    pub registers: Vec<RegisterChange>,
 }
 
 impl Tick {
@@ -70,15 +84,17 @@ impl Recording {
         let mut machine = Machine::new(sheet);
         machine.run(first.min(limit), &mut NoObserver);
         let before = contents(&machine);
+        let mut current = Rc::new(before.clone());
         let mut ticks = Vec::new();
         for tick in machine.tick..=last {
             if tick == limit {
                 break;
             }
-            match record_tick(&mut machine, tick) {
-                Some(recorded) => ticks.push(recorded),
-                None => break,
-            }
+            let Some(recorded) = record_tick(&mut machine, tick, &current) else {
+                break;
+            };
+            current = recorded.after.clone();
+            ticks.push(recorded);
         }
         machine.run(limit, &mut NoObserver);
         let tasks = sheet.bodies.len();
@@ -88,9 +104,10 @@ impl Recording {
 }
 
 /// Does one tick, or nothing if the run has stopped.
-fn record_tick(machine: &mut Machine, tick: u32) -> Option<Tick> {
+fn record_tick(machine: &mut Machine, tick: u32, before: &Rc<Contents>) -> Option<Tick> {
     let tasks = machine.sheet.bodies.len();
     let standings: Vec<Standing> = (0..tasks).map(|task| Standing::of(machine, task)).collect();
+    let registers = all_registers(machine);
     let mut observed = Observed::default();
     machine.run(tick + 1, &mut observed);
     if machine.tick == tick {
@@ -99,6 +116,7 @@ fn record_tick(machine: &mut Machine, tick: u32) -> Option<Tick> {
     let done = observed.statement.map(|(task, statement)| Done {
         task,
         statement,
+        command: standings[task].command(),
         subject: standings[task].subject(statement),
         commit: observed.commit,
         lost: observed.lost,
@@ -108,7 +126,28 @@ fn record_tick(machine: &mut Machine, tick: u32) -> Option<Tick> {
     // Only the task that ran can have ended its job in this tick.
     let has_job = |task: &usize| machine.unfinished & 1 << task != 0;
     let preempted = (0..tasks).filter(|task| has_job(task) && !ran(*task)).collect();
-    Some(Tick { done, releases: observed.releases, preempted, after: contents(machine) })
+    let after = contents(machine);
+    let after = if after == **before { before.clone() } else { Rc::new(after) };
+    let registers = register_changes(&registers, &all_registers(machine));
+    Some(Tick { done, releases: observed.releases, preempted, after, registers })
+}
+
+type Registers = [[u32; REGISTERS]; MAX_TASKS];
+
+fn all_registers(machine: &Machine) -> Registers {
+    std::array::from_fn(|task| machine.jobs[task].registers)
+}
+
+fn register_changes(before: &Registers, after: &Registers) -> Vec<RegisterChange> {
+    let mut changes = Vec::new();
+    for (task, (before, after)) in before.iter().zip(after).enumerate() {
+        for (register, (before, &value)) in before.iter().zip(after).enumerate() {
+            if *before != value {
+                changes.push(RegisterChange { task, register, value });
+            }
+        }
+    }
+    changes
 }
 
 fn contents(machine: &Machine) -> Contents {

@@ -26,7 +26,9 @@ impl fmt::Display for Subject {
 /// What a task is at before a tick: enough to name the subject of the statement it does then.
 #[derive(Clone, Copy, Debug)]
 pub struct Standing {
+    /// The command, and its number among the sheet's.
     command: Command,
+    number: usize,
     /// The exchange's word i and the task that its init names; the same for Clean's j.
     exchanged: Subject,
     exchanged_task: Subject,
@@ -43,7 +45,12 @@ impl Standing {
         let (exchanged, exchanged_task) = pair_subject(job, job.exchange.position);
         let (cleaned, cleaned_task) = pair_subject(job, job.exchange.cleaned);
         let command = machine.sheet.commands[next];
-        Standing { command, exchanged, exchanged_task, cleaned, cleaned_task }
+        Standing { command, number: next, exchanged, exchanged_task, cleaned, cleaned_task }
+    }
+
+    /// The number of the command under way among the sheet's commands.
+    pub fn command(&self) -> usize {
+        self.number
     }
 
     pub fn subject(&self, statement: Statement) -> Option<Subject> {

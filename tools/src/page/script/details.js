@@ -1,0 +1,135 @@
+// The text beside the chart: one tick in words, and what holds after it.
+
+const FATES = ["is released and starts a job", "is released; the release waits: the job is unfinished",
+  "starts the job of a release that waited", "is released; the release is dropped: four wait already"];
+
+const happens = document.getElementById("happens");
+const values = document.getElementById("values");
+let told;
+
+function element(name, className, ...content) {
+  const made = document.createElement(name);
+  if (className) made.className = className;
+  made.append(...content);
+  return made;
+}
+
+function tellTick() {
+  const tick = toldTick();
+  const state = `${tick},${view.pinned !== null}`;
+  // Scrolling changes nothing here, and a reader of the screen should not hear it again.
+  if (state === told) return;
+  told = state;
+  document.getElementById("unpin").disabled = view.pinned === null;
+  document.getElementById("tick-before").disabled = tick === null || tick === 0;
+  document.getElementById("tick-after").disabled = run.ticks === 0 || tick === run.ticks - 1;
+  document.getElementById("tick-title").textContent =
+    tick === null ? "No tick" : `Tick ${tick}${view.pinned === null ? "" : ", pinned"}`;
+  happens.replaceChildren(...(tick === null ? [nothingTold()] : whatHappens(tick)));
+  values.replaceChildren(...whatHolds(tick));
+}
+
+function nothingTold() {
+  const text = run.ticks === 0
+    ? "The run has no ticks: nothing is released, or the limit is 0."
+    : "Point at a tick, or click one to pin it. What follows are the values at the start.";
+  return element("p", "sentence", text);
+}
+
+function whatHappens(tick) {
+  const parts = isIdle(tick) ? idleInWords(tick) : statementInWords(tick);
+  const items = [...releasesIn(tick).map(releaseInWords), ...eventsInWords(tick), ...changesInWords(tick)];
+  if (items.length > 0) parts.push(element("ul", "events", ...items.map((text) => element("li", "", text))));
+  return parts;
+}
+
+function idleInWords(tick) {
+  const [from, to] = idleStretch(tick);
+  const sentence = `No task has a job: idle from tick ${from} to ${to - 1}, ${to - from} in all.`;
+  return [element("p", "statement", "idle"), element("p", "sentence", sentence)];
+}
+
+function statementInWords(tick) {
+  const { kind, sentence } = statementOf(tick), task = taskOf(tick), [start, end] = run.bodies[task];
+  const command = run.command[tick];
+  return [
+    element("p", "statement", swatch(run.kinds[kind]), summary(tick)),
+    element("p", "sentence", sentence),
+    element("p", "command", `Command ${command - start + 1} of ${end - start} of the task: ${run.commands[command]}`),
+  ];
+}
+
+// The tick in one line.
+function summary(tick) {
+  if (isIdle(tick)) return "idle";
+  const subject = subjectOf(tick);
+  return `${run.tasks[taskOf(tick)]}: ${statementOf(tick).word}${subject ? ` ${subject.name}` : ""}`;
+}
+
+function releaseInWords({ task, fate }) { return `before it ${run.tasks[task]} ${FATES[fate]}`; }
+
+function eventsInWords(tick) {
+  const events = run.events[tick], found = [];
+  if (events & ANSWERS_YES) found.push("commit: yes");
+  if (events & ANSWERS_NO) found.push("commit: no");
+  if (events & LOST_STALE) found.push("the attempt is lost: a stale version; the transaction restarts");
+  if (events & LOST_REJECTED) found.push("the attempt is lost: a rejected commit; the transaction restarts");
+  if (events & ENDS_JOB) found.push(statementOf(tick).word === "spent" ? "the job ends as spent" : "the job ends");
+  const preempted = run.tasks.filter((_, task) => run.preempted[tick] >> task & 1);
+  if (preempted.length > 0) found.push(`with an unfinished job below it: ${preempted.join(", ")}`);
+  return found;
+}
+
+function changesInWords(tick) {
+  const changes = changesIn(tick);
+  const own = changes.map((change) => `${placeName(change.place)}: ${change.old} → ${change.new}`);
+  if (own.length === 0 && !isIdle(tick)) own.push("no current value and no register changes");
+  return own;
+}
+
+// The values after a tick; without a tick those at the start.
+function whatHolds(tick) {
+  const after = tick === null ? 0 : tick + 1;
+  const changed = new Set(tick === null ? [] : changesIn(tick).map((change) => change.place));
+  const number = (place) => {
+    const box = element("span", changed.has(place) ? "changed" : "", String(valueBefore(place, after)));
+    box.dataset.place = place;
+    return box;
+  };
+  const parts = [];
+  const add = (title, ...content) => parts.push(element("h3", "", title), ...content);
+  const when = tick === null ? "at the start" : `after tick ${tick}`;
+  if (run.words.length > 0) {
+    add(`Words ${when}`, element("div", "grid", ...run.words.map((name, word) => pair(name, number(word)))));
+  }
+  if (run.blocks.length > 0) add(`Blocks ${when}`, ...run.blocks.map((name, block) => blockLine(name, block, number)));
+  if (tick !== null && !isIdle(tick)) add(`Registers of ${run.tasks[taskOf(tick)]} ${when}`, registerGrid(taskOf(tick), number));
+  return parts;
+}
+
+function pair(name, value) {
+  const label = element("span", "", name);
+  label.title = name;
+  return element("div", "pair", label, value);
+}
+
+function registerGrid(task, number) {
+  const first = run.firstRegisterPlace + task * REGISTERS;
+  const registers = Array.from({ length: REGISTERS }, (_, register) => pair(`r${register}`, number(first + register)));
+  return element("div", "grid", ...registers);
+}
+
+function blockLine(name, block, number) {
+  const first = run.firstBlockPlace + block * BLOCK_NUMBERS;
+  const made = element("p", "block", element("span", "name", name), " version ", number(first), ":");
+  for (let offset = 1; offset < BLOCK_NUMBERS; offset++) made.append(" ", number(first + offset));
+  return made;
+}
+
+// Words and blocks that keep their start values have no row in the chart.
+function tellUnchanged() {
+  const unchanged = run.series.filter((series) => series.ticks.length === 0);
+  if (unchanged.length === 0) return;
+  const items = unchanged.map((series) => `${series.name}: ${valueText(series, 0)}`);
+  document.getElementById("unchanged").append(element("p", "", `Unchanged: ${items.join(", ")}.`));
+}
