@@ -3,13 +3,14 @@
 use std::ffi::{OsStr, OsString};
 use std::os::unix::ffi::OsStrExt;
 
+use tools::nearest::nearest;
 use tools::quote::cut;
 
 use crate::engine::TOP_LIMIT;
 use crate::failure::{not_done, Failure};
 use crate::help;
 use crate::table::{subcommand, Choice, Subcommand, HELP, LIMIT, NAME, SUBCOMMANDS, VERSION};
-use crate::words::{nearest, quoted};
+use crate::words::quoted;
 
 /// What a user asks for.
 pub enum Asked {

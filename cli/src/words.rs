@@ -1,4 +1,4 @@
-//! How messages put things: files and counts, faults of the system, and what was most likely meant.
+//! How messages put things: files and counts, and faults of the system.
 
 use std::ffi::OsStr;
 use std::io;
@@ -54,38 +54,11 @@ pub fn plain(error: &io::Error, doing: &str) -> String {
     }
 }
 
-/// The known word that was most likely meant: at most two letters away, and fewer than it has.
-pub fn nearest<'a>(given: &str, known: impl Iterator<Item = &'a str>) -> Option<&'a str> {
-    let distances = known.map(|word| (distance(given, word), word));
-    let near = distances.filter(|(distance, word)| *distance <= 2 && *distance < word.len());
-    near.min_by_key(|(distance, _)| *distance).map(|(_, word)| word)
-}
-
-/// How many letters must be put in, left out or changed.
-fn distance(one: &str, other: &str) -> usize {
-    // A long argument is near to nothing, and need not be compared.
-    if one.len().abs_diff(other.len()) > 2 {
-        return usize::MAX / 2;
-    }
-    let other: Vec<char> = other.chars().collect();
-    let mut row: Vec<usize> = (0..=other.len()).collect();
-    for (index, letter) in one.chars().enumerate() {
-        let mut diagonal = row[0];
-        row[0] = index + 1;
-        for (column, against) in other.iter().enumerate() {
-            let changed = diagonal + usize::from(letter != *against);
-            diagonal = row[column + 1];
-            row[column + 1] = changed.min(diagonal + 1).min(row[column] + 1);
-        }
-    }
-    row[other.len()]
-}
-
 #[cfg(test)]
 mod tests {
     use std::ffi::OsStr;
 
-    use super::{counted, file_name, nearest};
+    use super::{counted, file_name};
 
     #[test]
     fn names_of_files() {
@@ -100,16 +73,5 @@ mod tests {
     fn counts() {
         assert_eq!(counted(0, "word"), "0 words");
         assert_eq!(counted(1, "word"), "1 word");
-    }
-
-    #[test]
-    fn the_nearest_word() {
-        let known = || ["--limit", "--title", "--last"].into_iter();
-        assert_eq!(nearest("--limt", known()), Some("--limit"));
-        assert_eq!(nearest("--lats", known()), Some("--last"));
-        assert_eq!(nearest("--colour", known()), None);
-        assert_eq!(nearest("x", ["run"].into_iter()), None);
-        assert_eq!(nearest("rnu", ["run"].into_iter()), Some("run"));
-        assert_eq!(nearest("runn", ["run"].into_iter()), Some("run"));
     }
 }

@@ -69,7 +69,7 @@ fn arguments_that_ask_for_nothing_known() {
     let cases = [
         (&[][..], usage),
         (&["rum"], "hizgrael: 'rum' is no subcommand (did you mean 'run'?); see 'hizgrael --help'"),
-        (&["turn"], "hizgrael: 'turn' is no subcommand (did you mean 'run'?); see 'hizgrael --help'"),
+        (&["turn"], "hizgrael: 'turn' is no subcommand; see 'hizgrael --help'"),
         (&["help", "me"], "hizgrael: 'me' is no subcommand; see 'hizgrael --help'"),
         (&["-"], "hizgrael: '-' is no subcommand; see 'hizgrael --help'"),
         (&["--chek"], "hizgrael: unknown option '--chek'; see 'hizgrael --help'"),

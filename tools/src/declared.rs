@@ -3,7 +3,8 @@
 use std::collections::HashMap;
 
 use crate::form::{Operand, Row, NAMED};
-use crate::names::{name_fault, LONGEST_NAME};
+use crate::names::name_fault;
+use crate::nearest::nearest;
 use crate::quote::{cut, quoted};
 use crate::recording::subject::Subject;
 
@@ -90,37 +91,11 @@ impl Declared {
     /// The name that was meant, if one is close.
     fn hint(&self, kind: Operand, operand: &str) -> String {
         let known = self.names.keys().filter(|name| self.find(name, kind).is_some());
-        let measured = known.map(|name| (distance(name, operand), name));
-        // By name where two are as close, so that the answer is always the same.
-        match measured.filter(|(distance, _)| *distance <= most_slips(operand)).min() {
-            Some((_, name)) => format!("; did you mean {name}?"),
+        match nearest(operand, known.map(String::as_str)) {
+            Some(name) => format!("; did you mean {name}?"),
             None => String::new(),
         }
     }
-}
-
-/// How many slips a name may have and still be guessed.
-fn most_slips(name: &str) -> usize {
-    match name.len() {
-        0..=2 => 0,
-        3..=5 => 1,
-        _ => 2,
-    }
-}
-
-/// The letters to change, add or leave out to get from one name to the other; capitals do not count.
-fn distance(name: &str, other: &str) -> usize {
-    let mut row: [usize; LONGEST_NAME + 1] = std::array::from_fn(|index| index);
-    for (line, letter) in name.bytes().enumerate() {
-        let mut before = row[0];
-        row[0] = line + 1;
-        for (column, beside) in other.bytes().enumerate() {
-            let change = before + usize::from(!letter.eq_ignore_ascii_case(&beside));
-            before = row[column + 1];
-            row[column + 1] = change.min(before + 1).min(row[column] + 1);
-        }
-    }
-    row[other.len()]
 }
 
 pub fn too_large(kind: Operand, operand: &str) -> String {

@@ -2,9 +2,10 @@
 //!
 //! `form` is the table of the text form; `encode`, with what is `declared` so far, and `decode` are
 //! its two directions; `names` are those of words, blocks and tasks; `explain` says in a sentence why
-//! the check turns a sheet down; `report` what a report's numbers mean; `quote` repeats a user's text.
-//! `recording` is what happened in each tick of a run; `chart` draws it as SVG, with its `source`.
-//! `history` lists the operations of a run as CSV and JSON.
+//! the check turns a sheet down; `report` what a report's numbers mean; `quote` repeats a user's text,
+//! `nearest` finds the word that was meant.
+//! `recording` is what happened in each tick of a run; `chart` draws it as SVG, `page` as HTML;
+//! `history` lists the operations as CSV and JSON; `source` says where all this comes from.
 //! `examples` makes the stored files of examples/.
 
 pub mod chart;
@@ -16,6 +17,7 @@ pub mod explain;
 pub mod form;
 pub mod history;
 pub mod names;
+pub mod nearest;
 pub mod page;
 pub mod quote;
 pub mod recording;
