@@ -58,8 +58,8 @@ const STEPS = {
   },
   // A press on the overview at a share of its strip, and a move to another one.
   overview: (from, to) => {
-    const box = byId("overview").getBoundingClientRect();
-    const at = (share) => ({ clientX: box.left + LEFT_MARGIN + share * (box.width - LEFT_MARGIN - 8), clientY: box.top + 20 });
+    const box = byId("overview").getBoundingClientRect(), width = byId("overview").clientWidth - LEFT_MARGIN - 8;
+    const at = (share) => ({ clientX: box.left + 1 + LEFT_MARGIN + share * width, clientY: box.top + 20 });
     pointer(byId("overview"), "pointerdown", at(from));
     pointer(byId("overview"), "pointermove", at(to));
     pointer(byId("overview"), "pointerup", at(to));

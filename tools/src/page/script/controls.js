@@ -28,7 +28,9 @@ const CLICK_REACH = 4;
 const pointers = new Map();
 let pressed = null;
 
-function chartX(event) { return event.clientX - chart.getBoundingClientRect().left; }
+// Where a pointer is on a canvas, whose border is not part of the drawing.
+function xOn(canvas, event) { return event.clientX - canvas.getBoundingClientRect().left - canvas.clientLeft; }
+function chartX(event) { return xOn(chart, event); }
 
 function onChartDown(event) {
   pointers.set(event.pointerId, chartX(event));
@@ -101,7 +103,7 @@ function onChartLeave() {
 let held = null;
 
 function onOverviewDown(event) {
-  const tick = overviewTick(event.clientX - overview.getBoundingClientRect().left);
+  const tick = overviewTick(xOn(overview, event));
   const reach = Math.max(shownTicks() / 2, SMALLEST_FRAME / 2 / overviewScale());
   const middle = view.from + shownTicks() / 2;
   try { overview.setPointerCapture(event.pointerId); } catch { /* as on the chart */ }
@@ -111,7 +113,7 @@ function onOverviewDown(event) {
 
 function onOverviewMove(event) {
   if (!held) return;
-  const tick = overviewTick(event.clientX - overview.getBoundingClientRect().left);
+  const tick = overviewTick(xOn(overview, event));
   showFrom(held.from + tick - held.tick);
 }
 
