@@ -121,10 +121,8 @@ function onOverviewUp() { held = null; }
 
 // ---- Keys.
 
-// Those that move: while the chart has the focus, so that elsewhere they scroll the page as always.
-const MOVING_KEYS = {
-  ArrowLeft: (shift) => step(-1, -shownTicks() / 10, shift),
-  ArrowRight: (shift) => step(1, shownTicks() / 10, shift),
+// While the chart has the focus; elsewhere they scroll the page and press its buttons as always.
+const CHART_KEYS = {
   PageUp: (shift) => step(-Math.floor(shownTicks()), -shownTicks(), shift),
   PageDown: (shift) => step(Math.floor(shownTicks()), shownTicks(), shift),
   Home: (shift) => step(-run.ticks, -run.ticks, shift),
@@ -139,6 +137,8 @@ function step(ticks, windowTicks, shift) {
 }
 
 const KEYS = {
+  "ArrowLeft": (shift) => step(-1, -shownTicks() / 10, shift),
+  "ArrowRight": (shift) => step(1, shownTicks() / 10, shift),
   "+": () => zoomHere(ZOOM_STEP),
   "=": () => zoomHere(ZOOM_STEP),
   "-": () => zoomHere(1 / ZOOM_STEP),
@@ -160,10 +160,10 @@ function onKey(event) {
   // Ctrl, Alt and Meta are the browser's, and a field takes its own keys.
   if (event.ctrlKey || event.altKey || event.metaKey || event.target instanceof HTMLInputElement) return;
   const jump = JUMPS.find((one) => one.key === event.key.toLowerCase());
-  const moving = document.activeElement === chart && Object.hasOwn(MOVING_KEYS, event.key);
-  if (moving) MOVING_KEYS[event.key](event.shiftKey);
+  const onChart = document.activeElement === chart && Object.hasOwn(CHART_KEYS, event.key);
+  if (onChart) CHART_KEYS[event.key](event.shiftKey);
   else if (jump) jumpTo(jump, event.key === jump.key);
-  else if (Object.hasOwn(KEYS, event.key)) KEYS[event.key]();
+  else if (Object.hasOwn(KEYS, event.key)) KEYS[event.key](event.shiftKey);
   else return;
   event.preventDefault();
 }
@@ -214,9 +214,10 @@ function rounded(number) { return Number(number.toPrecision(7)); }
 // ---- The start.
 
 function onResize() {
-  view.width = Math.max(60, chart.clientWidth - LEFT);
+  // The heights first: a scrollbar that they bring takes some of the width.
   overview.style.height = `${overviewHeight}px`;
   chart.style.height = `${chartHeight}px`;
+  view.width = Math.max(60, chart.clientWidth - LEFT);
   setView(view.from, view.zoom);
 }
 
@@ -227,8 +228,10 @@ function listen() {
   chart.addEventListener("wheel", chartWheel, { passive: false });
   overview.addEventListener("wheel", overviewWheel, { passive: false });
   const listeners = [
-    [chart, { pointerdown: onChartDown, pointermove: onChartMove, pointerup: onChartUp, pointercancel: onChartCancel, pointerleave: onChartLeave }],
-    [overview, { pointerdown: onOverviewDown, pointermove: onOverviewMove, pointerup: onOverviewUp, pointercancel: onOverviewUp }],
+    [chart, { pointerdown: onChartDown, pointermove: onChartMove, pointerup: onChartUp }],
+    [chart, { pointercancel: onChartCancel, pointerleave: onChartLeave }],
+    [overview, { pointerdown: onOverviewDown, pointermove: onOverviewMove }],
+    [overview, { pointerup: onOverviewUp, pointercancel: onOverviewUp }],
     [document, { keydown: onKey }],
     [window, { resize: onResize, hashchange: showAddress }],
     [document.getElementById("go"), { submit: onGo }],
@@ -237,8 +240,8 @@ function listen() {
     for (const [name, listener] of Object.entries(events)) target.addEventListener(name, listener);
   }
   const buttons = {
-    "zoom-in": KEYS["+"], "zoom-out": KEYS["-"], "zoom-whole": KEYS["0"], "zoom-words": KEYS["1"], "unpin": unpin,
-    "tick-before": () => pin((toldTick() ?? 1) - 1), "tick-after": () => pin((toldTick() ?? -1) + 1),
+    "zoom-in": KEYS["+"], "zoom-out": KEYS["-"], "zoom-whole": KEYS["0"], "zoom-words": KEYS["1"],
+    "unpin": unpin, "tick-before": () => pin((toldTick() ?? 1) - 1), "tick-after": () => pin((toldTick() ?? -1) + 1),
   };
   for (const [id, act] of Object.entries(buttons)) document.getElementById(id).addEventListener("click", act);
 }
