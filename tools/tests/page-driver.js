@@ -110,7 +110,7 @@ function shown() {
     from, zoom,
     width: chart.clientWidth - LEFT_MARGIN,
     pixels: chart.width / window.devicePixelRatio - chart.clientWidth,
-    lanes: [0.05, 0.5, 0.95].map(lanesAt),
+    lanes: [0.02, 0.26, 0.3, 0.95].map(lanesAt),
     // The colours down the middle of the told tick, one for each task's row, the highest first. Left of the cell's word.
     column: tick === null ? [] : rowMiddles().map((y) => colourAt(chart, LEFT_MARGIN + (tick - from) * zoom + 2, y)),
   };

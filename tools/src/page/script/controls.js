@@ -206,7 +206,9 @@ function addressLater() {
 function writeAddress() {
   const tick = view.pinned === null ? "" : `tick=${view.pinned}&`;
   const address = `#${tick}from=${rounded(view.from)}&zoom=${rounded(view.zoom)}`;
-  if (address !== location.hash) history.replaceState(null, "", address);
+  if (address === location.hash) return;
+  // Inside a frame of another page the address may be out of reach; the page does without.
+  try { history.replaceState(null, "", address); } catch { /* nothing to do */ }
 }
 
 function rounded(number) { return Number(number.toPrecision(7)); }
