@@ -17,7 +17,12 @@ async function settled() {
 }
 
 const byId = (id) => document.getElementById(id);
-const place = () => Object.fromEntries([...new URLSearchParams(location.hash.slice(1))].map(([name, value]) => [name, Number(value)]));
+
+// The place that the address names.
+function place() {
+  const parts = [...new URLSearchParams(location.hash.slice(1))];
+  return Object.fromEntries(parts.map(([name, value]) => [name, Number(value)]));
+}
 
 // Where a tick's middle is on the chart, worked out from the address and not from the page's own variables.
 function pointOf(tick, height) {
@@ -26,7 +31,7 @@ function pointOf(tick, height) {
 }
 
 function pointer(target, type, point) {
-  target.dispatchEvent(new PointerEvent(type, { ...point, pointerId: 1, bubbles: true, cancelable: true, isPrimary: true, button: 0 }));
+  target.dispatchEvent(new PointerEvent(type, { ...point, pointerId: 1, bubbles: true, cancelable: true }));
 }
 
 const STEPS = {
@@ -41,6 +46,10 @@ const STEPS = {
     byId("go").requestSubmit();
   },
   hash: (hash) => { location.hash = hash; },
+  resize: (width) => {
+    document.body.style.width = width;
+    window.dispatchEvent(new Event("resize"));
+  },
   point: (tick) => pointer(byId("chart"), "pointermove", pointOf(tick, 60)),
   leave: () => pointer(byId("chart"), "pointerleave", pointOf(0, 60)),
   click: (tick) => {
@@ -58,8 +67,8 @@ const STEPS = {
   },
   // A press on the overview at a share of its strip, and a move to another one.
   overview: (from, to) => {
-    const box = byId("overview").getBoundingClientRect();
-    const at = (share) => ({ clientX: box.left + LEFT_MARGIN + share * (box.width - LEFT_MARGIN - 8), clientY: box.top + 20 });
+    const box = byId("overview").getBoundingClientRect(), width = byId("overview").clientWidth - LEFT_MARGIN - 8;
+    const at = (share) => ({ clientX: box.left + 1 + LEFT_MARGIN + share * width, clientY: box.top + 20 });
     pointer(byId("overview"), "pointerdown", at(from));
     pointer(byId("overview"), "pointermove", at(to));
     pointer(byId("overview"), "pointerup", at(to));
@@ -67,29 +76,41 @@ const STEPS = {
 };
 
 function colourAt(canvas, x, y) {
-  const ratio = window.devicePixelRatio, pixel = canvas.getContext("2d").getImageData(Math.round(x * ratio), Math.round(y * ratio), 1, 1).data;
+  const [column, row] = [x, y].map((number) => Math.round(number * window.devicePixelRatio));
+  const pixel = canvas.getContext("2d").getImageData(column, row, 1, 1).data;
   return "#" + [...pixel.slice(0, 3)].map((part) => part.toString(16).padStart(2, "0")).join("");
+}
+
+// Which tasks the overview shows at a share of its strip, by the lanes that are not white; the frame only tints them.
+function lanesAt(share) {
+  const canvas = byId("overview"), rows = document.querySelectorAll(".figures tbody tr").length;
+  const x = LEFT_MARGIN + share * (canvas.clientWidth - LEFT_MARGIN - 8);
+  const isDark = (row) => parseInt(colourAt(canvas, x, 14 + row * 7 + 3).slice(1, 3), 16) < 190;
+  return Array.from({ length: rows }, (_, row) => row).filter(isDark).map((row) => rows - 1 - row);
 }
 
 function shown() {
   const texts = (selector) => [...document.querySelectorAll(selector)].map((one) => one.textContent);
   const chart = byId("chart"), { from, zoom } = place(), tick = toldOnPage();
-  const values = [...document.querySelectorAll("#values [data-place]")].map((one) => [one.dataset.place, Number(one.textContent)]);
+  const values = [...document.querySelectorAll("#values [data-place]")];
+  const counts = [...document.querySelectorAll(".count")];
   return {
     title: byId("tick-title").textContent,
     statement: texts("#happens .statement").join(),
     sentence: texts("#happens .sentence").join(),
     command: texts("#happens .command").join(),
     events: texts("#happens li"),
-    values: Object.fromEntries(values),
+    values: Object.fromEntries(values.map((one) => [one.dataset.place, Number(one.textContent)])),
     changed: texts("#values .changed").map(Number),
-    counts: Object.fromEntries([...document.querySelectorAll(".count")].map((one) => [one.id.replace("-count", ""), one.textContent])),
+    counts: Object.fromEntries(counts.map((one) => [one.id.replace("-count", ""), one.textContent])),
     disabled: [...document.querySelectorAll("button:disabled")].map((one) => one.id),
     answer: byId("go-answer").textContent,
     hint: byId("hint").hidden ? "" : byId("hint").textContent,
     hash: location.hash,
     from, zoom,
     width: chart.clientWidth - LEFT_MARGIN,
+    pixels: chart.width / window.devicePixelRatio - chart.clientWidth,
+    lanes: [0.02, 0.26, 0.3, 0.95].map(lanesAt),
     // The colours down the middle of the told tick, one for each task's row, the highest first. Left of the cell's word.
     column: tick === null ? [] : rowMiddles().map((y) => colourAt(chart, LEFT_MARGIN + (tick - from) * zoom + 2, y)),
   };

@@ -42,11 +42,13 @@ const HTML: &str = include_str!("page.html");
 const STYLE: &str = include_str!("page.css");
 
 /// The parts of the script in the order in which they build on each other.
-const SCRIPT: [&str; 8] = [
+const SCRIPT: [&str; 10] = [
     include_str!("script/run.js"),
     include_str!("script/view.js"),
     include_str!("script/signs.js"),
     include_str!("script/chart.js"),
+    include_str!("script/columns.js"),
+    include_str!("script/series.js"),
     include_str!("script/overview.js"),
     include_str!("script/details.js"),
     include_str!("script/jumps.js"),

@@ -219,52 +219,6 @@ function drawSmallLost(context, x, top) {
   polygon(context, BLACK, [[x, top + CELL_HEIGHT + 1], [x, top + CELL_HEIGHT + 8], [x - 5, top + CELL_HEIGHT + 4.5]]);
 }
 
-// Zoomed out: for each column of ticks and each task the shares of the kinds from the bottom up, and of preemption above them.
-function drawColumns(context, first, last) {
-  const size = Math.ceil(1 / view.zoom), start = Math.floor(first / size) * size;
-  const bins = binned(start, last, size), tasks = run.tasks.length, kinds = run.kinds.length;
-  const edges = Array.from({ length: bins.bins + 1 }, (_, bin) => Math.round(tickToX(Math.min(start + bin * size, last))));
-  const share = CELL_HEIGHT / size;
-  const heights = new Float32Array(bins.bins * tasks);
-  context.fillStyle = "#ececec";
-  for (let bin = 0; bin < bins.bins; bin++) {
-    if (bins.idle[bin] * 2 > size) context.fillRect(edges[bin], SCALE_HEIGHT, edges[bin + 1] - edges[bin], rowsEnd - SCALE_HEIGHT);
-  }
-  const pile = (bin, task, ticks) => {
-    const cell = bin * tasks + task, height = ticks * share;
-    const bottom = cellsTop(task) + CELL_HEIGHT - heights[cell];
-    heights[cell] += height;
-    context.fillRect(edges[bin], bottom - height, edges[bin + 1] - edges[bin], height);
-  };
-  for (let kind = 0; kind <= kinds; kind++) {
-    context.fillStyle = kind < kinds ? seenColour(run.kinds[kind]) : "#e2e2e2";
-    for (let cell = 0; cell < bins.bins * tasks; cell++) {
-      const ticks = kind < kinds ? bins.ran[cell * kinds + kind] : bins.preempted[cell];
-      if (ticks > 0) pile(Math.floor(cell / tasks), cell % tasks, ticks);
-    }
-  }
-  drawEventsOfColumns(context, first, last);
-}
-
-// At most one commit of each answer and one lost attempt for each pixel and task.
-function drawEventsOfColumns(context, first, last) {
-  const drawn = new Map();
-  const isNew = (key, x) => { const known = drawn.get(key) === x; drawn.set(key, x); return !known; };
-  for (let tick = first; tick < last; tick++) {
-    const events = run.events[tick];
-    if ((events & (ANSWERS_YES | ANSWERS_NO | LOST_STALE | LOST_REJECTED)) === 0) continue;
-    const task = taskOf(tick), x = Math.round(tickToX(tick)), top = cellsTop(task);
-    if (events & ANSWERS_YES && isNew(task, x)) drawStroke(context, BLACK, x, top - 5, 4);
-    if (events & ANSWERS_NO && isNew(task + 8, x)) drawStroke(context, "#a51c30", x, top - 10, 4);
-    if (events & (LOST_STALE | LOST_REJECTED) && isNew(task + 16, x)) drawStroke(context, "#a51c30", x, top + CELL_HEIGHT + 2, 6);
-  }
-}
-
-function drawStroke(context, colour, x, y, height) {
-  context.fillStyle = colour;
-  context.fillRect(x, y, 1, height);
-}
-
 function drawReleases(context, first, last) {
   const { tick: ticks, task, fate } = run.releases;
   for (let index = countBelow(ticks, first); index < ticks.length && ticks[index] < last; index++) {
@@ -275,54 +229,6 @@ function drawReleases(context, first, last) {
     if (view.zoom >= SIGN_ZOOM) releaseSign(context, fate[index], x + (second ? BESIDE : 0), y);
     else smallReleaseSign(context, fate[index], x, y - 8);
   }
-}
-
-// A level with a mark at each change, and its new value where there is room before the next one.
-function drawSeries(context) {
-  shownSeries.forEach((series, index) => {
-    const y = rowsEnd + SERIES_HEIGHT * (index + 0.5) + 2;
-    line(context, "#999", 0.8, LEFT, y, Math.min(LEFT + view.width, tickToX(run.ticks)), y);
-    const ticks = series.ticks;
-    let drawnAt = -Infinity;
-    for (let change = countBelow(ticks, Math.floor(view.from)); change < ticks.length; change++) {
-      const tick = ticks[change], x = tickToX(tick + 0.5);
-      if (x > LEFT + view.width) break;
-      // Many changes in a pixel are one mark.
-      if (x - drawnAt < 1) continue;
-      drawnAt = x;
-      changeSign(context, x, y, view.zoom >= SIGN_ZOOM ? 4 : 2.5);
-      const next = change + 1 < ticks.length ? tickToX(ticks[change + 1] + 0.5) - 6 : Infinity;
-      drawChangedValue(context, series, tick, x + 6, y, Math.min(next, LEFT + view.width - 2) - x - 6);
-    }
-  });
-}
-
-function drawChangedValue(context, series, tick, x, y, room) {
-  // Most values of a zoomed-out chart have no room; those need no text at all.
-  if (room < 8) return;
-  const text = valueTexts(series, tick).find((text) => context.measureText(text).width <= room);
-  if (!text) return;
-  context.fillStyle = "#fff";
-  context.fillRect(x - 1, y - 6, context.measureText(text).width + 2, 12);
-  context.fillStyle = "#000";
-  context.fillText(text, x, y + 4);
-}
-
-// The new value in full, and in short.
-function valueTexts(series, tick) {
-  const short = valueText(series, tick + 1);
-  if (!series.isBlock) return [short];
-  const offsets = Array.from({ length: BLOCK_VALUES }, (_, offset) => offset);
-  const changed = offsets.filter((offset) => numberAt(series, offset, tick) !== numberAt(series, offset, tick + 1));
-  const values = changed.map((offset) => `, at ${offset}: ${numberAt(series, offset, tick + 1)}`);
-  return [short + values.join(""), short, String(valueBefore(series.place, tick + 1))];
-}
-
-function numberAt(series, offset, tick) { return valueBefore(series.place + 1 + offset, tick); }
-
-function valueText(series, tick) {
-  const number = valueBefore(series.place, tick);
-  return series.isBlock ? `version ${number}` : String(number);
 }
 
 // The names at the left: of each task with its lost attempts and drops, of each series with its value before the window.

@@ -28,7 +28,9 @@ const CLICK_REACH = 4;
 const pointers = new Map();
 let pressed = null;
 
-function chartX(event) { return event.clientX - chart.getBoundingClientRect().left; }
+// Where a pointer is on a canvas, whose border is not part of the drawing.
+function xOn(canvas, event) { return event.clientX - canvas.getBoundingClientRect().left - canvas.clientLeft; }
+function chartX(event) { return xOn(chart, event); }
 
 function onChartDown(event) {
   pointers.set(event.pointerId, chartX(event));
@@ -101,7 +103,7 @@ function onChartLeave() {
 let held = null;
 
 function onOverviewDown(event) {
-  const tick = overviewTick(event.clientX - overview.getBoundingClientRect().left);
+  const tick = overviewTick(xOn(overview, event));
   const reach = Math.max(shownTicks() / 2, SMALLEST_FRAME / 2 / overviewScale());
   const middle = view.from + shownTicks() / 2;
   try { overview.setPointerCapture(event.pointerId); } catch { /* as on the chart */ }
@@ -111,7 +113,7 @@ function onOverviewDown(event) {
 
 function onOverviewMove(event) {
   if (!held) return;
-  const tick = overviewTick(event.clientX - overview.getBoundingClientRect().left);
+  const tick = overviewTick(xOn(overview, event));
   showFrom(held.from + tick - held.tick);
 }
 
@@ -119,10 +121,8 @@ function onOverviewUp() { held = null; }
 
 // ---- Keys.
 
-// Those that move: while the chart has the focus, so that elsewhere they scroll the page as always.
-const MOVING_KEYS = {
-  ArrowLeft: (shift) => step(-1, -shownTicks() / 10, shift),
-  ArrowRight: (shift) => step(1, shownTicks() / 10, shift),
+// While the chart has the focus; elsewhere they scroll the page and press its buttons as always.
+const CHART_KEYS = {
   PageUp: (shift) => step(-Math.floor(shownTicks()), -shownTicks(), shift),
   PageDown: (shift) => step(Math.floor(shownTicks()), shownTicks(), shift),
   Home: (shift) => step(-run.ticks, -run.ticks, shift),
@@ -137,6 +137,8 @@ function step(ticks, windowTicks, shift) {
 }
 
 const KEYS = {
+  "ArrowLeft": (shift) => step(-1, -shownTicks() / 10, shift),
+  "ArrowRight": (shift) => step(1, shownTicks() / 10, shift),
   "+": () => zoomHere(ZOOM_STEP),
   "=": () => zoomHere(ZOOM_STEP),
   "-": () => zoomHere(1 / ZOOM_STEP),
@@ -158,10 +160,10 @@ function onKey(event) {
   // Ctrl, Alt and Meta are the browser's, and a field takes its own keys.
   if (event.ctrlKey || event.altKey || event.metaKey || event.target instanceof HTMLInputElement) return;
   const jump = JUMPS.find((one) => one.key === event.key.toLowerCase());
-  const moving = document.activeElement === chart && Object.hasOwn(MOVING_KEYS, event.key);
-  if (moving) MOVING_KEYS[event.key](event.shiftKey);
+  const onChart = document.activeElement === chart && Object.hasOwn(CHART_KEYS, event.key);
+  if (onChart) CHART_KEYS[event.key](event.shiftKey);
   else if (jump) jumpTo(jump, event.key === jump.key);
-  else if (Object.hasOwn(KEYS, event.key)) KEYS[event.key]();
+  else if (Object.hasOwn(KEYS, event.key)) KEYS[event.key](event.shiftKey);
   else return;
   event.preventDefault();
 }
@@ -204,7 +206,9 @@ function addressLater() {
 function writeAddress() {
   const tick = view.pinned === null ? "" : `tick=${view.pinned}&`;
   const address = `#${tick}from=${rounded(view.from)}&zoom=${rounded(view.zoom)}`;
-  if (address !== location.hash) history.replaceState(null, "", address);
+  if (address === location.hash) return;
+  // Inside a frame of another page the address may be out of reach; the page does without.
+  try { history.replaceState(null, "", address); } catch { /* nothing to do */ }
 }
 
 function rounded(number) { return Number(number.toPrecision(7)); }
@@ -212,9 +216,10 @@ function rounded(number) { return Number(number.toPrecision(7)); }
 // ---- The start.
 
 function onResize() {
-  view.width = Math.max(60, chart.clientWidth - LEFT);
+  // The heights first: a scrollbar that they bring takes some of the width.
   overview.style.height = `${overviewHeight}px`;
   chart.style.height = `${chartHeight}px`;
+  view.width = Math.max(60, chart.clientWidth - LEFT);
   setView(view.from, view.zoom);
 }
 
@@ -225,8 +230,10 @@ function listen() {
   chart.addEventListener("wheel", chartWheel, { passive: false });
   overview.addEventListener("wheel", overviewWheel, { passive: false });
   const listeners = [
-    [chart, { pointerdown: onChartDown, pointermove: onChartMove, pointerup: onChartUp, pointercancel: onChartCancel, pointerleave: onChartLeave }],
-    [overview, { pointerdown: onOverviewDown, pointermove: onOverviewMove, pointerup: onOverviewUp, pointercancel: onOverviewUp }],
+    [chart, { pointerdown: onChartDown, pointermove: onChartMove, pointerup: onChartUp }],
+    [chart, { pointercancel: onChartCancel, pointerleave: onChartLeave }],
+    [overview, { pointerdown: onOverviewDown, pointermove: onOverviewMove }],
+    [overview, { pointerup: onOverviewUp, pointercancel: onOverviewUp }],
     [document, { keydown: onKey }],
     [window, { resize: onResize, hashchange: showAddress }],
     [document.getElementById("go"), { submit: onGo }],
@@ -235,8 +242,8 @@ function listen() {
     for (const [name, listener] of Object.entries(events)) target.addEventListener(name, listener);
   }
   const buttons = {
-    "zoom-in": KEYS["+"], "zoom-out": KEYS["-"], "zoom-whole": KEYS["0"], "zoom-words": KEYS["1"], "unpin": unpin,
-    "tick-before": () => pin((toldTick() ?? 1) - 1), "tick-after": () => pin((toldTick() ?? -1) + 1),
+    "zoom-in": KEYS["+"], "zoom-out": KEYS["-"], "zoom-whole": KEYS["0"], "zoom-words": KEYS["1"],
+    "unpin": unpin, "tick-before": () => pin((toldTick() ?? 1) - 1), "tick-after": () => pin((toldTick() ?? -1) + 1),
   };
   for (const [id, act] of Object.entries(buttons)) document.getElementById(id).addEventListener("click", act);
 }

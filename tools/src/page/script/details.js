@@ -77,6 +77,8 @@ function eventsInWords(tick) {
   if (events & ENDS_JOB) found.push(statementOf(tick).word === "spent" ? "the job ends as spent" : "the job ends");
   const preempted = run.tasks.filter((_, task) => run.preempted[tick] >> task & 1);
   if (preempted.length > 0) found.push(`with an unfinished job below it: ${preempted.join(", ")}`);
+  const waiting = Array.from(waitingAfter(tick), (count, task) => [count, run.tasks[task]]).filter(([count]) => count > 0);
+  if (waiting.length > 0) found.push(`releases that wait: ${waiting.map(([count, name]) => `${count} for ${name}`).join(", ")}`);
   return found;
 }
 

@@ -102,7 +102,8 @@ function drawLanes(context) {
   }
   context.globalAlpha = 1;
   context.fillStyle = "#333";
-  context.fillText(tasks === 1 ? run.tasks[0].split(" ")[0] : `t${tasks - 1} (top) to t0`, 6, LANES_TOP + tasks * LANE_HEIGHT / 2 + 4);
+  const label = tasks === 1 ? "t0" : `t${tasks - 1} (top) to t0`;
+  context.fillText(label, 6, LANES_TOP + tasks * LANE_HEIGHT / 2 + 4);
 }
 
 function drawFrame(context) {

@@ -138,6 +138,17 @@ function releasesIn(tick) {
   return found;
 }
 
+// How many releases wait for each task after a tick.
+function waitingAfter(tick) {
+  const { tick: ticks, task, fate } = run.releases;
+  const waiting = new Uint8Array(run.tasks.length);
+  for (let index = 0; index < ticks.length && ticks[index] <= tick; index++) {
+    if (fate[index] === WAITS) waiting[task[index]]++;
+    if (fate[index] === STARTS_AFTER_WAITING) waiting[task[index]]--;
+  }
+  return waiting;
+}
+
 function isIdle(tick) { return run.statement[tick] === 0; }
 function taskOf(tick) { return run.events[tick] & TASK_BITS; }
 function statementOf(tick) {
@@ -172,13 +183,17 @@ function placeName(place) {
 // the ticks by kind of statement and those in which its job is preempted, and for each bin the idle ticks.
 function binned(first, last, size) {
   const bins = Math.max(0, Math.ceil((last - first) / size)), tasks = run.tasks.length, kinds = run.kinds.length;
-  const ran = new Uint16Array(bins * tasks * kinds), preempted = new Uint16Array(bins * tasks), idle = new Uint16Array(bins);
+  const ran = new Uint16Array(bins * tasks * kinds);
+  const preempted = new Uint16Array(bins * tasks), idle = new Uint16Array(bins);
   const kindOf = run.statements.map((statement) => statement[1]);
   for (let tick = first; tick < last; tick++) {
     const bin = Math.floor((tick - first) / size);
     if (isIdle(tick)) { idle[bin]++; continue; }
     ran[(bin * tasks + taskOf(tick)) * kinds + kindOf[run.statement[tick] - 1]]++;
-    for (let bits = run.preempted[tick]; bits !== 0; bits &= bits - 1) preempted[bin * tasks + 31 - Math.clz32(bits & -bits)]++;
+    for (let bits = run.preempted[tick]; bits !== 0; bits &= bits - 1) {
+      const lowest = 31 - Math.clz32(bits & -bits);
+      preempted[bin * tasks + lowest]++;
+    }
   }
   return { first, last, size, bins, ran, preempted, idle };
 }
