@@ -5,7 +5,7 @@
 //! the check turns a sheet down; `report` what a report's numbers mean; `quote` repeats a user's text,
 //! `nearest` finds the word that was meant.
 //! `recording` is what happened in each tick of a run; `chart` draws it as SVG, `page` as HTML;
-//! `history` lists the operations as CSV and JSON; `source` says where all this comes from.
+//! `history` lists the operations as CSV and as `json`; `source` says where all this comes from.
 //! `examples` makes the stored files of examples/.
 
 pub mod chart;
@@ -16,6 +16,7 @@ pub mod examples;
 pub mod explain;
 pub mod form;
 pub mod history;
+pub mod json;
 pub mod names;
 pub mod nearest;
 pub mod page;

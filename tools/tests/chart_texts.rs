@@ -166,13 +166,13 @@ fn titles_of_p5() {
     let found = titles(&draw(&example("worked/p5"), &options).unwrap());
     for expected in [
         "before tick 9, t1 upper: a release starts a job",
-        "tick 0, t0: LOAD\na register takes a value",
+        "tick 0, t0: LOAD\nThe register takes the number.",
         "ticks 9 to 28, t0: the job is unfinished, a higher task runs",
-        "tick 17, t1 upper: Fetch w0 valve\nfetches the save place: another exchange holds the word",
-        "tick 19, t1 upper: Mark t0\nthe task that held the word gets status 1",
-        "tick 25, t1 upper: Fail w1\nthe value found is not the old one: the status becomes 1",
-        "tick 27, t1 upper: Commit\nthe status is 1: the exchange answers no",
-        "tick 31, t0: Clean w0 valve\nthe word is still as installed and becomes as it was loaded\nthe job ends",
+        "tick 17, t1 upper: Fetch w0 valve\nThe value is fetched from the save place of the task that has the word installed.",
+        "tick 19, t1 upper: Mark t0\nThe task that the loaded word names gets status 1.",
+        "tick 25, t1 upper: Fail w1\nThe value found is not old: the task's own status becomes 1.",
+        "tick 27, t1 upper: Commit\nThe status is 1. The answer is no: no value changes.",
+        "tick 31, t0: Clean w0 valve\nThe word is still as installed: it becomes init again.\nThe job ends.",
     ] {
         assert!(found.iter().any(|title| title == expected), "{expected} is not in\n{found:#?}");
     }
@@ -187,8 +187,14 @@ fn with(titles: &[String], text: &str) -> usize {
 #[test]
 fn titles_of_lost_attempts_releases_idle_ticks_and_changes() {
     let contended = titles(&picture(&example("contended-transaction")));
-    assert_eq!(with(&contended, "\nattempt lost, stale version: the transaction restarts"), 1);
-    assert_eq!(with(&contended, "\nattempt lost, rejected commit: the transaction restarts"), 2);
+    assert_eq!(
+        with(&contended, "\nAn attempt is lost, stale version: the transaction restarts."),
+        1
+    );
+    assert_eq!(
+        with(&contended, "\nAn attempt is lost, rejected commit: the transaction restarts."),
+        2
+    );
     let drops = titles(&picture(&example("worked/drops-of-two-tasks")));
     assert_eq!(with(&drops, "t0: a release is dropped: four wait already"), 2);
     assert_eq!(with(&drops, "t1: a release is dropped: four wait already"), 1);

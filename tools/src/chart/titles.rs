@@ -2,10 +2,11 @@
 
 use std::ops::Range;
 
-use simulator::observer::{Cause, Fate, Statement};
+use simulator::observer::{Cause, Fate};
 use simulator::sheet::Block;
 
 use crate::names::Names;
+use crate::recording::sentences::sentence;
 use crate::recording::statement::label;
 use crate::recording::subject::Subject;
 use crate::recording::{Contents, Done, Recording};
@@ -15,18 +16,18 @@ pub fn cell(tick: u32, names: &Names, done: &Done) -> String {
     let subject = done.subject.map(|subject| format!(" {}", names.of(subject))).unwrap_or_default();
     let task = names.of(Subject::Task(done.task));
     let mut title = format!("tick {tick}, {task}: {}{subject}", label(done.statement));
-    title += &format!("\n{}", meaning(done.statement));
+    title += &format!("\n{}", sentence(done.statement));
     match done.lost {
         Some(Cause::StaleVersion) => {
-            title += "\nattempt lost, stale version: the transaction restarts"
+            title += "\nAn attempt is lost, stale version: the transaction restarts."
         }
         Some(Cause::RejectedCommit) => {
-            title += "\nattempt lost, rejected commit: the transaction restarts";
+            title += "\nAn attempt is lost, rejected commit: the transaction restarts.";
         }
         None => {}
     }
     if done.ends_job {
-        title += "\nthe job ends";
+        title += "\nThe job ends.";
     }
     title
 }
@@ -97,50 +98,4 @@ pub fn before(recording: &Recording, names: &Names, subject: Subject, tick: usiz
         Subject::Task(_) => String::new(),
     };
     format!("before tick {}, {}: {held}", recording.first as usize + tick, names.of(subject))
-}
-
-/// What a statement does, in document 01's words.
-fn meaning(statement: Statement) -> &'static str {
-    match statement {
-        Statement::Load => "a register takes a value",
-        Statement::Add => "a register takes the sum of two",
-        Statement::Pair => "records the old and the new value for the next SWAP",
-        Statement::Begin => "a transaction begins and keeps the registers",
-        Statement::ReadLoad => "READ loads the word",
-        Statement::ReadLook => "READ looks whether the word's own value counts",
-        Statement::ReadFetch => "READ fetches the save place: the word's own value does not count",
-        Statement::FirstLoad => "the first GET or PUT of the block loads its bank word",
-        Statement::FirstLook => "looks whether the bank word's own value counts",
-        Statement::FirstFetch => "fetches the save place: the bank word's own value does not count",
-        Statement::AgainLoad => "loads the bank word again, to check the version",
-        Statement::AgainLook => "looks at the bank word again, to check the version",
-        Statement::AgainFetch => "fetches the bank word's save place, to check the version",
-        Statement::GetFromBlock => "GET fetches a value of the block",
-        Statement::GetFromCopy => "GET fetches a value of the own copy",
-        Statement::PutCopies => "the first PUT copies one of the block's eight values",
-        Statement::PutWrites => "PUT writes to the own copy",
-        Statement::CommitOfNothing => "COMMIT with nothing touched: the transaction ends",
-        Statement::CommitGathers => "COMMIT gathers the touched blocks",
-        Statement::CommitSpent => "a PUT block is at the highest version: the job is spent",
-        Statement::ExchangeStart => "the exchange starts: the task's status becomes 0",
-        Statement::ExchangeTest => "tests whether a word is left and the status is not 1",
-        Statement::ExchangeLoad => "loads the word of the exchange",
-        Statement::ExchangeLook => "looks whether the word's own value counts",
-        Statement::ExchangeFetch => "fetches the save place: another exchange holds the word",
-        Statement::ExchangeSave => "saves the value found",
-        Statement::FailAfterSave => "the value found is not the old one: the status becomes 1",
-        Statement::Mark | Statement::CleanMark => "the task that held the word gets status 1",
-        Statement::InstallDone => {
-            "the word is still as loaded and takes the new value, not valid yet"
-        }
-        Statement::InstallNotDone => "the word is no longer as loaded: nothing is written",
-        Statement::FailAfterInstall => "Install has written nothing: the status becomes 1",
-        Statement::CommitYes => "status 0 becomes 2: the exchange answers yes",
-        Statement::CommitNo => "the status is 1: the exchange answers no",
-        Statement::CleanAsNew => {
-            "the word is still as installed and becomes valid with its new value"
-        }
-        Statement::CleanBackToInit => "the word is still as installed and becomes as it was loaded",
-        Statement::CleanNothing => "the word is no longer as installed: nothing is written",
-    }
 }

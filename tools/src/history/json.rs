@@ -5,6 +5,7 @@ use std::fmt::{self, Display, Formatter, Write};
 use simulator::sheet::Command;
 
 use super::rows::{cause, Arguments, Row, Table};
+use crate::json::string;
 use crate::recording::subject::Subject;
 use crate::source::Source;
 
@@ -121,7 +122,7 @@ impl Display for Json {
         match self {
             Json::Null => formatter.write_str("null"),
             Json::Number(value) => write!(formatter, "{value}"),
-            Json::Text(text) => write_text(formatter, text),
+            Json::Text(text) => formatter.write_str(&string(text)),
             Json::List(values) => {
                 formatter.write_char('[')?;
                 for (index, value) in values.iter().enumerate() {
@@ -146,18 +147,4 @@ fn comma(index: usize) -> &'static str {
     } else {
         ", "
     }
-}
-
-/// Quotes, backslashes and control characters may not stand in a text as they are.
-fn write_text(formatter: &mut Formatter<'_>, text: &str) -> fmt::Result {
-    formatter.write_char('"')?;
-    for letter in text.chars() {
-        match letter {
-            '"' | '\\' => write!(formatter, "\\{letter}")?,
-            '\n' => formatter.write_str("\\n")?,
-            '\0'..='\x1F' => write!(formatter, "\\u{:04x}", u32::from(letter))?,
-            _ => formatter.write_char(letter)?,
-        }
-    }
-    formatter.write_char('"')
 }

@@ -4,9 +4,9 @@ use simulator::observer::{Cause, Fate};
 use simulator::sheet::{Command, Sheet, BLOCK_VALUES, REGISTERS};
 
 use super::base64;
-use super::json::{list, object, string, strings};
-use super::sentences::SENTENCES;
+use crate::json::{list, object, string, strings};
 use crate::names::Names;
+use crate::recording::sentences::SENTENCES;
 use crate::recording::statement::{kind, label, Kind};
 use crate::recording::subject::Subject;
 use crate::recording::{Contents, Done, Recording};

@@ -3,8 +3,6 @@
 pub mod base64;
 pub mod data;
 mod figures;
-mod json;
-mod sentences;
 mod template;
 
 use simulator::sheet::{parse, Fault};

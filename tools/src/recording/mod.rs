@@ -1,5 +1,6 @@
 //! What happened in each tick of a run, recorded for the charts.
 
+pub mod sentences;
 pub mod series;
 pub mod statement;
 pub mod subject;

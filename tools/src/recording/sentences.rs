@@ -103,6 +103,10 @@ pub const SENTENCES: [(Statement, &str); 37] = [
     ),
 ];
 
+pub fn sentence(statement: Statement) -> &'static str {
+    SENTENCES[statement as usize].1
+}
+
 #[cfg(test)]
 mod tests {
     use super::SENTENCES;

@@ -1,4 +1,4 @@
-//! JSON that may stand inside a script element of a page.
+//! JSON, which may stand inside a script element of a page too.
 
 /// A string in quotes. No character of it can end the element or open a comment in the page.
 pub fn string(text: &str) -> String {
@@ -6,6 +6,7 @@ pub fn string(text: &str) -> String {
     for letter in text.chars() {
         match letter {
             '"' | '\\' => written.extend(['\\', letter]),
+            '\n' => written.push_str("\\n"),
             '<' | '>' | '&' | '\u{2028}' | '\u{2029}' | '\0'..='\u{1f}' | '\u{7f}' => {
                 written.push_str(&format!("\\u{:04x}", u32::from(letter)));
             }
