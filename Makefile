@@ -12,7 +12,7 @@ HEADER = include/hizgrael.h
 LIBRARY = target/staticlib/libhizgrael.a
 PROVED = target/staticlib/libengine.a target/staticlib/libbuilder.a
 PROGRAM = cli/target/release/hizgrael
-DOCUMENTS = docs/SHEETS.md docs/BOARDS.md CHANGELOG.md
+DOCUMENTS = docs/SHEETS.md docs/PROGRAM.md docs/BOARDS.md CHANGELOG.md examples/template.txt
 VERSION := $(shell sed -n 's/^.define HIZGRAEL_VERSION "\(.*\)"$$/\1/p' $(HEADER))
 
 PROVED_FROM := crates.txt $(shell find crates -type f \( -name '*.rt' -o -name '*.antt' \))
@@ -40,16 +40,11 @@ $(LIBRARY): $(PROVED) scripts/entries
 	cd target/objects && ar rcsD ../staticlib/libhizgrael.a engine.o builder.o
 	@scripts/entries $@ || { rm -f $@; exit 1; }
 
-# Proved anew only where a file of crates/ is newer.
-target/staticlib/lib%.a: $(PROVED_FROM)
-	@command -v rt > /dev/null || { echo "make: Rattle's command rt is not here, and without it lib$*.a cannot be proved and made" >&2; exit 1; }
-	@mkdir -p target/log
-	@echo "rt staticlib $*: proved first, which takes some minutes where nothing is proved yet; its words: target/log/make-$*.out"
-	@rt staticlib $* > target/log/make-$*.out 2>&1 || { tail -n 20 target/log/make-$*.out >&2; exit 1; }
-	@touch $@
-
-# One after the other: both prove the crates that they share.
-target/staticlib/libbuilder.a: | target/staticlib/libengine.a
+# By file times this may be asked for in vain; scripts/prove looks at what the files hold, and proves nothing twice.
+$(PROVED) &: $(PROVED_FROM)
+	@command -v rt > /dev/null || { echo "make: Rattle's command rt is not here, and without it the library cannot be proved and made" >&2; exit 1; }
+	@scripts/prove
+	@touch $(PROVED)
 
 $(PROGRAM): $(PROVED) $(HEADER) $(PROGRAM_FROM)
 	@command -v cargo > /dev/null || { echo "make: cargo is not here, and without it the program cannot be built" >&2; exit 1; }

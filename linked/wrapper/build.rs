@@ -12,7 +12,7 @@ fn main() {
         println!("cargo:rerun-if-changed={}", library.display());
         assert!(
             library.exists(),
-            "{} is missing: run 'rt staticlib {name}' in the root of the repository",
+            "{} is missing: scripts/prove makes it",
             library.display()
         );
         println!("cargo:rustc-link-lib=static={name}");
