@@ -10,11 +10,7 @@ fn main() {
     for name in ["engine", "builder"] {
         let library = folder.join(format!("lib{name}.a"));
         println!("cargo:rerun-if-changed={}", library.display());
-        assert!(
-            library.exists(),
-            "{} is missing: scripts/prove makes it",
-            library.display()
-        );
+        assert!(library.exists(), "{} is missing: scripts/prove makes it", library.display());
         println!("cargo:rustc-link-lib=static={name}");
     }
     println!("cargo:rustc-env=HIZGRAEL_VERSION={}", version(&root.join("include/hizgrael.h")));
