@@ -1,4 +1,4 @@
-//! docs/PROGRAM.md: each of its examples prints what stands below it.
+//! docs/PROGRAM.md: each of its examples prints what stands below it. README.md: its sheet gives the report beside it.
 #![cfg(feature = "proved")]
 
 mod common;
@@ -6,10 +6,14 @@ mod common;
 use std::path::Path;
 use std::process::Command;
 
-use common::PROGRAM;
+use common::{printed, run, PROGRAM};
 use tools::examples::folder;
 
 const MANUAL: &str = include_str!("../../docs/PROGRAM.md");
+const README: &str = include_str!("../../README.md");
+
+/// Where the second column of the README's sheet and report begins.
+const REPORT_COLUMN: usize = 32;
 
 /// Indented lines: the command behind a $, then what it prints and says.
 fn examples() -> Vec<(String, String)> {
@@ -55,4 +59,18 @@ fn the_manual_is_whole() {
             assert!(MANUAL.contains(&format!("`{}", choice.long)), "{}", choice.long);
         }
     }
+}
+
+#[test]
+fn the_sheet_of_the_readme_gives_the_report_beside_it() {
+    let both = README.lines().skip_while(|line| !line.starts_with("    WORD "));
+    let both = both.map_while(|line| line.strip_prefix("    "));
+    let (mut sheet, mut report) = (String::new(), String::new());
+    for line in both {
+        let (left, right) = line.split_at(line.len().min(REPORT_COLUMN));
+        sheet.push_str(&format!("{left}\n"));
+        report.push_str(&if right.is_empty() { String::new() } else { format!("{right}\n") });
+    }
+    assert_eq!(report.lines().count(), 4);
+    assert_eq!(printed(&run(&["run", "-"], sheet.as_bytes())), report);
 }
