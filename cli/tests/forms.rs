@@ -82,7 +82,8 @@ fn names_are_kept() {
 #[test]
 fn texts_that_cannot_be_read_are_not_done_by_any_subcommand() {
     for subcommand in common::SUBCOMMANDS {
-        let expected = "standard input: line 2: 'WARD' is no command\n".to_string();
+        let expected =
+            "standard input: line 2: 'WARD' is no command; did you mean WORD?\n".to_string();
         assert_eq!(failure(&[subcommand, "-"], b"WORD 1\nWARD 2"), (2, expected));
         let expected = "standard input: line 2: the line is no UTF-8 text\n".to_string();
         assert_eq!(failure(&[subcommand, "-"], b"WORD 1\n\xFF"), (2, expected));
@@ -173,7 +174,7 @@ fn operands_too_wide_for_the_builder() {
 #[test]
 fn texts_that_the_builder_cannot_take() {
     let cases = [
-        ("END\nWARD 2", "line 2: 'WARD' is no command"),
+        ("END\nWARD 2", "line 2: 'WARD' is no command; did you mean WORD?"),
         (
             "WORD 4294967296",
             "line 1: WORD: 4294967296 is too large for a value, the largest is 4294967295",

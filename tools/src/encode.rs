@@ -5,8 +5,9 @@ use std::iter::Enumerate;
 use std::str;
 
 use crate::declared::{too_large, Declared};
-use crate::form::{row_of_word, Operand, Row, BARE_BYTE};
+use crate::form::{row_of_word, Operand, Row, BARE_BYTE, TABLE};
 use crate::names::Names;
+use crate::nearest::nearest;
 use crate::quote::{cut, quoted};
 use crate::recording::subject::Subject;
 
@@ -130,6 +131,14 @@ pub fn utf8(text: &[u8]) -> Result<&str, TextFault> {
     })
 }
 
+fn no_command(word: &str) -> String {
+    let hint = match nearest(word, TABLE.iter().map(|row| row.word)) {
+        Some(meant) => format!("; did you mean {meant}?"),
+        None => String::new(),
+    };
+    format!("{} is no command{hint}", quoted(word))
+}
+
 impl Lines<'_> {
     fn read(&mut self, number: usize, line: &str) -> Result<Option<Line>, String> {
         let content = line.split('#').next().unwrap_or_default();
@@ -139,7 +148,7 @@ impl Lines<'_> {
         let read = if word == BARE_BYTE {
             self.read_byte(number, &parts)
         } else {
-            let row = row_of_word(word).ok_or_else(|| format!("{} is no command", quoted(word)))?;
+            let row = row_of_word(word).ok_or_else(|| no_command(word))?;
             self.read_command(number, row, &parts)
         };
         read.map(Some)

@@ -89,8 +89,8 @@ fn operands_beyond_their_range_can_be_written() {
 
 #[test]
 fn a_text_is_refused_with_its_line() {
-    assert_eq!(fault_of("WORD 1\n\nWORDS 2"), "line 3: 'WORDS' is no command");
-    assert_eq!(fault_of("word 1"), "line 1: 'word' is no command");
+    assert_eq!(fault_of("WORD 1\n\nWORDS 2"), "line 3: 'WORDS' is no command; did you mean WORD?");
+    assert_eq!(fault_of("word 1"), "line 1: 'word' is no command; did you mean WORD?");
     assert_eq!(fault_of("LOAD r1"), "line 1: LOAD takes 2 operands (register, value), not 1");
     assert_eq!(fault_of("# a\nEND 5"), "line 2: END takes 0 operands, not 1");
     assert_eq!(fault_of("SWAP"), "line 1: SWAP takes 1 operand (register), not 0");
@@ -166,7 +166,7 @@ fn line_ends_and_marks_of_other_systems() {
         encode("\u{feff}WORD 7 speed\r\nTASK\r\n  READ r0 speed # now\r\nEND\r\n").unwrap();
     assert_eq!(unix, windows);
     assert_eq!(encode_utf8(b"\xEF\xBB\xBFEND\r\n").unwrap().bytes, [5]);
-    assert_eq!(fault_of("\u{feff}\r\nENDE\r\n"), "line 2: 'ENDE' is no command");
+    assert_eq!(fault_of("\u{feff}\r\nENDE\r\n"), "line 2: 'ENDE' is no command; did you mean END?");
     // The mark stands only in front.
     assert_eq!(fault_of("END\n\u{feff}END"), "line 2: '\u{feff}END' is no command");
 }
