@@ -4,6 +4,7 @@ use simulator::observer::Fate;
 
 use super::marks;
 use super::svg::Svg;
+use crate::recording::signs::SIGNS;
 use crate::recording::statement::Kind;
 
 const COLUMN_WIDTH: f32 = 303.0;
@@ -14,27 +15,18 @@ const INDENT: f32 = 34.0;
 
 type Sign = fn(&mut Svg, f32, f32);
 
-/// Each sign is drawn around a point; the explanations are document 01's words where it has them.
-const SIGNS: [(Sign, &str); 10] = [
-    (|svg, x, y| release(svg, Fate::Starts, x, y), "a release starts a job before the tick"),
-    (|svg, x, y| release(svg, Fate::Waits, x, y), "a release waits: the job is unfinished"),
-    (
-        |svg, x, y| release(svg, Fate::StartsAfterWaiting, x, y),
-        "a release that waited starts its job",
-    ),
-    (|svg, x, y| release(svg, Fate::Dropped, x, y), "a release is dropped: four wait already"),
-    (
-        |svg, x, y| marks::preempted(svg, x - 12.0, x + 12.0, y),
-        "the job is unfinished, a higher task runs",
-    ),
-    (|svg, x, y| marks::commit(svg, x, y + 6.0, true), "Commit turns status 0 into 2: yes"),
-    (|svg, x, y| marks::commit(svg, x, y + 6.0, false), "Commit finds status 1: no"),
-    (
-        |svg, x, y| marks::attempt_lost(svg, x + 6.0, y - 4.0),
-        "an attempt is lost: the transaction restarts",
-    ),
-    (|svg, x, y| marks::job_end(svg, x + 1.3, y - 4.0, 8.0), "the job ends"),
-    (marks::change, "a current value changes"),
+/// Each sign is drawn around a point; `SIGNS` says what it means.
+const DRAWN: [Sign; SIGNS.len()] = [
+    |svg, x, y| release(svg, Fate::Starts, x, y),
+    |svg, x, y| release(svg, Fate::Waits, x, y),
+    |svg, x, y| release(svg, Fate::StartsAfterWaiting, x, y),
+    |svg, x, y| release(svg, Fate::Dropped, x, y),
+    |svg, x, y| marks::preempted(svg, x - 12.0, x + 12.0, y),
+    |svg, x, y| marks::commit(svg, x, y + 6.0, true),
+    |svg, x, y| marks::commit(svg, x, y + 6.0, false),
+    |svg, x, y| marks::attempt_lost(svg, x + 6.0, y - 4.0),
+    |svg, x, y| marks::job_end(svg, x + 1.3, y - 4.0, 8.0),
+    marks::change,
 ];
 
 fn release(svg: &mut Svg, fate: Fate, x: f32, y: f32) {
@@ -53,7 +45,8 @@ pub fn draw(svg: &mut Svg, top: f32, width: f32) -> f32 {
         }
         y += LINE_HEIGHT;
     }
-    for signs in SIGNS.chunks(columns) {
+    let signs: Vec<(&Sign, &str)> = DRAWN.iter().zip(SIGNS).collect();
+    for signs in signs.chunks(columns) {
         for (column, (sign, explanation)) in signs.iter().enumerate() {
             let x = LEFT + COLUMN_WIDTH * column as f32;
             sign(svg, x + 12.0, y + 6.0);

@@ -7,6 +7,7 @@ use super::base64;
 use crate::json::{list, object, string, strings};
 use crate::names::Names;
 use crate::recording::sentences::SENTENCES;
+use crate::recording::signs::SIGNS;
 use crate::recording::statement::{kind, label, Kind};
 use crate::recording::subject::Subject;
 use crate::recording::{Contents, Done, Recording};
@@ -60,6 +61,7 @@ pub fn written(sheet: &Sheet, recording: &Recording, names: &Names) -> String {
         ("bodies", list(sheet.bodies.iter().map(|body| list([body.start, body.end])))),
         ("commands", strings(sheet.commands.iter().map(command_text))),
         ("kinds", list(Kind::ALL.map(kind_object))),
+        ("signs", strings(SIGNS)),
         ("statements", statements()),
         ("start", list(places.contents(&recording.before))),
         ("each", each_tick(recording)),

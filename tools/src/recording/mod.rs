@@ -2,6 +2,7 @@
 
 pub mod sentences;
 pub mod series;
+pub mod signs;
 pub mod statement;
 pub mod subject;
 

@@ -91,18 +91,18 @@ function changeSign(context, x, y, size = 4) {
   polygon(context, BLACK, [[x, y - size], [x + size, y], [x, y + size], [x - size, y]]);
 }
 
-// Each sign around the middle of a small picture, and what it says.
+// Each sign around the middle of a small picture, in the order in which run.signs says what they mean.
 const SIGNS = [
-  [(context, x, y) => releaseSign(context, STARTS, x, y + 6), "a release starts a job before the tick"],
-  [(context, x, y) => releaseSign(context, WAITS, x, y + 6), "a release waits: the job is unfinished"],
-  [(context, x, y) => releaseSign(context, STARTS_AFTER_WAITING, x, y + 6), "a release that waited starts its job"],
-  [(context, x, y) => releaseSign(context, DROPPED, x, y + 6), "a release is dropped: four wait already"],
-  [(context, x, y) => preemptedSign(context, x - 12, x + 12, y), "the job is unfinished, a higher task runs"],
-  [(context, x, y) => commitSign(context, true, x, y + 6), "Commit turns status 0 into 2: yes"],
-  [(context, x, y) => commitSign(context, false, x, y + 6), "Commit finds status 1: no"],
-  [(context, x, y) => lostSign(context, x + 6, y - 4), "an attempt is lost: the transaction restarts"],
-  [(context, x, y) => jobEndSign(context, x + 1.3, y - 6, 9), "the job ends"],
-  [(context, x, y) => changeSign(context, x, y), "a current value changes"],
+  (context, x, y) => releaseSign(context, STARTS, x, y + 6),
+  (context, x, y) => releaseSign(context, WAITS, x, y + 6),
+  (context, x, y) => releaseSign(context, STARTS_AFTER_WAITING, x, y + 6),
+  (context, x, y) => releaseSign(context, DROPPED, x, y + 6),
+  (context, x, y) => preemptedSign(context, x - 12, x + 12, y),
+  (context, x, y) => commitSign(context, true, x, y + 6),
+  (context, x, y) => commitSign(context, false, x, y + 6),
+  (context, x, y) => lostSign(context, x + 6, y - 4),
+  (context, x, y) => jobEndSign(context, x + 1.3, y - 6, 9),
+  (context, x, y) => changeSign(context, x, y),
 ];
 
 function buildLegend() {
@@ -112,9 +112,9 @@ function buildLegend() {
     item.append(swatch(kind), kind.explanation);
     kinds.append(item);
   }
-  for (const [draw, explanation] of SIGNS) {
+  for (const [index, explanation] of run.signs.entries()) {
     const item = document.createElement("li"), canvas = document.createElement("canvas");
-    draw(sizedContext(canvas, 30, 20), 15, 10);
+    SIGNS[index](sizedContext(canvas, 30, 20), 15, 10);
     item.append(canvas, explanation);
     signs.append(item);
   }
