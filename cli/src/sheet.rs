@@ -11,7 +11,7 @@ use tools::names::Names;
 
 use crate::arguments::{Given, Limit};
 use crate::compared::Stop;
-use crate::engine::{engine, LONGEST_SHEET, TOP_LIMIT};
+use crate::engine::{engine, DECIDING_LENGTH, LONGEST_SHEET, TOP_LIMIT};
 use crate::failure::{not_done, Failure, Refusal, Standing};
 use crate::input::{self, Content, Identity, Input};
 use crate::output;
@@ -102,7 +102,7 @@ impl Sheet {
             return Ok(());
         }
         let reason = format!(
-            "no sheet is longer than {LONGEST_SHEET} bytes, and this is; nothing is written"
+            "no sheet is longer than {LONGEST_SHEET} bytes, and this has more than {DECIDING_LENGTH}; nothing is written"
         );
         Err(not_done(format!("{}: {reason}", self.label)))
     }

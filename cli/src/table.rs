@@ -112,7 +112,7 @@ pub static SUBCOMMANDS: [Subcommand; 8] = [
     },
     Subcommand {
         name: "history",
-        summary: "list the operations of the run, in the order of whole operations",
+        summary: "list the operations of the run, each with its place in their order",
         more: "It is listed from the second simulator's history, and only if the proved engine gives\n\
                the same report, byte for byte; the list says so.",
         example: "hizgrael history --csv -o room.csv room.txt",
