@@ -46,7 +46,12 @@ pub fn asked(mut arguments: impl Iterator<Item = OsString>) -> Result<Asked, Fai
         let Some(name) = arguments.next().filter(|_| first == "help") else {
             return Ok(Asked::Text(help::program()));
         };
-        return Ok(Asked::Text(help::of(named(&name)?)));
+        let help = help::of(named(&name)?);
+        if arguments.next().is_some() {
+            let reason = "help takes one subcommand; see 'hizgrael --help'";
+            return Err(not_done(format!("hizgrael: {reason}")));
+        }
+        return Ok(Asked::Text(help));
     }
     if first.to_string_lossy().starts_with('-') && first != "-" {
         return Err(not_done(misplaced(&first)));

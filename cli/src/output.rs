@@ -31,6 +31,9 @@ pub fn to_standard_output(bytes: &[u8]) -> Result<(), Failure> {
 }
 
 fn to_file(name: &OsStr, input: Option<Identity>, bytes: &[u8]) -> Result<(), Failure> {
+    if name.is_empty() {
+        return Err(not_done(format!("{}: the file's name is empty", OUTPUT.long)));
+    }
     let shown = file_name(name);
     let present = fs::metadata(name).ok();
     if input.is_some() && present.as_ref().and_then(identity) == input {

@@ -52,11 +52,13 @@ impl Sheet {
 
     /// The names of an accepted sheet: those of its text, and over them those of `--name`.
     pub fn names_with(&self, given: &Given) -> Result<Names, Failure> {
-        let mut names = self.names();
         let fault = |reason: String| given.fault(&format!("{}: {reason}", NAME.long));
+        let mut chosen = Names::default();
         for value in given.values(&NAME) {
-            names.add(&value.to_string_lossy()).map_err(fault)?;
+            chosen.add(&value.to_string_lossy()).map_err(fault)?;
         }
+        let mut names = self.names();
+        names.take(chosen);
         let has = parse(&self.bytes).unwrap_or_default();
         names.check(has.words.len(), has.blocks.len(), has.bodies.len()).map_err(fault)?;
         Ok(names)
@@ -84,7 +86,7 @@ impl Sheet {
     pub fn refused(&self, answer: Answer, limit: &Limit) -> Failure {
         let (standing, reason) = match answer {
             Answer { number: 9, .. } => (Standing::NoText, too_high(limit)),
-            _ => (self.standing(answer.place), explain::reason(&self.bytes, answer)),
+            _ => (self.standing(answer.place), explain::reason(&self.bytes, answer, &self.names())),
         };
         refused(&self.label, answer, standing, reason)
     }

@@ -177,7 +177,7 @@ fn texts_that_the_builder_cannot_take() {
         ("END\nWARD 2", "line 2: 'WARD' is no command; did you mean WORD?"),
         (
             "WORD 4294967296",
-            "line 1: WORD: 4294967296 is too large for a value, the largest is 4294967295",
+            "line 1: WORD: 4294967296 is too large for a value, the highest is 4294967295",
         ),
         (
             "TASK\nBYTE 17\nBYTE 0\nBYTE 0",

@@ -68,8 +68,8 @@ fn the_title_is_the_file_s_name() {
 #[test]
 fn names_of_the_text_and_of_the_option() {
     let text = b"WORD 1 mark\nTASK guard\n  READ r0 mark\nTASK panel\n  READ r0 mark\nRELEASE 0 guard\nEND\n";
-    let drawn = printed(&run(&["chart", "--name", "t1=the panel", "-"], text));
-    assert!(drawn.contains("t0 guard") && drawn.contains("t1 the panel"));
+    let drawn = printed(&run(&["chart", "--name", "t1=the-panel", "-"], text));
+    assert!(drawn.contains("t0 guard") && drawn.contains("t1 the-panel"));
     assert!(!drawn.contains("t1 panel"));
     let explained = printed(&run(&["explain", "--name=w0=sign", "-"], text));
     assert!(explained.contains("w0 sign") && explained.contains("t0 guard"), "{explained}");
@@ -80,8 +80,10 @@ fn options_that_cannot_be_met() {
     let cases = [
         (vec!["chart", "--first"], "--first takes a value, as in --first TICK"),
         (vec!["chart", "--first", "one", "-"], "--first: 'one' is no number of ticks"),
-        (vec!["chart", "--name", "guard", "-"], "--name: 'guard' is no name, as in t4=guard"),
-        (vec!["chart", "--name", "r1=x", "-"], "--name: 'r1=x' is no name, as in t4=guard"),
+        (vec!["chart", "--name", "guard", "-"], "--name: 'guard' gives no name, as t4=guard does"),
+        (vec!["chart", "--name", "r1=x", "-"], "--name: 'r1=x' gives no name, as t4=guard does"),
+        (vec!["chart", "--name", "t0=t1", "-"], "--name: 't1' is no name: it is the number"),
+        (vec!["chart", "--name=t0=a", "--name=t0=b", "-"], "--name: t0 is named twice"),
         (vec!["chart", "--wide", "1", "-"], "unknown option '--wide'"),
         (vec!["chart", "--band", "99999999999", "-"], "--band 99999999999 is too large"),
         (vec!["chart", "--html", "--band", "9", "-"], "--band is for the SVG picture"),

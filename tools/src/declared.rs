@@ -99,6 +99,7 @@ impl Declared {
 }
 
 pub fn too_large(kind: Operand, operand: &str) -> String {
-    let largest = kind.written(kind.largest());
-    format!("{} is too large for a {}, the largest is {largest}", cut(operand), kind.name())
+    let (name, highest) = (kind.name(), kind.written(kind.highest()));
+    let article = if name.starts_with('o') { "an" } else { "a" };
+    format!("{} is too large for {article} {name}, the highest is {highest}", cut(operand))
 }

@@ -117,7 +117,7 @@ pub fn decode(bytes: &[u8], names: &Names) -> String {
         comment.clear();
     }
     let line_of = |place| writer.line_of(place);
-    let answer = verdict(bytes, line_of).to_string();
+    let answer = verdict(bytes, names, line_of).to_string();
     format!("{}# check: {answer}\n", writer.text)
 }
 

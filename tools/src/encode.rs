@@ -141,6 +141,9 @@ fn no_command(word: &str) -> String {
 
 impl Lines<'_> {
     fn read(&mut self, number: usize, line: &str) -> Result<Option<Line>, String> {
+        if line.contains('\r') {
+            return Err("a line ends in CR alone; lines end in LF or in CR LF".to_string());
+        }
         let content = line.split('#').next().unwrap_or_default();
         let mut parts = content.split_whitespace();
         let Some(word) = parts.next() else { return Ok(None) };
@@ -202,6 +205,12 @@ fn split_name<'a>(
 ) -> Result<(&'a [&'a str], Option<&'a str>), String> {
     let wanted_count = row.operands.len();
     let is_name = |part: &&str| part.starts_with(|first: char| first.is_alphabetic());
+    let is_number = |part: &&str| part.starts_with(|first: char| first.is_ascii_digit());
+    if wanted_count > 0 && parts.get(wanted_count).is_some_and(is_number) {
+        let (word, wanted) = (row.word, wanted(row.operands));
+        let given = parts.iter().take_while(|part| is_number(part)).count();
+        return Err(format!("{word} takes {wanted}, not {given}"));
+    }
     if parts.len() > wanted_count + 1 && is_name(&parts[wanted_count]) {
         let name = cut(&parts[wanted_count..].join("-"));
         return Err(format!("{}: a name has no spaces; write {name}", row.word));

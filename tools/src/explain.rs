@@ -8,6 +8,8 @@ use simulator::{check, Answer};
 
 use crate::decode::{command_at, commands, Command};
 use crate::form::Operand;
+use crate::names::Names;
+use crate::recording::subject::Subject;
 
 /// The check's answer; for a refusal, the line of the text and the reason in words.
 #[derive(Clone, Debug, PartialEq, Eq)]
@@ -38,16 +40,16 @@ impl fmt::Display for Verdict {
 }
 
 /// Asks the check, and says where in the text the fault lies.
-pub fn verdict(bytes: &[u8], line_of: impl Fn(usize) -> Option<usize>) -> Verdict {
+pub fn verdict(bytes: &[u8], names: &Names, line_of: impl Fn(usize) -> Option<usize>) -> Verdict {
     let answer = check(bytes);
     if answer.number == 0 {
         return Verdict { answer, line: None, reason: String::new() };
     }
-    Verdict { answer, line: line_of(answer.place), reason: reason(bytes, answer) }
+    Verdict { answer, line: line_of(answer.place), reason: reason(bytes, answer, names) }
 }
 
 /// What is wrong with a sheet that the check answers this way.
-pub fn reason(bytes: &[u8], refusal: Answer) -> String {
+pub fn reason(bytes: &[u8], refusal: Answer, names: &Names) -> String {
     let Answer { number, place } = refusal;
     if number == 3 {
         return "a byte follows END".to_string();
@@ -57,40 +59,46 @@ pub fn reason(bytes: &[u8], refusal: Answer) -> String {
     }
     match command_at(bytes, place) {
         Err(fault) => fault.reason,
-        Ok(command) => reason_after(&bytes[..place], &command, number),
+        Ok(command) => reason_after(&bytes[..place], &command, number, names),
     }
 }
 
 /// Why a command is turned down with a number from 4 to 8 after these bytes, which are good so far.
-pub fn reason_after(before: &[u8], command: &Command, number: u8) -> String {
+pub fn reason_after(before: &[u8], command: &Command, number: u8, names: &Names) -> String {
     // Every command before it was taken, so they can be read.
-    let before = Before(commands(before).unwrap_or_default());
+    let before = Before { commands: commands(before).unwrap_or_default(), names };
     match number {
         4 => before.misplaced(command),
         5 => before.passes_ceiling(command),
         6 => before.out_of_range(command),
-        7 => format!("w{} is already in the waiting PAIRs", command.operands[0]),
+        7 => {
+            let word = names.of(Subject::Word(command.operands[0] as usize));
+            format!("{word} is already in the waiting PAIRs")
+        }
         _ => before.does_not_rise(),
     }
 }
 
-/// The commands before the one at fault.
-struct Before(Vec<Command>);
+/// The commands before the one at fault, and the names of what they declare.
+struct Before<'a> {
+    commands: Vec<Command>,
+    names: &'a Names,
+}
 
-impl Before {
+impl Before<'_> {
     fn count(&self, word: &str) -> usize {
-        self.0.iter().filter(|command| command.is(word)).count()
+        self.commands.iter().filter(|command| command.is(word)).count()
     }
 
     /// The commands since the last one with this word.
     fn since(&self, word: &str) -> &[Command] {
-        let start = self.0.iter().rposition(|command| command.is(word));
-        &self.0[start.map_or(0, |index| index + 1)..]
+        let start = self.commands.iter().rposition(|command| command.is(word));
+        &self.commands[start.map_or(0, |index| index + 1)..]
     }
 
     fn in_transaction(&self) -> bool {
-        let begin = self.0.iter().rposition(|command| command.is("BEGIN"));
-        begin > self.0.iter().rposition(|command| command.is("COMMIT"))
+        let begin = self.commands.iter().rposition(|command| command.is("BEGIN"));
+        begin > self.commands.iter().rposition(|command| command.is("COMMIT"))
     }
 
     fn misplaced(&self, command: &Command) -> String {
@@ -111,18 +119,21 @@ impl Before {
     }
 
     fn body_may_not_end(&self, tasks: usize) -> String {
-        match tasks.checked_sub(1) {
-            None => "a sheet has at least one TASK".to_string(),
-            Some(task) if self.since("TASK").is_empty() => format!("the body of t{task} is empty"),
-            Some(task) if self.in_transaction() => {
-                format!("the body of t{task} ends before COMMIT")
-            }
-            Some(task) => format!("the body of t{task} ends with PAIRs waiting for their SWAP"),
+        let Some(last) = tasks.checked_sub(1) else {
+            return "a sheet has at least one TASK".to_string();
+        };
+        let task = self.names.of(Subject::Task(last));
+        if self.since("TASK").is_empty() {
+            format!("the body of {task} is empty")
+        } else if self.in_transaction() {
+            format!("the body of {task} ends before COMMIT")
+        } else {
+            format!("the body of {task} ends with PAIRs waiting for their SWAP")
         }
     }
 
     fn passes_ceiling(&self, command: &Command) -> String {
-        let in_bodies = self.0.iter().filter(|before| before.row.stands_in_body()).count();
+        let in_bodies = self.commands.iter().filter(|before| before.row.stands_in_body()).count();
         if command.row.stands_in_body() && in_bodies == MAX_COMMANDS {
             return format!("the bodies have {MAX_COMMANDS} commands already, the most of a sheet");
         }
@@ -179,7 +190,7 @@ impl Before {
     }
 
     fn does_not_rise(&self) -> String {
-        let last = self.0.last().map(Command::written).unwrap_or_default();
+        let last = self.commands.last().map(Command::written).unwrap_or_default();
         format!("releases rise by tick, at equal ticks by task; before it stands {last}")
     }
 }

@@ -37,6 +37,20 @@ impl Operand {
         }
     }
 
+    /// The highest number that any sheet can have there.
+    pub fn highest(self) -> u32 {
+        let last = |count: usize| count as u32 - 1;
+        match self {
+            Operand::Register => last(sheet::REGISTERS),
+            Operand::Offset => last(sheet::BLOCK_VALUES),
+            Operand::Word => last(sheet::MAX_WORDS),
+            Operand::Block => last(sheet::MAX_BLOCKS),
+            Operand::Task => last(sheet::MAX_TASKS),
+            Operand::Version => sheet::TOP_VERSION,
+            Operand::Value | Operand::Tick | Operand::Byte => self.largest(),
+        }
+    }
+
     /// The letter in front of the number; other operands are plain numbers.
     pub fn letter(self) -> Option<char> {
         match self {

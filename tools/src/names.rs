@@ -28,19 +28,28 @@ impl Names {
         names.insert(number, name.to_string());
     }
 
-    /// Takes a text like `t4=guard`. Such a name is only shown, so it may be any text, with spaces too.
+    /// Takes a text like `t4=guard`, for a name that is not given yet.
     pub fn add(&mut self, text: &str) -> Result<(), String> {
-        let wrong = |reason: &str| Err(format!("{} is no name, {reason}", quoted(text)));
-        let Some((number, name)) = text.split_once('=') else { return wrong("as in t4=guard") };
-        let Some(subject) = subject_of(number) else { return wrong("as in t4=guard") };
-        if name.trim().is_empty() {
-            return wrong("nothing stands behind the =");
+        let halves = text.split_once('=');
+        let halves = halves.and_then(|(number, name)| Some((subject_of(number)?, name)));
+        let Some((subject, name)) = halves else {
+            return Err(format!("{} gives no name, as t4=guard does", quoted(text)));
+        };
+        if let Some(fault) = name_fault(name) {
+            return Err(format!("{} is no name: {fault}", quoted(name)));
         }
-        if name.chars().any(char::is_control) {
-            return wrong("it has a control character");
+        if self.name(subject).is_some() {
+            return Err(format!("{subject} is named twice"));
         }
         self.set(subject, name);
         Ok(())
+    }
+
+    /// Takes the names of another, in place of those that were there.
+    pub fn take(&mut self, other: Names) {
+        self.words.extend(other.words);
+        self.blocks.extend(other.blocks);
+        self.tasks.extend(other.tasks);
     }
 
     pub fn name(&self, subject: Subject) -> Option<&str> {
@@ -60,7 +69,7 @@ impl Names {
         }
     }
 
-    /// Is everything that has a name there, in a sheet with so many words, blocks and tasks?
+    /// Is everything that has a name there, in a sheet with so many words, blocks and tasks, and has no other of its kind the same?
     pub fn check(&self, words: usize, blocks: usize, tasks: usize) -> Result<(), String> {
         let kinds = [
             (Operand::Word, &self.words, words),
@@ -71,9 +80,23 @@ impl Names {
             if let Some((number, _)) = names.range(count..).next() {
                 return Err(not_there(kind, *number, count));
             }
+            if let Some((name, one, other)) = shared(names) {
+                let letter = kind.letter().unwrap_or_default();
+                let name = quoted(name);
+                return Err(format!("{name} is the name of {letter}{one} and of {letter}{other}"));
+            }
         }
         Ok(())
     }
+}
+
+/// A name that two have.
+fn shared(names: &BTreeMap<usize, String>) -> Option<(&str, usize, usize)> {
+    let mut first: BTreeMap<&str, usize> = BTreeMap::new();
+    names.iter().find_map(|(number, name)| {
+        let earlier = first.insert(name, *number)?;
+        Some((name.as_str(), earlier, *number))
+    })
 }
 
 fn not_there(kind: Operand, number: usize, count: usize) -> String {

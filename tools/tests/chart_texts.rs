@@ -287,7 +287,7 @@ fn long_titles_and_sources_are_wrapped() {
 
 #[test]
 fn markup_and_control_characters_do_not_break_the_picture() {
-    let title = "a < b & c > d \u{1} \u{7F}".to_string();
+    let title = "a < b & c > d \u{1} \u{7F} \u{FFFE} \u{FFFF}".to_string();
     let picture = draw(&example("worked/p5"), &Options { title, ..Options::default() }).unwrap();
-    assert!(picture.contains(">a &lt; b &amp; c &gt; d \u{FFFD} \u{FFFD}<"));
+    assert!(picture.contains(">a &lt; b &amp; c &gt; d \u{FFFD} \u{FFFD} \u{FFFD} \u{FFFD}<"));
 }

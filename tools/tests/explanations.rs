@@ -4,10 +4,11 @@ use simulator::check;
 use simulator::generator::{case, SEED};
 use tools::encode::encode;
 use tools::explain::{reason, verdict};
+use tools::names::Names;
 
 fn answer(text: &str) -> String {
     let encoded = encode(text).unwrap();
-    verdict(&encoded.bytes, |place| encoded.line_of(place)).to_string()
+    verdict(&encoded.bytes, &encoded.names, |place| encoded.line_of(place)).to_string()
 }
 
 #[test]
@@ -145,7 +146,7 @@ fn reasons_stay_short() {
     ];
     for text in cases {
         let encoded = encode(text).unwrap();
-        let reason = reason(&encoded.bytes, check(&encoded.bytes));
+        let reason = reason(&encoded.bytes, check(&encoded.bytes), &encoded.names);
         assert!((1..=LONGEST_REASON).contains(&reason.len()), "{reason}");
     }
 }
@@ -161,9 +162,18 @@ fn every_refusal_of_the_corpus_has_a_reason() {
         let answer = check(&sheet);
         numbers[usize::from(answer.number)] += 1;
         if answer.number > 0 {
-            let reason = reason(&sheet, answer);
+            let reason = reason(&sheet, answer, &Names::default());
             assert!((1..=LONGEST_REASON).contains(&reason.len()), "{answer:?}: {reason}");
         }
     }
     assert!(numbers.iter().all(|count| *count > 0), "{numbers:?}");
+}
+
+/// Where the text has a name, the reason has it too.
+#[test]
+fn reasons_use_the_names_of_the_text() {
+    let empty = "TASK guard\nEND";
+    assert_eq!(answer(empty), "X 4 1, line 2: the body of t0 guard is empty");
+    let twice = "WORD 0 mark\nTASK\nPAIR mark r0 r1\nPAIR w0 r2 r3";
+    assert_eq!(answer(twice), "X 7 10, line 4: w0 mark is already in the waiting PAIRs");
 }

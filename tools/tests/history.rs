@@ -13,6 +13,7 @@ use tools::encode::encode;
 use tools::examples::folder;
 use tools::history;
 use tools::names::Names;
+use tools::recording::subject::Subject;
 use tools::source::Source;
 
 fn example(name: &str) -> Vec<u8> {
@@ -32,7 +33,8 @@ fn rows(name: &str, limit: u32) -> Vec<Vec<String>> {
 /// The ticks are those that P5's text names. t1 is put in the order by its Load of w1, which differs: 22, before t0's 30.
 #[test]
 fn p5_row_by_row() {
-    let names = names(&["t1=upper", "w1=valve, left"]);
+    let mut names = names(&["t1=upper"]);
+    names.set(Subject::Word(1), "valve, left");
     let found = rows_with(&example("worked/p5"), ALL, &names);
     let lower = "0|0||SWAP|3|31|9|w0: 12 -> 5|0|no||30|2|30";
     let upper = "1|1|upper|SWAP|13|28|16|w0: 12 -> 7; w1 valve, left: 0 -> 7|0|no||27|1|22";
@@ -112,8 +114,9 @@ fn the_contended_transactions_row_by_row() {
     let lost = "59 stale version; 153 rejected commit; 244 rejected commit";
     assert_eq!(shown(&found[0], &["lost_attempts"]), lost);
     assert!(found[1..].iter().all(|row| shown(row, &["lost_attempts"]).is_empty()));
-    let arguments = "registers 0 0 0 0 0 0 4294967246 50; GET r1 b0 at 0; GET r2 b1 at 0; \
-                     PUT b0 at 0 from r1; PUT b1 at 0 from r2";
+    let arguments =
+        "registers 0 0 0 0 0 0 4294967246 50; GET r1 b0 at 0; GET r2 b1 at 0; ADD r1 r6; \
+                     ADD r2 r7; PUT b0 at 0 from r1; PUT b1 at 0 from r2";
     assert_eq!(shown(&found[0], &["arguments"]), arguments);
 }
 
@@ -147,7 +150,8 @@ fn a_spent_transaction() {
 #[test]
 fn json_has_the_same_rows() {
     let source = Source::Compared { version: "0.7.0".to_string() };
-    let names = names(&["t0=move \"50\" \\ back", "b1=room 2"]);
+    let mut names = names(&["b1=room-2"]);
+    names.set(Subject::Task(0), "move \"50\" \\ back");
     let sheet = example("contended-transaction");
     let table = json(&history::json(&sheet, 293, &names, &source).unwrap());
     assert_eq!(table.field("program").text(), "hizgrael");
@@ -165,8 +169,10 @@ fn json_has_the_same_rows() {
     assert_eq!(lost, ["59 stale version", "153 rejected commit", "244 rejected commit"]);
     let commands = moved.field("arguments").field("commands").list();
     let last = commands.last().unwrap();
-    assert_eq!((commands.len(), last.field("command").text()), (4, "PUT"));
-    assert_eq!(last.field("name").text(), "room 2");
+    assert_eq!((commands.len(), last.field("command").text()), (6, "PUT"));
+    assert_eq!(commands[2].field("command").text(), "ADD");
+    assert_eq!(commands[2].field("other"), &Json::Number(6));
+    assert_eq!(last.field("name").text(), "room-2");
     assert_eq!(last.field("register"), &Json::Number(2));
     let answers: Vec<String> = moved.field("answers").list().iter().map(Json::shown).collect();
     assert_eq!(answers, ["514", "1300"]);
@@ -221,6 +227,6 @@ fn what_has_no_history_is_refused() {
 fn a_transaction_that_touches_nothing() {
     let sheet = encode("TASK\nBEGIN\nLOAD r0 5\nCOMMIT\nRELEASE 0 t0\nEND").unwrap().bytes;
     let found = rows_with(&sheet, ALL, &Names::default());
-    let row = "0|0||TRANSACTION|0|2|3|registers 0 0 0 0 0 0 0 0||committed||2|1|2";
+    let row = "0|0||TRANSACTION|0|2|3|registers 0 0 0 0 0 0 0 0; LOAD r0 5||committed||2|1|2";
     assert_eq!(found[0].join("|"), row);
 }

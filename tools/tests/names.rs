@@ -138,7 +138,6 @@ TASK                      # task t0
 #[test]
 fn texts_that_are_no_name() {
     let cases = [
-        ("5", "'5' is no name: it must begin with a letter, a to z or A to Z"),
         ("-a", "'-a' is no name: it must begin with a letter, a to z or A to Z"),
         ("über", "'über' is no name: it must begin with a letter, a to z or A to Z"),
         ("a.b", "'a.b' is no name: '.' may not stand in it, only a to z, A to Z, digits, - and _"),
@@ -154,6 +153,8 @@ fn texts_that_are_no_name() {
         assert_eq!(fault_of(&format!("\nTASK {name}")), format!("line 2: TASK: {reason}"));
         assert!(fault_of(&format!("WORD 12 {name}")).ends_with(reason), "{name}");
     }
+    let reason = "'5' is no name: it must begin with a letter, a to z or A to Z";
+    assert_eq!(fault_of("TASK 5"), format!("line 1: TASK: {reason}"));
     let (longest, longer) = ("n".repeat(32), "n".repeat(33));
     assert!(encode(&format!("TASK {longest}")).is_ok());
     let reason = "is no name: it has 33 characters, the most is 32";
@@ -204,7 +205,10 @@ fn declarations_with_too_much_or_too_little() {
     let cases = [
         ("WORD speed", "WORD takes 1 operand (value) before its name, not 0"),
         ("WORD", "WORD takes 1 operand (value), not 0"),
+        ("WORD 1 2", "WORD takes 1 operand (value), not 2"),
         ("WORD 1 2 3", "WORD takes 1 operand (value), not 3"),
+        ("WORD 1 2 speed", "WORD takes 1 operand (value), not 2"),
+        ("BLOCK 7 1 2 3 4 5 6 7 8 9", "BLOCK takes 9 operands (version, 8 values), not 10"),
         (
             "BLOCK 7 1 2 3 4 5 6 7 log",
             "BLOCK takes 9 operands (version, 8 values) before its name, not 8",

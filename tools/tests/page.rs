@@ -10,6 +10,7 @@ use simulator::TOP_LIMIT;
 use tools::names::Names;
 use tools::page::{draw, Options};
 use tools::recording::statement::{kind, label, Kind};
+use tools::recording::subject::Subject;
 use tools::recording::Recording;
 use tools::source::Source;
 
@@ -48,8 +49,8 @@ fn statements_commands_and_kinds_are_named() {
 #[test]
 fn title_names_and_source_stand_in_the_page_escaped() {
     let mut names = Names::default();
-    names.add("t0=</script>\"\\ü").unwrap();
-    names.add("w0=<!--{{style}}&amp;\u{2028}").unwrap();
+    names.set(Subject::Task(0), "</script>\"\\ü");
+    names.set(Subject::Word(0), "<!--{{style}}&amp;\u{2028}");
     let title = "</script><script>alert('1')</script> & {{run}} \"ü\" <!--".to_string();
     let source = Source::Compared { version: "<1>".to_string() };
     let options = Options { title, names, source, ..Options::default() };

@@ -50,7 +50,7 @@ fn template() -> Encoded {
 #[test]
 fn it_is_accepted_and_has_the_report_worked_out_by_hand() {
     let template = template();
-    assert!(verdict(&template.bytes, |place| template.line_of(place)).accepted());
+    assert!(verdict(&template.bytes, &template.names, |place| template.line_of(place)).accepted());
     let report = run_observed(&template.bytes, TOP_LIMIT, &mut NoObserver).unwrap();
     assert_eq!(report, REPORT);
 }

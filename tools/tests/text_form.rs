@@ -101,14 +101,14 @@ fn a_text_is_refused_with_its_line() {
     assert_eq!(fault_of("WORD 0x12"), "line 1: WORD: '0x12' is no decimal number (value)");
     assert_eq!(fault_of("WORD -1"), "line 1: WORD: '-1' is no decimal number (value)");
     assert_eq!(fault_of("WORD +1"), "line 1: WORD: '+1' is no decimal number (value)");
-    let too_large = "is too large for a value, the largest is 4294967295";
+    let too_large = "is too large for a value, the highest is 4294967295";
     assert_eq!(fault_of("WORD 4294967296"), format!("line 1: WORD: 4294967296 {too_large}"));
     let far_too_large = "9".repeat(40);
     let reason = format!("line 1: WORD: {far_too_large} {too_large}");
     assert_eq!(fault_of(&format!("WORD {far_too_large}")), reason);
-    let reason = "is too large for a register, the largest is r255";
+    let reason = "is too large for a register, the highest is r7";
     assert_eq!(fault_of("SWAP r256"), format!("line 1: SWAP: r256 {reason}"));
-    let reason = "is too large for a tick, the largest is 65535";
+    let reason = "is too large for a tick, the highest is 65535";
     assert_eq!(fault_of("RELEASE 65536 t0"), format!("line 1: RELEASE: 65536 {reason}"));
     let fault = encode_utf8(b"WORD 1\nWORD \xFF").unwrap_err();
     assert_eq!(fault.to_string(), "line 2: the line is no UTF-8 text");
@@ -122,7 +122,7 @@ fn lines_have_operands_of_any_size() {
         read.unwrap().into_iter().map(|line| (line.number, line.byte, line.operands)).collect();
     assert_eq!(found, [(2, 4, vec![65_536, 300]), (4, 9, vec![]), (5, 5, vec![])]);
     // encode meets the first line at fault, whatever its fault is.
-    let reason = "is too large for a register, the largest is r255";
+    let reason = "is too large for a register, the highest is r7";
     assert_eq!(fault_of("SWAP r256\nSWOP r0"), format!("line 1: SWAP: r256 {reason}"));
 }
 
@@ -142,10 +142,10 @@ fn long_texts_are_not_repeated() {
     let reason = format!("line 1: TASK: {cut} is no name: it has 10000 characters, the most is 32");
     assert_eq!(fault_of(&format!("TASK {long}")), reason);
     let nines = "9".repeat(10_000);
-    let reason = "is too large for a byte, the largest is 255";
+    let reason = "is too large for a byte, the highest is 255";
     let repeated = format!("{}…", "9".repeat(40));
     assert_eq!(fault_of(&format!("BYTE {nines}")), format!("line 1: BYTE: {repeated} {reason}"));
-    let reason = "is too large for a word, the largest is w255";
+    let reason = "is too large for a word, the highest is w31";
     let repeated = format!("w{}…", "9".repeat(39));
     assert_eq!(
         fault_of(&format!("READ r0 w{nines}")),
@@ -167,6 +167,8 @@ fn line_ends_and_marks_of_other_systems() {
     assert_eq!(unix, windows);
     assert_eq!(encode_utf8(b"\xEF\xBB\xBFEND\r\n").unwrap().bytes, [5]);
     assert_eq!(fault_of("\u{feff}\r\nENDE\r\n"), "line 2: 'ENDE' is no command; did you mean END?");
+    let reason = "line 1: a line ends in CR alone; lines end in LF or in CR LF";
+    assert_eq!(fault_of("WORD 7 speed\rTASK\rEND\r"), reason);
     // The mark stands only in front.
     assert_eq!(fault_of("END\n\u{feff}END"), "line 2: '\u{feff}END' is no command");
 }

@@ -7,6 +7,7 @@ use tools::decode::{command_at, Command};
 use tools::encode::{lines, utf8, TextFault};
 use tools::explain::{reason, reason_after};
 use tools::form::row_of_byte;
+use tools::names::Names;
 
 use crate::arguments::Given;
 use crate::engine::{engine, Composer, TOP_LIMIT};
@@ -14,6 +15,13 @@ use crate::failure::{meaning, not_done, Failure, Standing};
 use crate::input::{self, Content, Input};
 use crate::output;
 use crate::sheet::{limit_too_high, refused, too_high};
+
+/// The commands to hand over, and the names of what they declare.
+#[derive(Default)]
+struct List {
+    commands: Vec<Handed>,
+    names: Names,
+}
 
 /// A command to hand over.
 struct Handed {
@@ -27,35 +35,39 @@ struct Handed {
 pub fn build(given: &Given) -> Result<(), Failure> {
     let limit = given.limit()?;
     let Input { label, content, identity } = input::read(given)?;
-    let (commands, behind) = match &content {
+    let (list, behind) = match &content {
         Content::Text(text) => {
-            let commands = of_text(text);
-            let commands = commands.map_err(|fault| not_done(format!("{label}: {fault}")))?;
-            (commands, Standing::AfterLastLine)
+            let list = of_text(text);
+            let list = list.map_err(|fault| not_done(format!("{label}: {fault}")))?;
+            (list, Standing::AfterLastLine)
         }
         Content::Bytes { first, .. } => (of_bytes(first), Standing::NoText),
     };
     let mut composer = engine().composer();
-    compose(&label, &commands, behind, composer.as_mut())?;
+    compose(&label, &list, behind, composer.as_mut())?;
     if limit.ticks > TOP_LIMIT {
         return Err(refused(&label, limit_too_high(), Standing::NoText, too_high(&limit)));
     }
     output::write(given, identity, composer.filled())
 }
 
-fn of_text(text: &[u8]) -> Result<Vec<Handed>, TextFault> {
-    let handed = lines(utf8(text)?).map(|line| {
+fn of_text(text: &[u8]) -> Result<List, TextFault> {
+    let mut list = List::default();
+    for line in lines(utf8(text)?) {
         let line = line?;
         let operands = row_of_byte(line.byte).map_or(0, |row| row.operands.len());
         let whole = line.operands.len() == operands;
         let standing = Standing::Line(line.number);
-        Ok(Handed { byte: line.byte, operands: line.operands, standing, whole })
-    });
-    handed.collect()
+        list.commands.push(Handed { byte: line.byte, operands: line.operands, standing, whole });
+        if let Some((subject, name)) = line.named {
+            list.names.set(subject, &name);
+        }
+    }
+    Ok(list)
 }
 
 /// The commands up to the first byte that is none, which is handed over by itself and refused.
-fn of_bytes(bytes: &[u8]) -> Vec<Handed> {
+fn of_bytes(bytes: &[u8]) -> List {
     let mut commands = Vec::new();
     let mut place = 0;
     while place < bytes.len() {
@@ -70,25 +82,25 @@ fn of_bytes(bytes: &[u8]) -> Vec<Handed> {
         let (byte, operands) = (command.row.byte, command.operands);
         commands.push(Handed { byte, operands, standing, whole: true });
     }
-    commands
+    List { commands, names: Names::default() }
 }
 
 /// Hands over all commands; the filled part is then a whole sheet.
 fn compose(
     label: &str,
-    commands: &[Handed],
+    list: &List,
     behind: Standing,
     composer: &mut dyn Composer,
 ) -> Result<(), Failure> {
     let mut ended = false;
-    for command in commands {
+    for command in &list.commands {
         // After END every byte is refused, whatever it lacks.
         if !command.whole && !ended {
             return Err(cut(label, command, composer.filled().len()));
         }
         let call = Call::new(command.byte, &command.operands);
         composer.compose(&call).map_err(|answer| {
-            let reason = reason_of(composer.filled(), command, answer);
+            let reason = reason_of(composer.filled(), command, answer, &list.names);
             refused(label, answer, command.standing, reason)
         })?;
         ended = command.byte == END;
@@ -97,7 +109,7 @@ fn compose(
         return Ok(());
     }
     let answer = Answer { number: 2, place: composer.filled().len() };
-    Err(refused(label, answer, behind, reason(composer.filled(), answer)))
+    Err(refused(label, answer, behind, reason(composer.filled(), answer, &list.names)))
 }
 
 /// A command without its operands cannot be handed over. In bytes the sheet ends there.
@@ -115,13 +127,13 @@ fn cut(label: &str, command: &Handed, place: usize) -> Failure {
     }
 }
 
-fn reason_of(filled: &[u8], command: &Handed, answer: Answer) -> String {
+fn reason_of(filled: &[u8], command: &Handed, answer: Answer, names: &Names) -> String {
     match (answer.number, row_of_byte(command.byte)) {
-        (1 | 3, _) => reason(&[filled, &[command.byte]].concat(), answer),
+        (1 | 3, _) => reason(&[filled, &[command.byte]].concat(), answer, names),
         (4..=8, Some(row)) => {
             let operands = command.operands.clone();
             let command = Command { place: filled.len(), row, operands };
-            reason_after(filled, &command, answer.number)
+            reason_after(filled, &command, answer.number, names)
         }
         _ => meaning(answer.number).to_string(),
     }

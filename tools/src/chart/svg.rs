@@ -147,5 +147,10 @@ pub fn wrapped(text: &str, size: f32, room: f32) -> Vec<String> {
 /// The text as XML has it: control characters, which it may not hold, are replaced.
 fn escaped(text: &str) -> String {
     let text = text.replace('&', "&amp;").replace('<', "&lt;").replace('>', "&gt;");
-    text.replace(|letter: char| letter.is_control() && letter != '\n', "\u{FFFD}")
+    text.replace(cannot_stand, "\u{FFFD}")
+}
+
+/// Characters that XML does not take, or that a reader does not see.
+fn cannot_stand(letter: char) -> bool {
+    letter != '\n' && (letter.is_control() || matches!(letter, '\u{FFFE}' | '\u{FFFF}'))
 }

@@ -80,24 +80,27 @@ fn arguments(table: &Table, arguments: &Arguments) -> String {
         Arguments::Swap { pairs } => joined(
             pairs.iter().map(|pair| format!("{}: {} -> {}", word(pair.word), pair.old, pair.new)),
         ),
-        Arguments::Transaction { registers, gets_and_puts } => {
+        Arguments::Transaction { registers, commands } => {
             let registers = registers.map(|value| value.to_string()).join(" ");
-            let commands = gets_and_puts.iter().map(|command| get_or_put(table, command));
+            let commands = commands.iter().map(|command| written(table, command));
             joined(std::iter::once(format!("registers {registers}")).chain(commands))
         }
     }
 }
 
-fn get_or_put(table: &Table, command: &Command) -> String {
+/// A command of a transaction.
+fn written(table: &Table, command: &Command) -> String {
     let block = |block: u8| table.names.of(Subject::Block(block.into()));
     match *command {
+        Command::Load { register, value } => format!("LOAD r{register} {value}"),
+        Command::Add { register, other } => format!("ADD r{register} r{other}"),
         Command::Get { register, block: number, offset } => {
             format!("GET r{register} {} at {offset}", block(number))
         }
         Command::Put { block: number, offset, register } => {
             format!("PUT {} at {offset} from r{register}", block(number))
         }
-        // The table has no other commands.
+        // No other may stand between BEGIN and COMMIT.
         _ => String::new(),
     }
 }
@@ -106,8 +109,8 @@ fn line(fields: [String; 15]) -> String {
     fields.map(|field| quoted(&field)).join(",") + "\n"
 }
 
-/// In quotes where the field has a character that would end it. Nothing is put in front of a field that a spreadsheet
-/// might take for a formula: only a task's name could begin so, one that the user has given with --name.
+/// In quotes where the field has a character that would end it. None begins as a formula of a spreadsheet does: a name begins with a
+/// letter.
 fn quoted(field: &str) -> String {
     if field.contains([',', '"', '\n', '\r']) {
         format!("\"{}\"", field.replace('"', "\"\""))

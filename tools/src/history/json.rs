@@ -10,6 +10,7 @@ use crate::recording::subject::Subject;
 use crate::source::Source;
 
 /// As much of JSON as the table needs.
+#[derive(Clone)]
 enum Json {
     Null,
     Number(u64),
@@ -68,8 +69,8 @@ fn arguments(table: &Table, arguments: &Arguments) -> Json {
             };
             Json::Object(vec![("pairs", Json::List(pairs.iter().map(pair).collect()))])
         }
-        Arguments::Transaction { registers, gets_and_puts } => {
-            let commands = gets_and_puts.iter().filter_map(|command| get_or_put(table, command));
+        Arguments::Transaction { registers, commands } => {
+            let commands = commands.iter().filter_map(|command| written(table, command));
             Json::Object(vec![
                 ("registers", numbers(registers)),
                 ("commands", Json::List(commands.collect())),
@@ -82,19 +83,33 @@ fn word_fields(table: &Table, word: u8) -> Vec<(&'static str, Json)> {
     vec![("word", number(word.into())), ("name", name(table, Subject::Word(word.into())))]
 }
 
-fn get_or_put(table: &Table, command: &Command) -> Option<Json> {
-    let (word, block, offset, register) = match *command {
-        Command::Get { register, block, offset } => ("GET", block, offset, register),
-        Command::Put { block, offset, register } => ("PUT", block, offset, register),
+/// A command of a transaction. No other than these four may stand between BEGIN and COMMIT.
+fn written(table: &Table, command: &Command) -> Option<Json> {
+    let (word, fields) = match *command {
+        Command::Load { register, value } => {
+            ("LOAD", vec![("register", number(register.into())), ("value", number(value))])
+        }
+        Command::Add { register, other } => {
+            ("ADD", vec![("register", number(register.into())), ("other", number(other.into()))])
+        }
+        Command::Get { register, block, offset } => {
+            ("GET", block_fields(table, block, offset, register))
+        }
+        Command::Put { block, offset, register } => {
+            ("PUT", block_fields(table, block, offset, register))
+        }
         _ => return None,
     };
-    Some(Json::Object(vec![
-        ("command", text(word)),
+    Some(Json::Object([vec![("command", text(word))], fields].concat()))
+}
+
+fn block_fields(table: &Table, block: u8, offset: u8, register: u8) -> Vec<(&'static str, Json)> {
+    vec![
         ("block", number(block.into())),
         ("name", name(table, Subject::Block(block.into()))),
         ("offset", number(offset.into())),
         ("register", number(register.into())),
-    ]))
+    ]
 }
 
 fn name(table: &Table, subject: Subject) -> Json {

@@ -39,9 +39,17 @@ pub struct Row {
 
 /// What the plain machine is fed.
 pub enum Arguments {
-    Read { word: u8 },
-    Swap { pairs: Vec<Pair> },
-    Transaction { registers: [u32; REGISTERS], gets_and_puts: Vec<Command> },
+    Read {
+        word: u8,
+    },
+    Swap {
+        pairs: Vec<Pair>,
+    },
+    /// The registers at BEGIN, and the commands between it and COMMIT.
+    Transaction {
+        registers: [u32; REGISTERS],
+        commands: Vec<Command>,
+    },
 }
 
 /// A place in the order of whole operations, the first is 1.
@@ -121,18 +129,15 @@ impl Run<'_> {
             Kind::Swap { .. } => Arguments::Swap { pairs: operation.exchanges[0].pairs.clone() },
             Kind::Transaction { registers, first_command, .. } => Arguments::Transaction {
                 registers: *registers,
-                gets_and_puts: self.gets_and_puts(*first_command),
+                commands: self.commands(*first_command),
             },
         }
     }
 
-    /// Those of the commands up to COMMIT.
-    fn gets_and_puts(&self, first_command: usize) -> Vec<Command> {
+    /// The commands up to COMMIT.
+    fn commands(&self, first_command: usize) -> Vec<Command> {
         let commands = self.sheet.commands[first_command..].iter();
-        let body = commands.take_while(|command| !matches!(command, Command::Commit));
-        let is_one =
-            |command: &&Command| matches!(command, Command::Get { .. } | Command::Put { .. });
-        body.filter(is_one).copied().collect()
+        commands.take_while(|command| !matches!(command, Command::Commit)).copied().collect()
     }
 }
 
