@@ -71,6 +71,8 @@ fn arguments_that_ask_for_nothing_known() {
         (&["rum"], "hizgrael: 'rum' is no subcommand (did you mean 'run'?); see 'hizgrael --help'"),
         (&["turn"], "hizgrael: 'turn' is no subcommand; see 'hizgrael --help'"),
         (&["help", "me"], "hizgrael: 'me' is no subcommand; see 'hizgrael --help'"),
+        (&["help", "run", "me"], "hizgrael: help takes one subcommand; see 'hizgrael --help'"),
+        (&["run", "-o", "", "cold-room.txt"], "--output: the file's name is empty"),
         (&["-"], "hizgrael: '-' is no subcommand; see 'hizgrael --help'"),
         (&["--chek"], "hizgrael: unknown option '--chek'; see 'hizgrael --help'"),
         (&["--quiet", "run", "-"], "hizgrael: '--quiet' comes after the subcommand; see 'hizgrael --help'"),
