@@ -13,12 +13,13 @@ const REGISTERS: &str =
     "Registers: as the job that the task started last has left them so far. Each job starts with all of them 0.";
 const LOST: &str = "Lost: a transaction's attempt was done over, as a higher task came in between: a version was stale, or its COMMIT was rejected.";
 const TICKS: &str = "The ticks of spent jobs and of lost attempts are among the ticks used.";
+const AT_LIMIT: &str = "The run is as long as the limit allows: jobs may be unfinished, and releases may wait or be still to come.";
 const DROPPED: &str = "Dropped: the release found its task at work and four others waiting. It started no job and does not wait.";
 
-/// The report's lines with their meaning, and a legend for what a new reader does not know.
-pub fn explained(report: &str, names: &Names) -> String {
+/// The lines of a report with this limit, with their meaning, and a legend for what a new reader does not know.
+pub fn explained(report: &str, names: &Names, limit: u64) -> String {
     let lines: Vec<Line> = report.lines().map(Line::new).collect();
-    let totals = Totals::of(&lines);
+    let totals = Totals::of(&lines, limit);
     let lengths = lines.iter().map(|line| line.text.len());
     let longest = lengths.filter(|length| *length <= LONGEST_BESIDE).max();
     let column = longest.unwrap_or_default() + GAP;
@@ -140,18 +141,24 @@ struct Totals {
     lost: u64,
     ticks_used: u64,
     dropped: u64,
+    /// 1 if the run has as many ticks as the limit allows.
+    at_limit: u64,
 }
 
 impl Totals {
-    fn of(lines: &[Line]) -> Totals {
+    fn of(lines: &[Line], limit: u64) -> Totals {
         let mut totals = Totals::default();
         for line in lines {
-            if let ("T", &[_, _, spent, lost, ticks, dropped]) = (line.letter, &line.numbers[..]) {
-                totals.tasks += 1;
-                totals.spent += u64::from(spent);
-                totals.lost += u64::from(lost);
-                totals.ticks_used += u64::from(ticks);
-                totals.dropped += u64::from(dropped);
+            match (line.letter, &line.numbers[..]) {
+                ("T", &[_, _, spent, lost, ticks, dropped]) => {
+                    totals.tasks += 1;
+                    totals.spent += u64::from(spent);
+                    totals.lost += u64::from(lost);
+                    totals.ticks_used += u64::from(ticks);
+                    totals.dropped += u64::from(dropped);
+                }
+                ("E", &[ticks]) => totals.at_limit = u64::from(u64::from(ticks) == limit),
+                _ => {}
             }
         }
         totals
@@ -168,6 +175,7 @@ impl Totals {
             (self.lost, LOST),
             (self.spent + self.lost, TICKS),
             (self.dropped, DROPPED),
+            (self.at_limit, AT_LIMIT),
         ];
         let needed = sentences.into_iter().filter(|(count, _)| *count > 0);
         needed.map(|(_, sentence)| sentence.to_string()).collect()

@@ -21,11 +21,11 @@ fn example(name: &str) -> String {
     let text = fs::read_to_string(folder().join(format!("{name}.txt"))).unwrap();
     let encoded = encode(&text).unwrap();
     let report = run_observed(&encoded.bytes, TOP_LIMIT, &mut NoObserver).unwrap();
-    explained(&report, &encoded.names)
+    explained(&report, &encoded.names, TOP_LIMIT)
 }
 
 fn plain(report: &str) -> String {
-    explained(report, &Names::default())
+    explained(report, &Names::default(), TOP_LIMIT)
 }
 
 /// 52 + 18 + 32 + 14 + 160 ticks are used, so 3 of 279 are idle.
@@ -131,6 +131,18 @@ fn the_legend_has_what_occurs() {
     assert_eq!(legend("0 1 9 0"), [REGISTERS, LOST, TICKS]);
     assert_eq!(legend("0 0 9 1"), [REGISTERS, DROPPED]);
     assert_eq!(legend("2 2 9 2"), [REGISTERS, SPENT, LOST, TICKS, DROPPED]);
+}
+
+/// A run as long as its limit may have been stopped by it.
+#[test]
+fn a_run_up_to_its_limit() {
+    let sentence = "The run is as long as the limit allows: jobs may be unfinished, and releases may wait or be still to come.";
+    let legend = |limit| {
+        let text = explained("E 7\n", &Names::default(), limit);
+        text.lines().skip(2).map(str::to_string).collect::<Vec<String>>()
+    };
+    assert_eq!(legend(7), [sentence]);
+    assert_eq!(legend(8), [""; 0]);
 }
 
 #[test]

@@ -56,7 +56,7 @@ pub fn explain(given: &Given) -> Result<(), Failure> {
         failure
     })?;
     let names = sheet.names_with(given)?;
-    let text = explained(&String::from_utf8_lossy(&report), &names);
+    let text = explained(&String::from_utf8_lossy(&report), &names, limit.ticks);
     let label = match engine().is_proved() {
         true => String::new(),
         false => format!("{}\n", engine().note()),
