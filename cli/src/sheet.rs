@@ -66,10 +66,7 @@ impl Sheet {
 
     /// The engine's check, which a limit too high follows.
     pub fn check(&self, limit: &Limit) -> Result<(), Failure> {
-        match engine().check(&self.bytes) {
-            Answer { number: 0, .. } if limit.ticks > TOP_LIMIT => {
-                Err(self.refused(limit_too_high(), limit))
-            }
+        match answer_to(&self.bytes, limit) {
             Answer { number: 0, .. } => Ok(()),
             answer => Err(self.refused(answer, limit)),
         }
@@ -123,9 +120,15 @@ impl Sheet {
     }
 }
 
-/// The engine's answer to a limit above the top.
-pub fn limit_too_high() -> Answer {
-    Answer { number: 9, place: 0 }
+/// The engine's own answer to a sheet and a limit. A limit too high is for its run to refuse, which then does no tick.
+pub fn answer_to(sheet: &[u8], limit: &Limit) -> Answer {
+    if limit.ticks <= TOP_LIMIT {
+        return engine().check(sheet);
+    }
+    match engine().run(sheet, limit.ticks) {
+        Ok(_) => Answer { number: 0, place: 0 },
+        Err(answer) => answer,
+    }
 }
 
 pub fn too_high(limit: &Limit) -> String {

@@ -10,11 +10,11 @@ use tools::form::row_of_byte;
 use tools::names::Names;
 
 use crate::arguments::Given;
-use crate::engine::{engine, Composer, TOP_LIMIT};
+use crate::engine::{engine, Composer};
 use crate::failure::{meaning, not_done, Failure, Standing};
 use crate::input::{self, Content, Input};
 use crate::output;
-use crate::sheet::{limit_too_high, refused, too_high};
+use crate::sheet::{answer_to, refused, too_high};
 
 /// The commands to hand over, and the names of what they declare.
 #[derive(Default)]
@@ -45,8 +45,9 @@ pub fn build(given: &Given) -> Result<(), Failure> {
     };
     let mut composer = engine().composer();
     compose(&label, &list, behind, composer.as_mut())?;
-    if limit.ticks > TOP_LIMIT {
-        return Err(refused(&label, limit_too_high(), Standing::NoText, too_high(&limit)));
+    let answer = answer_to(composer.filled(), &limit);
+    if answer.number != 0 {
+        return Err(refused(&label, answer, Standing::NoText, too_high(&limit)));
     }
     output::write(given, identity, composer.filled())
 }
@@ -96,7 +97,7 @@ fn compose(
     for command in &list.commands {
         // After END every byte is refused, whatever it lacks.
         if !command.whole && !ended {
-            return Err(cut(label, command, composer.filled().len()));
+            return Err(cut(label, command, composer.filled()));
         }
         let call = Call::new(command.byte, &command.operands);
         composer.compose(&call).map_err(|answer| {
@@ -108,12 +109,12 @@ fn compose(
     if ended {
         return Ok(());
     }
-    let answer = Answer { number: 2, place: composer.filled().len() };
+    let answer = engine().check(composer.filled());
     Err(refused(label, answer, behind, reason(composer.filled(), answer, &list.names)))
 }
 
 /// A command without its operands cannot be handed over. In bytes the sheet ends there.
-fn cut(label: &str, command: &Handed, place: usize) -> Failure {
+fn cut(label: &str, command: &Handed, filled: &[u8]) -> Failure {
     let word = row_of_byte(command.byte).map_or("", |row| row.word);
     match command.standing {
         Standing::Line(line) => {
@@ -121,7 +122,7 @@ fn cut(label: &str, command: &Handed, place: usize) -> Failure {
             not_done(format!("{label}: line {line}: {reason}"))
         }
         standing => {
-            let answer = Answer { number: 2, place };
+            let answer = engine().check(&[filled, &[command.byte]].concat());
             refused(label, answer, standing, format!("the sheet ends inside {word}"))
         }
     }
