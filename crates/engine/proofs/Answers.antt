@@ -16,7 +16,7 @@ use Rattle.model.specs.Answer.{Checked, checkedBy, checkAnswer, runAnswer, answ
 use Rattle.model.proofs.Refusals.{number-some}
 use Rattle.model.proofs.WellFormed.Theorem.{accepted-when-well-formed}
 use Rattle.model.proofs.Demand3.Theorem.{demand-3}
-use Rattle.model.proofs.Rates.Theorem.{rates}
+use Rattle.model.proofs.Rates.Theorem.{rates, exact-ticks}
 use Rattle.model.proofs.Waiting.{waits}
 use Rattle.model.proofs.Drops.Theorem.{drops}
 use Rattle.model.proofs.LostAttempts.Theorem.{lost-attempts}
@@ -91,6 +91,7 @@ module _ (s : List ℕ) (limit : ℕ) (b : List ℕ) where
         buffer = sym (ap (λ (a : M.Answer). a .buffer) e);
         whole = demand-3 s limit;
         rates = rates s limit;
+        exact = exact-ticks s limit;
         waits = waits s limit;
         drops = drops s limit;
         lost = lost-attempts s limit;

@@ -11,6 +11,7 @@ use Rattle.model.specs.WellFormed.{WellFormed}
 use Rattle.model.specs.Answer.{checkAnswer, runAnswer}
 use Rattle.model.specs.Claim.{WholeOperations}
 use Rattle.model.specs.Rates.{Rates}
+use Rattle.model.specs.ExactTicks.{ExactTicks}
 use Rattle.model.specs.Waiting.{Waits}
 use Rattle.model.specs.Drops.{Drops}
 use Rattle.model.specs.LostAttempts.{LostAttempts}
@@ -43,6 +44,8 @@ pub record RunsFor (sheet : List ℕ) (limit : ℕ) (before after : List ℕ) (n
   pub whole : verdict sheet ≡ accepted → WholeOperations sheet limit
   -- how many ticks of its own each operation takes at most
   pub rates : verdict sheet ≡ accepted → Rates sheet limit
+  -- and how many exactly a finished exchange takes, by what it did in its steps
+  pub exact : verdict sheet ≡ accepted → ExactTicks sheet limit
   -- at most four releases wait behind a job, and what else holds of them
   pub waits : verdict sheet ≡ accepted → Waits sheet limit
   -- each task's drops are its arrivals that neither started a job nor wait, and the arrivals are all there

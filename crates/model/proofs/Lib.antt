@@ -15,6 +15,7 @@ pub mod ArrivalCases
 pub mod AttemptCases
 pub mod BuildCases
 pub mod Bounds
+pub mod TickCases
 -- the bytes of commands
 pub mod Encoding
 -- the sheet builder (`story` in Builder/Story.antt)

@@ -20,6 +20,7 @@ pub mod Plain
 pub mod History
 pub mod Claim
 pub mod Rates
+pub mod ExactTicks
 pub mod Waiting
 pub mod Arrivals
 pub mod Drops

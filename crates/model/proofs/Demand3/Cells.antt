@@ -153,7 +153,7 @@ unfolding exchangeTick
 start-memory p m x s e = subst (λ (z : Step). memoryAfter (exchangeTick p m x z) ≡ setStatus m p 0) (sym e) refl
 
 -- the act of a task in an exchange
-exchange-act : (f : Phase) (x : Exchange) → exchangeIn f ≡ some x → actIn f ≡ actOf x
+pub exchange-act : (f : Phase) (x : Exchange) → exchangeIn f ≡ some x → actIn f ≡ actOf x
 exchange-act idle x e = impossible (cc)
 exchange-act plain x e = impossible (cc)
 exchange-act (readingPhase r w s) x e = impossible (cc)

@@ -1,17 +1,25 @@
--- Rates: a reading takes 2 or 3 ticks of its task, an exchange of k entries at most 9k + 4, whatever the other tasks do in between.
+-- Rates: a reading takes 2 or 3 ticks of its task, an exchange exactly as many as its steps tell, so of k entries at most 9k + 4, whatever
+-- the other tasks do in between.
 use Prim.Native.Nat.{ℕ, suc, _+_, _*_, _<_, _≤_}
-use mathlib.Core.Bool.{Bool, true, false}
+use mathlib.Core.Bool.{Bool, true, false, not}
 use mathlib.Core.Path.{_≡_, refl, sym, _∙_, ap, subst}
 use mathlib.Core.Logic.{_≢_, _⊎_, inl, inr}
 use mathlib.Core.List.{List}
 use native.Mathlib.Omega.{arith}
+use lib.Dec.{eqb}
 use lib.ListN.{length}
+use borrow.Author.Tests.{eq-eqb, ne-eqb}
 use Rattle.model.specs.Lists.{at, replace}
-use Rattle.model.specs.Word.{Word, Memory, cellOf, statusOf, own, Reading, loading, looking, fetching, reads, gives, readTick, lookingBy}
+use Rattle.model.specs.Word.{Word, sameWord, Memory, cellOf, statusOf, own, Reading, loading, looking, fetching, reads, gives, readTick, lookingBy}
 use Rattle.model.specs.Exchange.{Entry, Step, start, test, load, look, fetch, fail, mark, install, commit, save}
 use Rattle.model.specs.Exchange.{clean, cleanMark, Exchange, exchangeOf, Exchanged, goes, ends, exchangeTick}
-use Rattle.model.proofs.Lists.{replace-same, length-replace, impossible}
-use Rattle.model.proofs.Exchanges.Outcome.{Cleans, renews, passes, gives-back, leaves, marks-after, Outcome, starts, tests-done, tests-on}
+use Rattle.model.specs.Exchange.{entryAt}
+use Rattle.model.specs.Rates.{oneIf}
+use Rattle.model.specs.ExactTicks.{Tally, tally, noTally, exactly, tallyOf, TakesExactly}
+use Rattle.model.proofs.Lists.{test?, replace-same, length-replace, impossible}
+use Rattle.model.proofs.Exchanges.Act.{here}
+use Rattle.model.proofs.Exchanges.Words.{same-word, other-word}
+use Rattle.model.proofs.Exchanges.Outcome.{Decides, commits, refuses, Cleans, renews, passes, gives-back, leaves, marks-after, Outcome, starts, tests-done, tests-on}
 use Rattle.model.proofs.Exchanges.Outcome.{loads, looks-own, looks-other, fetches, saves-differing, saves-to-mark, saves, fails, marks}
 use Rattle.model.proofs.Exchanges.Outcome.{installs, misses, decides, decides-last, cleans, cleans-last, cleans-to-mark, outcome}
 
@@ -63,134 +71,482 @@ reading-ends {c} {t} {r} R = go r (reading-at R)
     go (fetching w) h = omega arith
 
 -- EXCHANGES
--- task p's exchange of those entries has done t ticks of its own and not ended; what the others do keeps p's status if it is 1
-pub data Ran (p : ℕ) (es : List Entry) : ℕ → Memory → Exchange → Type 0 where
-  before-start : (m : Memory) → Ran p es 0 m (exchangeOf es)
-  own-tick : {t : ℕ} {m n : Memory} {x y : Exchange} → Ran p es t m x → p < length (m .status) → exchangeTick p m x (x .step) ≡ goes n y
-      → Ran p es (suc t) n y
-  others : {t : ℕ} {m n : Memory} {x : Exchange} → Ran p es t m x → (statusOf m p ≡ 1 → statusOf n p ≡ 1) → Ran p es t n x
+-- its marks are on other tasks
+abbrev pub MarksOther : ℕ → Exchange → Step → Type 0
+MarksOther p x start = Unit {0}
+MarksOther p x test = Unit {0}
+MarksOther p x load = Unit {0}
+MarksOther p x look = Unit {0}
+MarksOther p x fetch = Unit {0}
+MarksOther p x (save v) = Unit {0}
+MarksOther p x fail = Unit {0}
+MarksOther p x mark = here x .init .task ≢ p
+MarksOther p x install = Unit {0}
+MarksOther p x commit = Unit {0}
+MarksOther p x (clean j yes?) = Unit {0}
+MarksOther p x (cleanMark j yes?) = entryAt x j .init .task ≢ p
 
--- t ticks are at most so many: an entry takes 7 up to its Install and 2 in Clean; after a Fail only Clean is left
-abbrev pub AtMost : ℕ → ℕ → ℕ → ℕ → Step → Type 0
-AtMost t k i status start = (t ≡ 0)
-AtMost t k i status test = (i ≤ k) × ((t ≤ 7 * i + 1) ⊎ ((status ≡ 1) × (t + 2 * i ≤ 9 * k + 2)))
-AtMost t k i status load = (i < k) × (t ≤ 7 * i + 2)
-AtMost t k i status look = (i < k) × (t ≤ 7 * i + 3)
-AtMost t k i status fetch = (i < k) × (t ≤ 7 * i + 4)
-AtMost t k i status (save v) = (i < k) × (t ≤ 7 * i + 5)
-AtMost t k i status fail = (i ≤ k) × (t + 2 * i ≤ 9 * k + 1)
-AtMost t k i status mark = (i < k) × (t ≤ 7 * i + 6)
-AtMost t k i status install = (i < k) × (t ≤ 7 * i + 7)
-AtMost t k i status commit = t + 2 * i ≤ 9 * k + 3
-AtMost t k i status (clean j yes?) = (j < i) × (t + 2 * i ≤ 9 * k + 4 + 2 * j)
-AtMost t k i status (cleanMark j yes?) = (j < i) × (t + 2 * i ≤ 9 * k + 5 + 2 * j)
+abbrev pub plus : Tally → Tally → Tally
+plus c d =
+    tally (c .tried + d .tried) (c .differed + d .differed) (c .fetched + d .fetched) (c .marked + d .marked) (c .failed + d .failed)
 
-pub record Ticked (t k p : ℕ) (m : Memory) (x : Exchange) : Type 0 where
+-- task p's exchange of those entries has done t ticks of its own and that in them, and has not ended; what the others do keeps p's status
+-- if it is 1
+pub data Ran (p : ℕ) (es : List Entry) : ℕ → Tally → Memory → Exchange → Type 0 where
+  before-start : (m : Memory) → Ran p es 0 noTally m (exchangeOf es)
+  own-tick : {t : ℕ} {c : Tally} {m n : Memory} {x y : Exchange} → Ran p es t c m x → p < length (m .status) → MarksOther p x (x .step)
+      → exchangeTick p m x (x .step) ≡ goes n y → Ran p es (suc t) (plus c (tallyOf p m x (x .step))) n y
+  others : {t : ℕ} {c : Tally} {m n : Memory} {x : Exchange} → Ran p es t c m x → (statusOf m p ≡ 1 → statusOf n p ≡ 1) → Ran p es t c n x
+
+-- so far no value differed and no install failed
+abbrev Good : Tally → Type 0
+Good c = (c .differed ≡ 0) × (c .failed ≡ 0)
+
+-- THE TICKS OF ITS STEPS: five for each word tried or found differing, and one for each fetch, mark and failed install
+abbrev sum : Tally → ℕ
+sum c = 5 * c .tried + 5 * c .differed + c .fetched + c .marked + c .failed
+
+-- between two entries
+pub record Between (n : ℕ) (t k i : ℕ) (c : Tally) : Type 0 where
+  pub ticks : t ≡ n + sum c
+  pub tried : c .tried ≡ i
+  pub words : i + c .differed ≤ k
+  pub stops : c .differed + c .failed ≤ 1
+  pub fetches : c .fetched ≤ i + c .differed
+  pub marks : c .marked ≤ i
+
+-- at entry i, with at most so many of its fetch and its mark counted
+pub record AtEntry (n f m : ℕ) (t k i : ℕ) (c : Tally) : Type 0 where
+  pub ticks : t ≡ n + sum c
+  pub tried : c .tried ≡ i
+  pub below : i < k
+  pub good : Good c
+  pub fetches : c .fetched ≤ i + f
+  pub marks : c .marked ≤ i + m
+
+-- Fail is next: that is counted already
+pub record Failing (t k i : ℕ) (c : Tally) : Type 0 where
+  pub ticks : suc t ≡ 1 + sum c
+  pub tried : c .tried ≡ i
+  pub words : i + c .differed ≤ k
+  pub stops : c .differed + c .failed ≤ 1
+  pub fetches : c .fetched ≤ i + c .differed
+  pub marks : c .marked ≤ i
+
+-- a yes has installed all
+abbrev All : ℕ → Bool → Tally → Type 0
+All k yes? c = yes? ≡ true → (c .tried ≡ k) × (c .differed ≡ 0) × (c .failed ≡ 0)
+
+-- in Clean, j entries being done
+pub record Cleaning (n : ℕ) (t k i j : ℕ) (yes? : Bool) (c : Tally) : Type 0 where
+  pub ticks : t ≡ n + sum c + j
+  pub tried : c .tried ≡ i
+  pub more : j < i
+  pub words : i + c .differed ≤ k
+  pub stops : c .differed + c .failed ≤ 1
+  pub fetches : c .fetched ≤ i + c .differed
+  pub marks : c .marked ≤ i + j
+  pub all : All k yes? c
+
+-- Clean, or its Mark, is done with entry j
+pub record Cleaned (t k i j : ℕ) (yes? : Bool) (c : Tally) : Type 0 where
+  pub ticks : t ≡ 3 + sum c + suc j
+  pub tried : c .tried ≡ i
+  pub more : j < i
+  pub words : i + c .differed ≤ k
+  pub stops : c .differed + c .failed ≤ 1
+  pub fetches : c .fetched ≤ i + c .differed
+  pub marks : c .marked ≤ i + suc j
+  pub all : All k yes? c
+
+-- t ticks done at that step, by what was done in them
+abbrev pub Exact : ℕ → ℕ → ℕ → ℕ → Tally → Step → Type 0
+Exact t k i status c start = (t ≡ 0) × (c ≡ noTally)
+Exact t k i status c test = Between 1 t k i c × (Good c ⊎ (status ≡ 1))
+Exact t k i status c load = AtEntry 2 0 0 t k i c
+Exact t k i status c look = AtEntry 3 0 0 t k i c
+Exact t k i status c fetch = AtEntry 4 0 0 t k i c
+Exact t k i status c (save v) = AtEntry 4 1 0 t k i c
+Exact t k i status c fail = Failing t k i c
+Exact t k i status c mark = AtEntry 5 1 0 t k i c
+Exact t k i status c install = AtEntry 5 1 1 t k i c
+Exact t k i status c commit = Between 2 t k i c × (((i ≡ k) × Good c) ⊎ (status ≡ 1))
+Exact t k i status c (clean j yes?) = Cleaning 3 t k i j yes? c
+Exact t k i status c (cleanMark j yes?) = Cleaning 4 t k i j yes? c
+
+pub record Ticked (t : ℕ) (c : Tally) (k p : ℕ) (m : Memory) (x : Exchange) : Type 0 where
   pub size : length (x .entries) ≡ k
-  pub most : AtMost t k (x .i) (statusOf m p) (x .step)
+  pub exact : Exact t k (x .i) (statusOf m p) c (x .step)
 
-abbrev AtMostAfter : ℕ → ℕ → ℕ → Exchanged → Type 0
-AtMostAfter t k p (goes n y) = Ticked t k p n y
-AtMostAfter t k p (ends n yes?) = t ≤ 9 * k + 4
+abbrev ExactAfter : ℕ → Tally → ℕ → ℕ → Exchanged → Type 0
+ExactAfter t c k p (goes n y) = Ticked t c k p n y
+ExactAfter t c k p (ends n yes?) = TakesExactly k (yes? ≡ true) t c
 
-module _ {t k p : ℕ} {m : Memory} {x : Exchange} (h : Ticked t k p m x) where
-  at-most-as : (s : Step) → x .step ≡ s → AtMost t k (x .i) (statusOf m p) s
-  at-most-as s e = subst (λ (z : Step). AtMost t k (x .i) (statusOf m p) z) e (h .most)
+-- what an exchange that has ended took
+takes-exactly : (k t : ℕ) (c : Tally) (Yes : Type 0) → t ≡ exactly c → c .tried + c .differed ≤ k → c .differed + c .failed ≤ 1
+    → c .fetched ≤ c .tried + c .differed → c .marked ≤ 2 * c .tried → (Yes → (c .tried ≡ k) × (c .differed ≡ 0) × (c .failed ≡ 0))
+    → TakesExactly k Yes t c
+takes-exactly k t c Yes e w s f n all = record {
+  exact = e;
+  words = w;
+  stops = s;
+  fetches = f;
+  marks = n;
+  all = all;
+  most = omega arith;
+  undisturbed = λ y z z′. let a = all y in omega (arith, a .0, a .1, a .2);
+}
+
+-- words that are the same
+same-words : (v w : Word) → v ≡ w → sameWord v w ≡ true
+same-words v w e = test? (sameWord v w) (λ t. t) (λ f. absurd (other-word v w f e))
+
+other-words : (v w : Word) → v ≢ w → sameWord v w ≡ false
+other-words v w ne = test? (sameWord v w) (λ t. absurd (ne (same-word v w t))) (λ f. f)
+
+module _ {t : ℕ} {c : Tally} {k p : ℕ} {m : Memory} {x : Exchange} (h : Ticked t c k p m x) where
+  exact-as : (s : Step) → x .step ≡ s → Exact t k (x .i) (statusOf m p) c s
+  exact-as s e = subst (λ (z : Step). Exact t k (x .i) (statusOf m p) c z) e (h .exact)
 
   init-length : (e : Entry) → length (replace (x .entries) (x .i) e) ≡ k
   init-length e = length-replace (x .entries) (x .i) e ∙ h .size
 
-  -- Clean goes by the bounds of its step or of its Mark's
-  cleaned-most : {n : Memory} {j : ℕ} {yes? : Bool} → Cleans p m x j yes? n → (j < x .i) × (t + 2 * x .i ≤ 9 * k + 5 + 2 * j)
-  cleaned-most {j = j} {yes?} (renews s e g) = let b = at-most-as (clean j yes?) s in (b .0, omega (arith, b .1))
-  cleaned-most {j = j} {yes?} (passes s e g) = let b = at-most-as (clean j yes?) s in (b .0, omega (arith, b .1))
-  cleaned-most {j = j} {yes?} (gives-back s e g) = let b = at-most-as (clean j yes?) s in (b .0, omega (arith, b .1))
-  cleaned-most {j = j} {yes?} (leaves s e g o) = let b = at-most-as (clean j yes?) s in (b .0, omega (arith, b .1))
-  cleaned-most {j = j} {yes?} (marks-after s) = at-most-as (cleanMark j yes?) s
+  -- a tick that counts nothing, between entries and at one
+  on-between : {n : ℕ} → Between n t k (x .i) c → Between (suc n) (suc t) k (x .i) (plus c noTally)
+  on-between b = record {
+    ticks = omega (arith, b .ticks);
+    tried = omega (arith, b .tried);
+    words = omega (arith, b .words);
+    stops = omega (arith, b .stops);
+    fetches = omega (arith, b .fetches);
+    marks = omega (arith, b .marks);
+  }
 
-  tested : (t ≤ 7 * x .i + 1) ⊎ ((statusOf m p ≡ 1) × (t + 2 * x .i ≤ 9 * k + 2)) → x .i ≤ k → suc t + 2 * x .i ≤ 9 * k + 3
-  tested (inl a) b = omega arith
-  tested (inr a) b = omega (arith, a .1)
+  on-entry : {n f g : ℕ} → AtEntry n f g t k (x .i) c → AtEntry (suc n) f g (suc t) k (x .i) (plus c noTally)
+  on-entry b = record {
+    ticks = omega (arith, b .ticks);
+    tried = omega (arith, b .tried);
+    below = b .below;
+    good = (omega (arith, b .good .0), omega (arith, b .good .1));
+    fetches = omega (arith, b .fetches);
+    marks = omega (arith, b .marks);
+  }
 
-  tested-on : (t ≤ 7 * x .i + 1) ⊎ ((statusOf m p ≡ 1) × (t + 2 * x .i ≤ 9 * k + 2)) → statusOf m p ≢ 1 → suc t ≤ 7 * x .i + 2
-  tested-on (inl a) ne = omega arith
-  tested-on (inr a) ne = absurd (ne (a .0))
+  good-on : Good c → Good (plus c noTally)
+  good-on g = (omega (arith, g .0), omega (arith, g .1))
 
-  tick-most : {o : Exchanged} → p < length (m .status) → Outcome p m x o → AtMostAfter (suc t) k p o
-  tick-most l (starts s) = let b = at-most-as start s in record { size = h .size; most = (omega arith, inl (omega arith)) }
-  tick-most l (tests-done s e) = let b = at-most-as test s in record { size = h .size; most = tested (b .1) (b .0) }
-  tick-most l (tests-on s g) =
-      let b = at-most-as test s in record { size = h .size; most = (omega (arith, b .0, h .size, g .0), tested-on (b .1) (g .1)) }
-  tick-most l (loads s) = let b = at-most-as load s in record { size = init-length _; most = (b .0, omega (arith, b .1)) }
-  tick-most l (looks-own s w) = let b = at-most-as look s in record { size = init-length _; most = (b .0, omega (arith, b .1)) }
-  tick-most l (looks-other s w) = let b = at-most-as look s in record { size = init-length _; most = (b .0, omega (arith, b .1)) }
-  tick-most l (fetches s) = let b = at-most-as fetch s in record { size = h .size; most = (b .0, omega (arith, b .1)) }
-  tick-most l (saves-differing v s ne) =
-      let b = at-most-as (save v) s in record { size = h .size; most = (omega (arith, b .0), omega (arith, b .0, b .1)) }
-  tick-most l (saves-to-mark v s d o c) = let b = at-most-as (save v) s in record { size = h .size; most = (b .0, omega (arith, b .1)) }
-  tick-most l (saves v s d u) = let b = at-most-as (save v) s in record { size = h .size; most = (b .0, omega (arith, b .1)) }
-  tick-most l (fails s) =
-      let b = at-most-as fail s in record { size = h .size; most = (b .0, inr (replace-same 0 (m .status) p 1 l, omega (arith, b .1))) }
-  tick-most l (marks s) = let b = at-most-as mark s in record { size = h .size; most = (b .0, omega (arith, b .1)) }
-  tick-most l (installs s e) = let b = at-most-as install s in record { size = h .size; most = (b .0, inl (omega (arith, b .1))) }
-  tick-most l (misses s e) = let b = at-most-as install s in record { size = h .size; most = (b .0, omega (arith, b .0, b .1)) }
-  tick-most l (decides s d ne) = let b = at-most-as commit s in record { size = h .size; most = (omega arith, omega arith) }
-  tick-most l (decides-last s d z) = let b = at-most-as commit s in omega arith
-  tick-most l (cleans j yes? c ne) = let b = cleaned-most c in record { size = h .size; most = (omega (arith, b .0), omega (arith, b .1)) }
-  tick-most l (cleans-last j yes? c e) = let b = cleaned-most c in omega (arith, b .1)
-  tick-most l (cleans-to-mark j yes? s e g o) = let b = at-most-as (clean j yes?) s in record { size = h .size; most = (b .0, omega (arith, b .1)) }
+  all-on : {yes? : Bool} (d : Tally) → d .tried ≡ c .tried → d .differed ≡ c .differed → d .failed ≡ c .failed → All k yes? c → All k yes? d
+  all-on d e f g a y = let b = a y in (e ∙ b .0, f ∙ b .1, g ∙ b .2)
 
-others-most : (t k i status status′ : ℕ) → (status ≡ 1 → status′ ≡ 1) → (s : Step) → AtMost t k i status s → AtMost t k i status′ s
-others-most t k i status status′ f start h = h
-others-most t k i status status′ f test h = (h .0, go (h .1))
+  on-cleaned : {j : ℕ} {yes? : Bool} → Cleaning 3 t k (x .i) j yes? c → Cleaned (suc t) k (x .i) j yes? (plus c noTally)
+  on-cleaned b = record {
+    ticks = omega (arith, b .ticks);
+    tried = omega (arith, b .tried);
+    more = b .more;
+    words = omega (arith, b .words);
+    stops = omega (arith, b .stops);
+    fetches = omega (arith, b .fetches);
+    marks = omega (arith, b .marks);
+    all = all-on (plus c noTally) (omega arith) (omega arith) (omega arith) (b .all);
+  }
+
+  cleaned-exact : {n : Memory} {j : ℕ} {yes? : Bool} → MarksOther p x (x .step) → Cleans p m x j yes? n
+      → Cleaned (suc t) k (x .i) j yes? (plus c (tallyOf p m x (x .step)))
+  unfolding tallyOf
+  cleaned-exact {j = j} {yes?} o (renews s e g) = let b = exact-as (clean j yes?) s in rw s (on-cleaned b)
+  cleaned-exact {j = j} {yes?} o (passes s e g) = let b = exact-as (clean j yes?) s in rw s (on-cleaned b)
+  cleaned-exact {j = j} {yes?} o (gives-back s e g) = let b = exact-as (clean j yes?) s in rw s (on-cleaned b)
+  cleaned-exact {j = j} {yes?} o (leaves s e g z) = let b = exact-as (clean j yes?) s in rw s (on-cleaned b)
+  cleaned-exact {j = j} {yes?} o (marks-after s) =
+      let b = exact-as (cleanMark j yes?) s in
+      let ne : entryAt x j .init .task ≢ p = rw s at o in
+      rw (s, ne-eqb (entryAt x j .init .task) p ne) (record {
+        ticks = omega (arith, b .ticks);
+        tried = omega (arith, b .tried);
+        more = b .more;
+        words = omega (arith, b .words);
+        stops = omega (arith, b .stops);
+        fetches = omega (arith, b .fetches);
+        marks = omega (arith, b .marks);
+        all = all-on (plus c (tally 0 0 0 1 0)) (omega arith) (omega arith) (omega arith) (b .all);
+      })
+
+  decided-all : {n : Memory} {yes? : Bool} → Decides p m n yes? → ((x .i ≡ k) × Good c) ⊎ (statusOf m p ≡ 1) → c .tried ≡ x .i
+      → All k yes? (plus c noTally)
+  decided-all (commits z) (inl g) e = λ y. (omega (arith, g .0), omega (arith, g .1 .0), omega (arith, g .1 .1))
+  decided-all (commits z) (inr o) e = λ y. absurd (omega (arith, z, o))
+  decided-all (refuses ne) g e = λ y. impossible (cc)
+
+  tested-done : (x .i ≡ length (x .entries)) ⊎ (statusOf m p ≡ 1) → Good c ⊎ (statusOf m p ≡ 1)
+      → ((x .i ≡ k) × Good (plus c noTally)) ⊎ (statusOf m p ≡ 1)
+  tested-done (inl e) (inl g) = inl (e ∙ h .size, good-on g)
+  tested-done (inl e) (inr o) = inr o
+  tested-done (inr o) g = inr o
+
+  tested-on : Good c ⊎ (statusOf m p ≡ 1) → statusOf m p ≢ 1 → Good c
+  tested-on (inl g) ne = g
+  tested-on (inr o) ne = absurd (ne o)
+
+  tick-exact : {o : Exchanged} → p < length (m .status) → MarksOther p x (x .step) → Outcome p m x o
+      → ExactAfter (suc t) (plus c (tallyOf p m x (x .step))) k p o
+  unfolding tallyOf
+  tick-exact l u (starts s) =
+      let b = exact-as start s in
+      rw (s, b .1) (record {
+        size = h .size;
+        exact = (
+          record {
+            ticks = omega (arith, b .0);
+            tried = refl;
+            words = omega arith;
+            stops = omega arith;
+            fetches = omega arith;
+            marks = omega arith;
+          },
+          inl (refl, refl),
+        );
+      })
+  tick-exact l u (tests-done s e) =
+      let b = exact-as test s in rw s (record { size = h .size; exact = (on-between (b .0), tested-done e (b .1)) })
+  tick-exact l u (tests-on s g) =
+      let b = exact-as test s in
+      let good = tested-on (b .1) (g .1) in
+      let w = b .0 in
+      rw s (record {
+        size = h .size;
+        exact = record {
+          ticks = omega (arith, w .ticks);
+          tried = omega (arith, w .tried);
+          below = omega (arith, w .words, h .size, g .0);
+          good = good-on good;
+          fetches = omega (arith, w .fetches, good .0);
+          marks = omega (arith, w .marks);
+        };
+      })
+  tick-exact l u (loads s) = let b = exact-as load s in rw s (record { size = init-length _; exact = on-entry b })
+  tick-exact l u (looks-own s w) =
+      let b = exact-as look s in
+      let d = on-entry b in
+      rw s (record {
+        size = init-length _;
+        exact = record { ticks = d .ticks; tried = d .tried; below = d .below; good = d .good; fetches = omega (arith, d .fetches); marks = d .marks };
+      })
+  tick-exact l u (looks-other s w) = let b = exact-as look s in rw s (record { size = init-length _; exact = on-entry b })
+  tick-exact l u (fetches s) =
+      let b = exact-as fetch s in
+      rw s (record {
+        size = h .size;
+        exact = record {
+          ticks = omega (arith, b .ticks);
+          tried = omega (arith, b .tried);
+          below = b .below;
+          good = (omega (arith, b .good .0), omega (arith, b .good .1));
+          fetches = omega (arith, b .fetches);
+          marks = omega (arith, b .marks);
+        };
+      })
+  tick-exact l u (saves-differing v s ne) =
+      let b = exact-as (save v) s in
+      rw (s, ne-eqb v (here x .old) ne) (record {
+        size = h .size;
+        exact = record {
+          ticks = omega (arith, b .ticks);
+          tried = omega (arith, b .tried);
+          words = omega (arith, b .below, b .good .0);
+          stops = omega (arith, b .good .0, b .good .1);
+          fetches = omega (arith, b .fetches);
+          marks = omega (arith, b .marks);
+        };
+      })
+  tick-exact l u (saves-to-mark v s d o e) =
+      let b = exact-as (save v) s in rw (s, eq-eqb v (here x .old) d) (record { size = h .size; exact = on-entry b })
+  tick-exact l u (saves v s d z) =
+      let b = exact-as (save v) s in
+      let w = on-entry b in
+      rw (s, eq-eqb v (here x .old) d) (record {
+        size = h .size;
+        exact = record { ticks = w .ticks; tried = w .tried; below = w .below; good = w .good; fetches = w .fetches; marks = omega (arith, w .marks) };
+      })
+  tick-exact l u (fails s) =
+      let b = exact-as fail s in
+      rw s (record {
+        size = h .size;
+        exact = (
+          record {
+            ticks = omega (arith, b .ticks);
+            tried = omega (arith, b .tried);
+            words = omega (arith, b .words);
+            stops = omega (arith, b .stops);
+            fetches = omega (arith, b .fetches);
+            marks = omega (arith, b .marks);
+          },
+          inr (replace-same 0 (m .status) p 1 l),
+        );
+      })
+  tick-exact l u (marks s) =
+      let b = exact-as mark s in
+      let ne : here x .init .task ≢ p = rw s at u in
+      rw (s, ne-eqb (here x .init .task) p ne) (record {
+        size = h .size;
+        exact = record {
+          ticks = omega (arith, b .ticks);
+          tried = omega (arith, b .tried);
+          below = b .below;
+          good = (omega (arith, b .good .0), omega (arith, b .good .1));
+          fetches = omega (arith, b .fetches);
+          marks = omega (arith, b .marks);
+        };
+      })
+  tick-exact l u (installs s e) =
+      let b = exact-as install s in
+      rw (s, same-words (cellOf m (here x .cell)) (here x .init) e) (record {
+        size = h .size;
+        exact = (
+          record {
+            ticks = omega (arith, b .ticks);
+            tried = omega (arith, b .tried);
+            words = omega (arith, b .below, b .good .0);
+            stops = omega (arith, b .good .0, b .good .1);
+            fetches = omega (arith, b .fetches);
+            marks = omega (arith, b .marks);
+          },
+          inl (omega (arith, b .good .0), omega (arith, b .good .1)),
+        );
+      })
+  tick-exact l u (misses s e) =
+      let b = exact-as install s in
+      rw (s, other-words (cellOf m (here x .cell)) (here x .init) e) (record {
+        size = h .size;
+        exact = record {
+          ticks = omega (arith, b .ticks);
+          tried = omega (arith, b .tried);
+          words = omega (arith, b .below, b .good .0);
+          stops = omega (arith, b .good .0, b .good .1);
+          fetches = omega (arith, b .fetches);
+          marks = omega (arith, b .marks);
+        };
+      })
+  tick-exact l u (decides s d ne) =
+      let b = exact-as commit s in
+      let w = on-between (b .0) in
+      rw s (record {
+        size = h .size;
+        exact = record {
+          ticks = omega (arith, w .ticks);
+          tried = w .tried;
+          more = omega arith;
+          words = w .words;
+          stops = w .stops;
+          fetches = w .fetches;
+          marks = omega (arith, w .marks);
+          all = decided-all d (b .1) (b .0 .tried);
+        };
+      })
+  tick-exact l u (decides-last s d z) =
+      let b = exact-as commit s in
+      let w = on-between (b .0) in
+      rw s (takes-exactly k (suc t) (plus c noTally) _ (omega (arith, w .ticks, w .tried)) (omega (arith, w .tried, w .words)) (w .stops)
+      (omega (arith, w .tried, w .fetches)) (omega (arith, w .tried, w .marks)) (decided-all d (b .1) (b .0 .tried)))
+  tick-exact l u (cleans j yes? q ne) =
+      let b = cleaned-exact u q in
+      record {
+        size = h .size;
+        exact = record {
+          ticks = b .ticks;
+          tried = b .tried;
+          more = omega (arith, b .more);
+          words = b .words;
+          stops = b .stops;
+          fetches = b .fetches;
+          marks = b .marks;
+          all = b .all;
+        };
+      }
+  tick-exact l u (cleans-last j yes? q e) =
+      let b = cleaned-exact u q in
+      takes-exactly k (suc t) (plus c (tallyOf p m x (x .step))) _ (omega (arith, b .ticks, b .tried)) (omega (arith, b .tried, b .words)) (b .stops)
+      (omega (arith, b .tried, b .fetches)) (omega (arith, b .tried, b .marks, b .more)) (b .all)
+  tick-exact l u (cleans-to-mark j yes? s e g o) =
+      let b = exact-as (clean j yes?) s in
+      rw s (record {
+        size = h .size;
+        exact = record {
+          ticks = omega (arith, b .ticks);
+          tried = omega (arith, b .tried);
+          more = b .more;
+          words = omega (arith, b .words);
+          stops = omega (arith, b .stops);
+          fetches = omega (arith, b .fetches);
+          marks = omega (arith, b .marks);
+          all = all-on (plus c noTally) (omega arith) (omega arith) (omega arith) (b .all);
+        };
+      })
+
+-- what the others do
+others-exact : (t k i status status′ : ℕ) (c : Tally) → (status ≡ 1 → status′ ≡ 1) → (s : Step) → Exact t k i status c s → Exact t k i status′ c s
+others-exact t k i status status′ c f start h = h
+others-exact t k i status status′ c f test h = (h .0, go (h .1))
   where
-    go : (t ≤ 7 * i + 1) ⊎ ((status ≡ 1) × (t + 2 * i ≤ 9 * k + 2)) → (t ≤ 7 * i + 1) ⊎ ((status′ ≡ 1) × (t + 2 * i ≤ 9 * k + 2))
+    go : Good c ⊎ (status ≡ 1) → Good c ⊎ (status′ ≡ 1)
     go (inl a) = inl a
-    go (inr a) = inr (f (a .0), a .1)
-others-most t k i status status′ f load h = h
-others-most t k i status status′ f look h = h
-others-most t k i status status′ f fetch h = h
-others-most t k i status status′ f (save v) h = h
-others-most t k i status status′ f fail h = h
-others-most t k i status status′ f mark h = h
-others-most t k i status status′ f install h = h
-others-most t k i status status′ f commit h = h
-others-most t k i status status′ f (clean j yes?) h = h
-others-most t k i status status′ f (cleanMark j yes?) h = h
-
-ran-most : {p : ℕ} {es : List Entry} {t : ℕ} {m : Memory} {x : Exchange} → Ran p es t m x → Ticked t (length es) p m x
-ran-most (before-start m) = record { size = refl; most = refl }
-ran-most {p} {es} (own-tick {t} {m} {n} {x} {y} r l e) =
-    let b : AtMostAfter (suc t) (length es) p (exchangeTick p m x (x .step)) = tick-most (ran-most r) l (outcome p m x) in
-    rw e at b
-ran-most {p} {es} (others {t} {m} {n} {x} r f) =
-    let b = ran-most r in record { size = b .size; most = others-most t (length es) (x .i) (statusOf m p) (statusOf n p) f (x .step) (b .most) }
-
--- the tick that ends an exchange of k entries is at most its (9k + 4)th
-pub exchange-rate : {p : ℕ} {es : List Entry} {t : ℕ} {m n : Memory} {x : Exchange} {yes? : Bool} → Ran p es t m x → p < length (m .status)
-    → exchangeTick p m x (x .step) ≡ ends n yes? → suc t ≤ 9 * length es + 4
-exchange-rate {p} {es} {t} {m} {n} {x} {yes?} r l e =
-    let b : AtMostAfter (suc t) (length es) p (exchangeTick p m x (x .step)) = tick-most (ran-most r) l (outcome p m x) in
-    rw e at b
-
--- and one that goes on has done fewer
-pub exchange-ends : {p : ℕ} {es : List Entry} {t : ℕ} {m : Memory} {x : Exchange} → Ran p es t m x → t < 9 * length es + 4
-exchange-ends {p} {es} {t} {m} {x} r = less (x .step) (ran-most r .most)
+    go (inr a) = inr (f a)
+others-exact t k i status status′ c f load h = h
+others-exact t k i status status′ c f look h = h
+others-exact t k i status status′ c f fetch h = h
+others-exact t k i status status′ c f (save v) h = h
+others-exact t k i status status′ c f fail h = h
+others-exact t k i status status′ c f mark h = h
+others-exact t k i status status′ c f install h = h
+others-exact t k i status status′ c f commit h = (h .0, go (h .1))
   where
-    less : (s : Step) → AtMost t (length es) (x .i) (statusOf m p) s → t < 9 * length es + 4
-    less start h = omega arith
-    less test h = go (h .1)
-      where
-        go : (t ≤ 7 * x .i + 1) ⊎ ((statusOf m p ≡ 1) × (t + 2 * x .i ≤ 9 * length es + 2)) → t < 9 * length es + 4
-        go (inl a) = omega (arith, h .0)
-        go (inr a) = omega (arith, a .1)
-    less load h = omega (arith, h .0, h .1)
-    less look h = omega (arith, h .0, h .1)
-    less fetch h = omega (arith, h .0, h .1)
-    less (save v) h = omega (arith, h .0, h .1)
-    less fail h = omega (arith, h .1)
-    less mark h = omega (arith, h .0, h .1)
-    less install h = omega (arith, h .0, h .1)
-    less commit h = omega arith
-    less (clean j yes?) h = omega (arith, h .0, h .1)
-    less (cleanMark j yes?) h = omega (arith, h .0, h .1)
+    go : ((i ≡ k) × Good c) ⊎ (status ≡ 1) → ((i ≡ k) × Good c) ⊎ (status′ ≡ 1)
+    go (inl a) = inl a
+    go (inr a) = inr (f a)
+others-exact t k i status status′ c f (clean j yes?) h = h
+others-exact t k i status status′ c f (cleanMark j yes?) h = h
+
+ran-exact : {p : ℕ} {es : List Entry} {t : ℕ} {c : Tally} {m : Memory} {x : Exchange} → Ran p es t c m x → Ticked t c (length es) p m x
+ran-exact (before-start m) = record { size = refl; exact = (refl, refl) }
+ran-exact {p} {es} (own-tick {t} {c} {m} {n} {x} {y} r l o e) =
+    let b : ExactAfter (suc t) (plus c (tallyOf p m x (x .step))) (length es) p (exchangeTick p m x (x .step)) =
+    tick-exact (ran-exact r) l o (outcome p m x) in
+    rw e at b
+ran-exact {p} {es} (others {t} {c} {m} {n} {x} r f) =
+    let b = ran-exact r in
+    record { size = b .size; exact = others-exact t (length es) (x .i) (statusOf m p) (statusOf n p) c f (x .step) (b .exact) }
+
+-- the ticks of an exchange that ends
+pub exchange-exact : {p : ℕ} {es : List Entry} {t : ℕ} {c : Tally} {m n : Memory} {x : Exchange} {yes? : Bool} → Ran p es t c m x
+    → p < length (m .status) → MarksOther p x (x .step) → exchangeTick p m x (x .step) ≡ ends n yes?
+    → TakesExactly (length es) (yes? ≡ true) (suc t) (plus c (tallyOf p m x (x .step)))
+exchange-exact {p} {es} {t} {c} {m} {n} {x} {yes?} r l o e =
+    let b : ExactAfter (suc t) (plus c (tallyOf p m x (x .step))) (length es) p (exchangeTick p m x (x .step)) =
+    tick-exact (ran-exact r) l o (outcome p m x) in
+    rw e at b
+
+-- and one that goes on has done fewer than 9k + 4
+pub exchange-ends : {p : ℕ} {es : List Entry} {t : ℕ} {c : Tally} {m : Memory} {x : Exchange} → Ran p es t c m x → t < 9 * length es + 4
+exchange-ends {p} {es} {t} {c} {m} {x} r = less (x .step) (ran-exact r .exact)
+  where
+    between : {n : ℕ} → n ≤ 2 → Between n t (length es) (x .i) c → t < 9 * length es + 4
+    between l b = omega (arith, b .ticks, b .tried, b .words, b .stops, b .fetches, b .marks)
+
+    entry : {n f g : ℕ} → n ≤ 5 → f ≤ 1 → g ≤ 1 → AtEntry n f g t (length es) (x .i) c → t < 9 * length es + 4
+    entry l l′ l″ b = omega (arith, b .ticks, b .tried, b .below, b .good .0, b .good .1, b .fetches, b .marks)
+
+    cleaning : {n j : ℕ} {yes? : Bool} → n ≤ 4 → Cleaning n t (length es) (x .i) j yes? c → t < 9 * length es + 4
+    cleaning l b = omega (arith, b .ticks, b .tried, b .more, b .words, b .stops, b .fetches, b .marks)
+
+    less : (s : Step) → Exact t (length es) (x .i) (statusOf m p) c s → t < 9 * length es + 4
+    less start h = omega (arith, h .0)
+    less test h = between (omega arith) (h .0)
+    less load h = entry (omega arith) (omega arith) (omega arith) h
+    less look h = entry (omega arith) (omega arith) (omega arith) h
+    less fetch h = entry (omega arith) (omega arith) (omega arith) h
+    less (save v) h = entry (omega arith) (omega arith) (omega arith) h
+    less fail h = omega (arith, h .ticks, h .tried, h .words, h .stops, h .fetches, h .marks)
+    less mark h = entry (omega arith) (omega arith) (omega arith) h
+    less install h = entry (omega arith) (omega arith) (omega arith) h
+    less commit h = between (omega arith) (h .0)
+    less (clean j yes?) h = cleaning (omega arith) h
+    less (cleanMark j yes?) h = cleaning (omega arith) h

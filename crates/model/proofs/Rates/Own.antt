@@ -13,14 +13,24 @@ use Rattle.model.specs.Job.{Task}
 use Rattle.model.specs.Machine.{Machine, Running, nobody, running, runningOf, moveAny, move}
 use Rattle.model.specs.Machine.{tick, over, none?, noneWaits, nobody?, runBy, run, arrive, enter, waitingAt}
 use Rattle.model.specs.Rates.{inTick, runningIn, isTask, oneIf, onlyIf, sumBefore, ownBefore}
+use Rattle.model.specs.ExactTicks.{Tally, noTally, tallyBefore}
 use Rattle.model.proofs.Lists.{test?}
 use Rattle.model.proofs.Sums.{sum-none, sum-next}
+use Rattle.model.proofs.Exchanges.Rates.{plus}
 use Rattle.model.proofs.Fit.Elements.{and-left, and-right}
 use Rattle.model.proofs.Fit.Waiting.{none-starts}
 use Rattle.model.proofs.Fit.Running.{busy, running-foremost, nobody-none, none-nobody}
 use Rattle.model.proofs.History.Steps.{stateAfter, arrivedAt}
 
 -- COUNTING
+sum-waits : (f : ℕ → ℕ) (a n : ℕ) → f n ≡ 0 → sumBefore f a (suc n) ≡ sumBefore f a n
+unfolding sumBefore
+sum-waits f a n e = rw e (go (leb a n))
+  where
+    go : (b : Bool) → sumBefore f a n + onlyIf b 0 ≡ sumBefore f a n
+    go true = omega arith
+    go false = omega arith
+
 pub other-task : {p q : ℕ} (r : Running) → q ≢ p → r ≡ running p → isTask q r ≡ false
 other-task {p} {q} r ne e = rw e (ne-eqb p q (λ z. ne (sym z)))
 
@@ -38,11 +48,37 @@ module _ (who : ℕ → Running) (p a : ℕ) where
 
   pub own-waits : (n : ℕ) → isTask p (who n) ≡ false → ownBefore who p a (suc n) ≡ ownBefore who p a n
   unfolding ownBefore sumBefore
-  own-waits n e = rw e (go (leb a n))
-    where
-      go : (b : Bool) → sumBefore own a n + onlyIf b 0 ≡ sumBefore own a n
-      go true = omega arith
-      go false = omega arith
+  own-waits n e = sum-waits own a n (rw e refl)
+
+-- what was done in them
+module _ (what : ℕ → Tally) (a : ℕ) where
+  pub tally-none : (n : ℕ) → n ≤ a → tallyBefore what a n ≡ noTally
+  tally-none n l = rw (
+    sum-none (λ u. what u .tried) a n l,
+    sum-none (λ u. what u .differed) a n l,
+    sum-none (λ u. what u .fetched) a n l,
+    sum-none (λ u. what u .marked) a n l,
+    sum-none (λ u. what u .failed) a n l,
+  ) refl
+
+  pub tally-runs : (n : ℕ) {c : Tally} → a ≤ n → what n ≡ c → tallyBefore what a (suc n) ≡ plus (tallyBefore what a n) c
+  tally-runs n l e = rw (
+    ← e,
+    sum-next (λ u. what u .tried) a n l,
+    sum-next (λ u. what u .differed) a n l,
+    sum-next (λ u. what u .fetched) a n l,
+    sum-next (λ u. what u .marked) a n l,
+    sum-next (λ u. what u .failed) a n l,
+  ) refl
+
+  pub tally-waits : (n : ℕ) → what n ≡ noTally → tallyBefore what a (suc n) ≡ tallyBefore what a n
+  tally-waits n e = rw (
+    sum-waits (λ u. what u .tried) a n (ap (λ (c : Tally). c .tried) e),
+    sum-waits (λ u. what u .differed) a n (ap (λ (c : Tally). c .differed) e),
+    sum-waits (λ u. what u .fetched) a n (ap (λ (c : Tally). c .fetched) e),
+    sum-waits (λ u. what u .marked) a n (ap (λ (c : Tally). c .marked) e),
+    sum-waits (λ u. what u .failed) a n (ap (λ (c : Tally). c .failed) e),
+  ) refl
 
 -- THE MACHINE IN TICK u
 -- the same but for the clock

@@ -1,16 +1,20 @@
--- The rates: in every run of an accepted sheet, with whatever limit, READs and exchanges take no more ticks of their own than they may.
+-- The rates: in every run of an accepted sheet, with whatever limit, READs and exchanges take no more ticks of their own than they may, and a
+-- finished exchange takes exactly as many as its steps tell.
 use Prim.Native.Nat.{ℕ, suc, _<_, _≤_}
-use mathlib.Core.Path.{_≡_, sym, _∙_, ap, subst, fun-ext}
-use mathlib.Core.List.{List}
+use mathlib.Core.Path.{_≡_, refl, sym, _∙_, ap, subst, fun-ext}
+use mathlib.Core.Bool.{true}
+use mathlib.Core.List.{List, [], _∷_}
+use lib.ListN.{length}
 use mathlib.Core.Option.{none, some}
 use Rattle.model.specs.Sheet.{Sheet, sheetOf, accepted, verdict}
 use Rattle.model.specs.Word.{loading}
 use Rattle.model.specs.Machine.{taskAt, Running, run}
 use Rattle.model.specs.Start.{startMachine}
 use Rattle.model.specs.History.{Operation}
-use Rattle.model.specs.Rates.{mostRead, mostExchange, runningIn, ownBefore, ownTicks, Committing, Starts, Ends}
+use Rattle.model.specs.Rates.{mostRead, mostExchange, inTick, runningIn, ownBefore, ownTicks, Committing, Starts, Ends}
 use Rattle.model.specs.Rates.{ReadsBank, Loads, Gives, IsAt, NoneIn, ReadTakes, ownAtEnd, Rates}
-use Rattle.model.specs.Arguments.{Arguments}
+use Rattle.model.specs.Arguments.{Arguments, Pair, swapOf}
+use Rattle.model.specs.ExactTicks.{Tally, stepTally, tallyBefore, tallies, TakesExactly, ExactTicks}
 use Rattle.model.proofs.Fit.Sheet.{SheetFit}
 use Rattle.model.proofs.Fit.Accepted.{accepted-fit}
 use Rattle.model.proofs.History.Steps.{stateAfter, arrivedAt, stopped}
@@ -18,10 +22,10 @@ use Rattle.model.proofs.History.Ticks.{now-is}
 use Rattle.model.proofs.History.Start.{started}
 use Rattle.model.proofs.Rates.Own.{in-tick}
 use Rattle.model.proofs.Rates.Timely.{Rate, Fewer, timely-fewer}
-use Rattle.model.proofs.Rates.Run.{who, rated}
+use Rattle.model.proofs.Rates.Run.{who, what, rated}
 use Rattle.model.proofs.Rates.Used.{ticks-used}
 use Rattle.model.proofs.Rates.Bank.{BankStepIn, Giving, bank-rate, bank-fewer}
-use Rattle.model.proofs.Rates.Commit.{InCommit, Ending, commit-rate, commit-fewer}
+use Rattle.model.proofs.Rates.Commit.{InCommit, Ending, commit-exact, commit-fewer}
 
 module _ {s : Sheet} (c : SheetFit s) where
   same-runs : (u : ℕ) → runningIn (startMachine s) u ≡ who c u
@@ -29,6 +33,12 @@ module _ {s : Sheet} (c : SheetFit s) where
 
   same-own : (p a n : ℕ) → ownBefore (runningIn (startMachine s)) p a n ≡ ownBefore (who c) p a n
   same-own p a n = ap (λ (w : ℕ → Running). ownBefore w p a n) (fun-ext same-runs)
+
+  same-step : (p u : ℕ) → stepTally (inTick (startMachine s) u) p ≡ what c p u
+  same-step p u = let i = in-tick (startMachine s) u in rw (i .runs, i .memory, i .tasks) refl
+
+  same-done : (p a n : ℕ) → tallyBefore (λ u. stepTally (inTick (startMachine s) u) p) a n ≡ tallyBefore (what c p) a n
+  same-done p a n = ap (λ (w : ℕ → Tally). tallyBefore w a n) (fun-ext (same-step p))
 
   -- what the T line says
   used : (limit p : ℕ) → taskAt (run limit (startMachine s) .tasks) p .counts .ticks ≡ ownAtEnd limit (startMachine s) p 0
@@ -38,10 +48,10 @@ module _ {s : Sheet} (c : SheetFit s) where
 
   -- an operation that has ended
   operation-rate : (limit a l : ℕ) (o : Operation) → IsAt limit (startMachine s) a o → o .last ≡ some l
-      → Rate (o .arguments) (ownTicks (startMachine s) (o .task) a l)
+      → Rate (o .arguments) (o .answers) (ownTicks (startMachine s) (o .task) a l) (tallies (startMachine s) (o .task) a l)
   operation-rate limit a l o is e =
       let r = stopped limit (startMachine s) in
-      rw (same-own (o .task) a (suc l)) (rated c (r .ticks) .ended .ended a l o (rw (r .history) at is) e)
+      rw (same-own (o .task) a (suc l), same-done (o .task) a (suc l)) (rated c (r .ticks) .ended .ended a l o (rw (r .history) at is) e)
 
   -- one that has not ended
   operation-fewer : (limit a : ℕ) (o : Operation) → IsAt limit (startMachine s) a o → o .last ≡ none
@@ -51,7 +61,7 @@ module _ {s : Sheet} (c : SheetFit s) where
       let k = rated c (r .ticks) in
       let stands = k .unended .stands a o (rw (r .history) at is) e in
       rw (r .state, now-is (started c) (r .ticks), same-own (o .task) a (r .ticks), ← stands .latest)
-      (timely-fewer _ (o .task) _ (taskAt (stateAfter (startMachine s) (r .ticks) .tasks) (o .task) .job .phase) (o .arguments) (stands .arguments)
+      (timely-fewer _ _ (o .task) _ (taskAt (stateAfter (startMachine s) (r .ticks) .tasks) (o .task) .job .phase) (o .arguments) (stands .arguments)
       (k .timely (o .task)))
 
   -- the reading of a bank word
@@ -134,16 +144,34 @@ module _ {s : Sheet} (c : SheetFit s) where
     unended : (n : ℕ) → NoneIn (Ends (startMachine s) p) a n → (u : ℕ) → a ≤ u → u < n → Ending p (arrivedAt (startMachine s) u) → ⊥
     unended n since u h b e = since u h b (ends-at e)
 
-    exchange-in-time : (l : ℕ) → a ≤ l → Ends (startMachine s) p l → NoneIn (Ends (startMachine s) p) a l
-        → ownTicks (startMachine s) p a l ≤ mostExchange k
-    exchange-in-time l h last since =
-        rw (same-own p a (suc l), ← first .entries)
-        (commit-rate c p a (sym (same-runs a) ∙ first .does .runs) (committing-in (first .does)) (first .start) l h (ending last) (unended l since))
+    exchange-exactly : (l : ℕ) → a ≤ l → (last : Ends (startMachine s) p l) → NoneIn (Ends (startMachine s) p) a l
+        → TakesExactly k (last .yes? ≡ true) (ownTicks (startMachine s) p a l) (tallies (startMachine s) p a l)
+    unfolding ending
+    exchange-exactly l h last since =
+        rw (same-own p a (suc l), same-done p a (suc l), ← first .entries)
+        (commit-exact c p a (sym (same-runs a) ∙ first .does .runs) (committing-in (first .does)) (first .start) l h (ending last) (unended l since))
 
     exchange-fewer : (n : ℕ) → a < n → NoneIn (Ends (startMachine s) p) a n → ownBefore (runningIn (startMachine s)) p a n < mostExchange k
     exchange-fewer n h since =
         rw (same-own p a n, ← first .entries)
         (commit-fewer c p a (sym (same-runs a) ∙ first .does .runs) (committing-in (first .does)) (first .start) n h (unended n since))
+
+-- THE EXACT TICKS of a SWAP
+swap-exactly : (sheet : List ℕ) (limit : ℕ) → verdict sheet ≡ accepted → (a l : ℕ) (ps : List Pair) (o : Operation)
+    → IsAt limit (startMachine (sheetOf sheet)) a o → o .arguments ≡ swapOf ps → o .last ≡ some l
+    → TakesExactly (length ps) (o .answers ≡ 1 ∷ []) (ownTicks (startMachine (sheetOf sheet)) (o .task) a l)
+    (tallies (startMachine (sheetOf sheet)) (o .task) a l)
+swap-exactly sheet limit e a l ps o is g z =
+    subst (λ (args : Arguments). Rate args (o .answers) (ownTicks (startMachine (sheetOf sheet)) (o .task) a l)
+    (tallies (startMachine (sheetOf sheet)) (o .task) a l)) g
+    (operation-rate (accepted-fit sheet e) limit a l o is z)
+
+pub exact-ticks : (sheet : List ℕ) (limit : ℕ) → verdict sheet ≡ accepted → ExactTicks sheet limit
+exact-ticks sheet limit e =
+    record {
+      swap = swap-exactly sheet limit e;
+      commit = λ p a l k done first h last since. exchange-exactly (accepted-fit sheet e) p a k first l h last since;
+    }
 
 -- THE RATES
 pub rates : (sheet : List ℕ) (limit : ℕ) → verdict sheet ≡ accepted → Rates sheet limit
@@ -152,15 +180,15 @@ rates sheet limit e =
     record {
       used = used c limit;
       read = λ a w l o is g z.
-          subst (λ (args : Arguments). Rate args (ownTicks (startMachine (sheetOf sheet)) (o .task) a l)) g (operation-rate c limit a l o is z);
+          subst (λ (args : Arguments). Rate args (o .answers) (ownTicks (startMachine (sheetOf sheet)) (o .task) a l)
+          (tallies (startMachine (sheetOf sheet)) (o .task) a l)) g (operation-rate c limit a l o is z);
       readCutShort = λ a w o is g z.
           subst (λ (args : Arguments). Fewer args (ownAtEnd limit (startMachine (sheetOf sheet)) (o .task) a)) g (operation-fewer c limit a o is z);
-      swap = λ a l ps o is g z.
-          subst (λ (args : Arguments). Rate args (ownTicks (startMachine (sheetOf sheet)) (o .task) a l)) g (operation-rate c limit a l o is z);
+      swap = λ a l ps o is g z. swap-exactly sheet limit e a l ps o is g z .most;
       swapCutShort = λ a ps o is g z.
           subst (λ (args : Arguments). Fewer args (ownAtEnd limit (startMachine (sheetOf sheet)) (o .task) a)) g (operation-fewer c limit a o is z);
       bankRead = λ p a l done load h last since. bank-in-time c p a load l h last since;
       bankReadCutShort = λ p a n done load h since. bank-in-fewer c p a load n h since;
-      commit = λ p a l k done first h last since. exchange-in-time c p a k first l h last since;
+      commit = λ p a l k done first h last since. exchange-exactly c p a k first l h last since .most;
       commitCutShort = λ p a n k done first h since. exchange-fewer c p a k first n h since;
     }
