@@ -17,8 +17,9 @@ use Rattle.model.specs.Rates.{Starts, Ends, firstLoad, firstReading, sec
 use Rattle.model.specs.Arguments.{Pair, readOf, swapOf}
 use Rattle.model.proofs.Lists.{test?}
 use Rattle.model.proofs.Sums.{sum-none, sum-next}
-use Rattle.model.proofs.Sheets.{exchanging, bodyRead, against, oneBlock, bodyU}
+use Rattle.model.proofs.Sheets.{bodyRead, against, oneBlock, bodyU}
 use Rattle.model.proofs.Bytes.{word, task, release, end, load, pair, swap}
+use Rattle.model.proofs.TickCases.{sheetOfThree}
 
 -- OWN TICKS IN ONE WALK: `ownTicks` has a run from the start for each tick, so to compute it the run is walked once.
 -- how many of the next n ticks are task p's
@@ -92,10 +93,7 @@ toSeven w = record { word = w; old = 12; new = 7 }
 abbrev pub swapNo : ℕ → List Pair → Operation
 swapNo l ps = record { task = 1; arguments = swapOf ps; last = some l; committed = false; spent = false; answers = 0 ∷ []; lost = [] }
 
--- Task 1 finds word 0 overlapped, and before its Install task 2 changes that word: it does every step there is, and its ticks are 13.
-pub sheetOfThree : List ℕ
-sheetOfThree = word 12 ++ exchanging 5 ++ exchanging 7 ++ exchanging 9 ++ release 0 0 ++ release 9 1 ++ release 16 2 ++ end
-
+-- An exchange of one word that does every step there is: its ticks are 13.
 pub all-steps : Took sheetOfThree 12 38 13 (mostExchange 1) (swapNo 38 (toSeven 0 ∷ []))
 unfolding historyOf run startMachine sheetOf sheetOfThree at ownNext
 all-steps = record { is = refl; last = refl; ticks = own-walk _ 1 12 27; reached = refl }

@@ -34,6 +34,7 @@ pub mod Standing
 pub mod Upheld
 pub mod Preserve
 pub mod Current
+pub mod Exact
 pub mod Rates
 pub mod Marks
 pub mod Ground

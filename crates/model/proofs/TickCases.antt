@@ -12,7 +12,7 @@ use Rattle.model.specs.Start.{startMachine}
 use Rattle.model.specs.Rates.{inTick, ownBefore, ownTicks}
 use Rattle.model.specs.ExactTicks.{Tally, tally, tallyOf, exactly, tallies}
 use Rattle.model.proofs.Sheets.{sheetA, exchanging, body₁, bodyTwoWords, against, sheetU}
-use Rattle.model.proofs.Bytes.{word, release, end}
+use Rattle.model.proofs.Bytes.{word, task, release, end, load, pair, swap}
 
 pub record Row : Type 0 where
   pub sheet : List ℕ
@@ -35,9 +35,13 @@ computed r =
 abbrev told : Row → ℕ
 told r = exactly (r .did)
 
--- task 1 finds word 0 overlapped, and before its Install task 2 changes that word
-abbrev sheetOfThree : List ℕ
+-- Task 1 finds word 0 overlapped, and before its Install task 2 changes that word: it does every step there is.
+unfoldable pub sheetOfThree : List ℕ
 sheetOfThree = word 12 ++ exchanging 5 ++ exchanging 7 ++ exchanging 9 ++ release 0 0 ++ release 9 1 ++ release 16 2 ++ end
+
+-- a task that expects 5 in word 0
+abbrev expectingFive : List ℕ
+expectingFive = task ++ load 1 5 ++ load 2 7 ++ pair 0 1 2 ++ swap 0
 
 pub table : List Row
 table =
@@ -50,6 +54,9 @@ table =
     ∷ row (against (word 12) body₁ 11) 1 14 21 8 (tally 0 1 0 0 0)
     -- P5: one word tried, the next differs
     ∷ row (against (word 12 ++ word 22) bodyTwoWords 9) 1 13 28 16 (tally 1 1 1 1 0)
+    -- the value fetched differs; it is as old, and new is the same: no mark
+    ∷ row (against (word 12) expectingFive 9) 1 12 20 9 (tally 0 1 1 0 0)
+    ∷ row (against (word 12) (exchanging 12) 9) 1 12 21 10 (tally 1 0 1 0 0)
     -- every step there is: 9 * 1 + 4
     ∷ row sheetOfThree 1 12 38 13 (tally 1 0 1 2 1)
     -- P9: the exchange of a COMMIT
@@ -57,7 +64,7 @@ table =
     ∷ []
 
 pub figures : map computed table ≡ table
-unfolding table run startMachine sheetOf at inTick ownBefore tallyOf
+unfolding table sheetOfThree run startMachine sheetOf at inTick ownBefore tallyOf
 figures = refl
 
 pub exact-figures : map told table ≡ map (λ (r : Row). r .ticks) table

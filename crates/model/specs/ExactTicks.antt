@@ -15,7 +15,7 @@ use Rattle.model.specs.Machine.{Machine, taskAt, runningOf, run}
 use Rattle.model.specs.Start.{startMachine}
 use Rattle.model.specs.Arguments.{Pair, swapOf}
 use Rattle.model.specs.History.{Operation}
-use Rattle.model.specs.Rates.{inTick, isTask, oneIf, sumBefore, ownTicks, Starts, Ends, IsAt, NoneIn}
+use Rattle.model.specs.Rates.{mostExchange, inTick, isTask, oneIf, sumBefore, ownTicks, Starts, Ends, IsAt, NoneIn}
 
 -- WHAT AN EXCHANGE DID: the words that it tried to install, whether it stopped at a differing value, its fetches, its marks on other
 -- tasks, and whether an install failed
@@ -37,7 +37,7 @@ abbrev pub exactly : Tally → ℕ
 exactly c = 3 + 6 * c .tried + 5 * c .differed + c .fetched + c .marked + c .failed
 
 -- ONE STEP
--- a mark of task p on that entry's task
+-- a mark by task p on the task of that entry's init
 abbrev pub marksOther : ℕ → Entry → Tally
 marksOther p e = tally 0 0 0 (oneIf (not (eqb (e .init .task) p))) 0
 
@@ -87,7 +87,7 @@ tallyBefore f a n =
     tally (sumBefore (λ u. f u .tried) a n) (sumBefore (λ u. f u .differed) a n) (sumBefore (λ u. f u .fetched) a n)
     (sumBefore (λ u. f u .marked) a n) (sumBefore (λ u. f u .failed) a n)
 
--- of task p, from tick a to tick l
+-- by task p, from tick a to tick l
 abbrev pub tallies : Machine → ℕ → ℕ → ℕ → Tally
 tallies m p a l = tallyBefore (λ u. stepTally (inTick m u) p) a (suc l)
 
@@ -101,8 +101,8 @@ pub record TakesExactly (k : ℕ) (Yes : Type 0) (t : ℕ) (c : Tally) : Type 0 
   pub marks : c .marked ≤ 2 * c .tried
   -- a yes has tried and installed all
   pub all : Yes → (c .tried ≡ k) × (c .differed ≡ 0) × (c .failed ≡ 0)
-  -- what follows of its ticks: at most so many; and a yes with no fetch and no mark
-  pub most : t ≤ 9 * k + 4
+  -- what follows from these: the old bound; and a yes with no fetch and no mark
+  pub most : t ≤ mostExchange k
   pub undisturbed : Yes → c .fetched ≡ 0 → c .marked ≡ 0 → t ≡ 6 * k + 3
 
 -- of a run with a limit
