@@ -1,5 +1,5 @@
 //! What a corpus of cases covers: refusals, statements, outcomes, releases that wait or are dropped,
-//! lost attempts, touched blocks, each counted.
+//! lost attempts, touched blocks, what exchanges did, each counted.
 
 use std::fmt;
 
@@ -10,6 +10,7 @@ use crate::lost_coverage::LostCoverage;
 use crate::machine::Machine;
 use crate::observer::{Cause, Event, Fate, Observer, Statement};
 use crate::sheet::{self, MAX_TASKS};
+use crate::tally_coverage::TallyCoverage;
 use crate::touched_coverage::TouchedCoverage;
 use crate::waiting_coverage::WaitingCoverage;
 use crate::{run, TOP_LIMIT};
@@ -104,6 +105,7 @@ pub struct Coverage {
     drops: DropCoverage,
     lost: LostCoverage,
     touched: TouchedCoverage,
+    tallies: TallyCoverage,
 }
 
 impl Coverage {
@@ -119,6 +121,7 @@ impl Coverage {
             drops: DropCoverage::default(),
             lost: LostCoverage::default(),
             touched: TouchedCoverage::default(),
+            tallies: TallyCoverage::default(),
         }
     }
 
@@ -132,6 +135,7 @@ impl Coverage {
         self.drops.take(&sheet, limit);
         self.lost.take(&sheet, limit);
         self.touched.take(&sheet, limit);
+        self.tallies.take(&sheet, limit);
         let mut machine = Machine::new(&sheet);
         let mut observers =
             (Counter { coverage: self, in_transaction: [false; MAX_TASKS] }, History::new());
@@ -196,6 +200,7 @@ impl Coverage {
         rows.extend(self.drops.rows());
         rows.extend(self.lost.rows());
         rows.extend(self.touched.rows());
+        rows.extend(self.tallies.rows());
         rows
     }
 }

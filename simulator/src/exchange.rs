@@ -104,6 +104,7 @@ impl Machine<'_> {
         observer.statement(self.tick, task, Statement::Mark);
         let exchange = &self.jobs[task].exchange;
         let marked = usize::from(exchange.init[exchange.position].task);
+        observer.event(self.tick, task, Event::Marks { task: marked });
         self.status[marked] = FAILED;
         self.jobs[task].step = Step::Install;
     }
@@ -187,6 +188,7 @@ impl Machine<'_> {
         observer.statement(self.tick, task, Statement::CleanMark);
         let exchange = &self.jobs[task].exchange;
         let marked = usize::from(exchange.init[exchange.cleaned].task);
+        observer.event(self.tick, task, Event::Marks { task: marked });
         self.status[marked] = FAILED;
         self.clean_next(task, observer);
     }

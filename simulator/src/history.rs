@@ -3,6 +3,8 @@
 use crate::machine::{Machine, Pair};
 use crate::observer::{Cause, Event, Fate, Observer, Statement};
 use crate::sheet::{Sheet, MAX_TASKS, REGISTERS};
+pub use crate::span::Span;
+pub use crate::tally::Tally;
 
 /// A READ, a SWAP or a transaction with its arguments as recorded.
 #[derive(Clone, Debug)]
@@ -32,38 +34,6 @@ pub struct LostAttempt {
     pub cause: Cause,
 }
 
-/// The ticks of an operation or of an exchange.
-#[derive(Clone, Copy, Debug)]
-pub struct Span {
-    pub first: u32,
-    /// The tick in which it ended, if it did.
-    pub last: Option<u32>,
-    /// The statements of its task up to its first one, and up to its last one.
-    own_first: u32,
-    own_last: u32,
-}
-
-impl Span {
-    fn new(tick: u32, own_tick: u32) -> Span {
-        Span { first: tick, last: None, own_first: own_tick, own_last: own_tick }
-    }
-
-    fn end(&mut self, tick: u32, own_tick: u32) {
-        self.last = Some(tick);
-        self.own_last = own_tick;
-    }
-
-    /// How many ticks of its own it took, once it has ended.
-    pub fn own_ticks(&self) -> u32 {
-        self.own_last - self.own_first + 1
-    }
-
-    /// After the first tick and before the last.
-    pub fn holds_inside(&self, tick: u32) -> bool {
-        self.first < tick && self.last.is_none_or(|last| tick < last)
-    }
-}
-
 /// One exchange: a SWAP has one, a transaction one for each COMMIT it came to.
 #[derive(Clone, Debug)]
 pub struct Exchange {
@@ -75,6 +45,7 @@ pub struct Exchange {
     pub differs: bool,
     /// What Commit answered.
     pub committed: Option<bool>,
+    pub tally: Tally,
 }
 
 #[derive(Clone, Debug)]
@@ -175,6 +146,7 @@ impl History {
                 load: tick,
                 differs: false,
                 committed: None,
+                tally: Tally::default(),
             });
         }
     }
@@ -203,8 +175,16 @@ impl Observer for History {
         }
     }
 
-    fn statement(&mut self, _tick: u32, task: usize, _statement: Statement) {
+    fn statement(&mut self, _tick: u32, task: usize, statement: Statement) {
         self.ticks[task] += 1;
+        let own_tick = self.ticks[task];
+        if let Some(operation) = self.latest_operation(task) {
+            operation.span.go_on(own_tick);
+            if let Some(exchange) = operation.exchange_under_way() {
+                exchange.span.go_on(own_tick);
+                exchange.tally.take_statement(statement);
+            }
+        }
     }
 
     fn event(&mut self, tick: u32, task: usize, event: Event<'_>) {
@@ -224,16 +204,22 @@ impl Observer for History {
             Event::ExchangeBegins { pairs } => self.begin_exchange(tick, task, pairs),
             _ => {}
         }
-        let own_tick = self.ticks[task];
         if let Some(operation) = self.latest_operation(task) {
-            operation.take(tick, own_tick, event);
+            operation.take(tick, event);
             operation.take_answer(tick, event);
         }
     }
 }
 
 impl Operation {
-    fn take(&mut self, tick: u32, own_tick: u32, event: Event<'_>) {
+    fn exchange_under_way(&mut self) -> Option<&mut Exchange> {
+        self.exchanges.last_mut().filter(|exchange| exchange.span.last.is_none())
+    }
+
+    fn take(&mut self, tick: u32, event: Event<'_>) {
+        if let (task, Some(exchange)) = (self.task, self.exchange_under_way()) {
+            exchange.tally.take_event(task, event);
+        }
         let is_swap = matches!(self.kind, Kind::Swap { .. });
         match event {
             Event::ReadBegins { .. } => self.place = Some(tick),
@@ -259,20 +245,20 @@ impl Operation {
             }
             Event::ExchangeEnds { .. } => {
                 if let Some(exchange) = self.exchanges.last_mut() {
-                    exchange.span.end(tick, own_tick);
+                    exchange.span.end(tick);
                 }
                 if is_swap {
-                    self.span.end(tick, own_tick);
+                    self.span.end(tick);
                 }
             }
             Event::CommitsNothing => {
                 self.committed = true;
                 self.place = Some(tick);
             }
-            Event::ReadEnds { .. } | Event::TransactionEnds => self.span.end(tick, own_tick),
+            Event::ReadEnds { .. } | Event::TransactionEnds => self.span.end(tick),
             Event::Spent { .. } => {
                 self.spent = true;
-                self.span.end(tick, own_tick);
+                self.span.end(tick);
             }
             _ => {}
         }

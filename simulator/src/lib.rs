@@ -1,14 +1,16 @@
-//! The second simulator of the exchange engine: document 01 and changes 1 to 5 of document 02 in plain
-//! Rust, with no part shared. Change 5 changes no report: COMMIT tries every block number here.
+//! The second simulator of the exchange engine: document 01 and changes 1 to 5 and 7 of document 02 in
+//! plain Rust, with no part shared. Changes 5 and 7 change no report: COMMIT tries every block number
+//! here, and the ticks of an exchange are those of document 01's statements.
 //!
 //! `sheet` reads a sheet, `builder` composes one, `machine` runs it with `releases`, `reading`,
-//! `exchange` and `transaction`, `report` prints the end. `history` observes a run; `plain` checks it
-//! as whole operations, `drops` and `lost` check the counts of dropped releases and of lost attempts,
-//! `gathered` what COMMITs gather.
+//! `exchange` and `transaction`, `report` prints the end. `history` observes a run, with the `span` of
+//! each operation and the `tally` of what each exchange did; `plain` checks it as whole operations,
+//! `drops` and `lost` check the counts of dropped releases and of lost attempts, `gathered` what COMMITs
+//! gather, `exact_ticks` the ticks of exchanges.
 //! `generator` makes cases from `contention` (good sheets, with `bursts` of releases, releases inside
 //! `attempts` and `wide` transactions) and `damage` (bad ones); `coverage`, `waiting_coverage`,
-//! `drop_coverage`, `lost_coverage` and `touched_coverage` count them. `compositions` makes lists of
-//! commands for the builder. `write` is for sheets in the code of tests and generators.
+//! `drop_coverage`, `lost_coverage`, `touched_coverage` and `tally_coverage` count them. `compositions`
+//! makes lists of commands for the builder. `write` is for sheets in the code of tests and generators.
 
 pub mod attempts;
 pub mod builder;
@@ -19,6 +21,7 @@ pub mod coverage;
 pub mod damage;
 pub mod drop_coverage;
 pub mod drops;
+pub mod exact_ticks;
 pub mod exchange;
 pub mod gathered;
 pub mod generator;
@@ -33,6 +36,9 @@ pub mod reading;
 pub mod releases;
 pub mod report;
 pub mod sheet;
+pub mod span;
+pub mod tally;
+pub mod tally_coverage;
 pub mod touched_coverage;
 pub mod transaction;
 pub mod waiting_coverage;

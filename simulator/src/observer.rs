@@ -61,6 +61,10 @@ pub enum Event<'a> {
     },
     ExchangeLoads,
     ExchangeDiffers,
+    /// The task whose status an exchange's Mark sets to 1, before Install or in Clean.
+    Marks {
+        task: usize,
+    },
     ExchangeCommits {
         answer: bool,
     },

@@ -8,7 +8,7 @@ use simulator::random::Random;
 use simulator::{check, run, run_observed};
 
 #[test]
-fn every_refusal_statement_outcome_wait_drop_loss_and_touched_kind_is_covered() {
+fn every_refusal_statement_outcome_wait_drop_loss_touched_and_tally_kind_is_covered() {
     let mut coverage = Coverage::new();
     for index in 0..CASES {
         coverage.take(&case(SEED, index));

@@ -5,9 +5,6 @@
 
 mod common;
 
-use std::fs;
-use std::path::Path;
-
 use common::*;
 use simulator::contention::Style;
 use simulator::generator::{case, valid_sheet, CASES, SEED};
@@ -17,11 +14,6 @@ use simulator::observer::Cause::{self, RejectedCommit, StaleVersion};
 use simulator::random::Random;
 use simulator::sheet::parse;
 use simulator::write::*;
-
-fn worked(name: &str) -> Bytes {
-    let folder = Path::new(env!("CARGO_MANIFEST_DIR")).join("../examples/worked");
-    fs::read(folder.join(format!("{name}.sheet"))).unwrap()
-}
 
 /// For each transaction of task 0, the ticks of its lost attempts with their causes.
 fn lost_by_lowest_task(sheet: &[u8]) -> Vec<Vec<(u32, Cause)>> {

@@ -1,5 +1,5 @@
 //! Slips of this trade: a copy of the simulator with one wrong edit must fail demand 3, the counts of
-//! dropped releases, those of lost attempts or what COMMITs gather.
+//! dropped releases, those of lost attempts, what COMMITs gather or the exact ticks of exchanges.
 //!
 //! Slips of gathering must also show in a worked figure and in the cases of the comparison: there a
 //! proved library with the same slip would be found.
@@ -35,7 +35,8 @@ fn main() {
         let checked = plain::whole_operations(&case.sheet, case.limit)
             .and_then(|()| drops::drops_counted(&case.sheet, case.limit))
             .and_then(|()| lost::lost_counted(&case.sheet, case.limit))
-            .and_then(|()| gathered::gathered_rising(&case.sheet, case.limit));
+            .and_then(|()| gathered::gathered_rising(&case.sheet, case.limit))
+            .and_then(|()| exact_ticks::exact_ticks_hold(&case.sheet, case.limit));
         if let Err(fault) = checked {
             println!("case {index}: {fault}");
             std::process::exit(1);
@@ -240,4 +241,48 @@ slips! {
     no_of_swap_counted_as_a_lost_attempt: "exchange.rs",
         "self.answer(task, u32::from(answer));"
             => "self.answer(task, u32::from(answer)); self.counts[task].lost += u32::from(!answer);";
+    fail_goes_to_commit_without_a_test: "exchange.rs",
+        "Event::ExchangeDiffers);
+        self.status[task] = FAILED;
+        self.jobs[task].step = Step::Test;"
+            => "Event::ExchangeDiffers);
+        self.status[task] = FAILED;
+        self.jobs[task].step = Step::Commit;";
+    clean_leaves_out_the_word_whose_install_failed: "exchange.rs",
+        "Statement::FailAfterInstall);
+        self.status[task] = FAILED;
+        self.jobs[task].exchange.position += 1;"
+            => "Statement::FailAfterInstall);
+        self.status[task] = FAILED;";
+    differing_value_counted_as_a_failed_install: "tally.rs",
+        "Statement::FailAfterSave => self.differed += 1" => "Statement::FailAfterSave => self.failed += 1";
+    failed_install_not_counted_as_tried: "tally.rs",
+        "Statement::InstallDone | Statement::InstallNotDone" => "Statement::InstallDone";
+    fetch_not_counted: "tally.rs",
+        "Statement::ExchangeFetch => self.fetched += 1," => "";
+    // The sum is the same: the state shows a mark.
+    mark_in_clean_counted_as_a_fetch: "exchange.rs",
+        "observer.statement(self.tick, task, Statement::CleanMark);
+        let exchange = &self.jobs[task].exchange;
+        let marked = usize::from(exchange.init[exchange.cleaned].task);
+        observer.event(self.tick, task, Event::Marks { task: marked });"
+            => "observer.statement(self.tick, task, Statement::ExchangeFetch);
+        let exchange = &self.jobs[task].exchange;
+        let marked = usize::from(exchange.init[exchange.cleaned].task);";
+    mark_in_clean_not_told: "exchange.rs",
+        "exchange.init[exchange.cleaned].task);
+        observer.event(self.tick, task, Event::Marks { task: marked });"
+            => "exchange.init[exchange.cleaned].task);";
+    mark_told_of_the_marker: "exchange.rs",
+        "exchange.init[exchange.position].task);
+        observer.event(self.tick, task, Event::Marks { task: marked });"
+            => "exchange.init[exchange.position].task);
+        observer.event(self.tick, task, Event::Marks { task });";
+    ticks_of_other_tasks_counted: "span.rs",
+        "self.own_last - self.own_first + 1"
+            => "self.last.map_or(self.own_last - self.own_first, |last| last - self.first) + 1";
+    six_ticks_for_a_differing_word: "tally.rs",
+        "5 * self.differed" => "6 * self.differed";
+    the_last_exchange_s_numbers_kept: "history.rs",
+        "tally: Tally::default()," => "tally: operation.exchanges.last().map(|one| one.tally).unwrap_or_default(),";
 }

@@ -3,9 +3,6 @@
 
 mod common;
 
-use std::fs;
-use std::path::Path;
-
 use common::*;
 use simulator::contention::Style;
 use simulator::coverage::Coverage;
@@ -14,15 +11,9 @@ use simulator::generator::{case, valid_sheet, CASES, SEED};
 use simulator::random::Random;
 use simulator::sheet::parse;
 use simulator::touched_coverage::TouchedCoverage;
-use simulator::write::Bytes;
 
 /// The gate's comparison has four times as many cases.
 const LEAST: u64 = 12;
-
-fn worked(name: &str) -> Bytes {
-    let folder = Path::new(env!("CARGO_MANIFEST_DIR")).join("../examples/worked");
-    fs::read(folder.join(format!("{name}.sheet"))).unwrap()
-}
 
 /// The rows that are not 0, without what stands in front of each.
 fn kinds(name: &str) -> Vec<(String, u64)> {

@@ -1,5 +1,5 @@
-//! Prints what the corpus covers, checks whole operations, drops, lost attempts and gathered blocks
-//! over it, or exports small cases.
+//! Prints what the corpus covers, checks whole operations, drops, lost attempts, gathered blocks and
+//! the ticks of exchanges over it, or exports small cases.
 //!
 //! corpus                        the default corpus
 //! corpus SEED COUNT             another one
@@ -10,6 +10,7 @@ use std::process::ExitCode;
 
 use simulator::coverage::Coverage;
 use simulator::drops::drops_counted;
+use simulator::exact_ticks::exact_ticks_hold;
 use simulator::gathered::gathered_rising;
 use simulator::generator::{case, Case, CASES, SEED};
 use simulator::lost::lost_counted;
@@ -51,7 +52,8 @@ fn cover(seed: u64, count: u64) -> ExitCode {
         let checked = whole_operations(&case.sheet, case.limit)
             .and_then(|()| drops_counted(&case.sheet, case.limit))
             .and_then(|()| lost_counted(&case.sheet, case.limit))
-            .and_then(|()| gathered_rising(&case.sheet, case.limit));
+            .and_then(|()| gathered_rising(&case.sheet, case.limit))
+            .and_then(|()| exact_ticks_hold(&case.sheet, case.limit));
         if let Err(fault) = checked {
             println!("case {index} of seed {seed}: {fault}");
             return ExitCode::FAILURE;

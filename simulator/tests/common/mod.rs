@@ -3,6 +3,9 @@
 
 mod lines;
 
+use std::fs;
+use std::path::Path;
+
 pub use lines::*;
 use simulator::write::*;
 use simulator::{run, Answer};
@@ -16,6 +19,12 @@ pub fn refusal(number: u8, place: usize) -> Answer {
 pub fn bytes(hexadecimal: &str) -> Bytes {
     let byte = |text| u8::from_str_radix(text, 16).unwrap();
     hexadecimal.split_whitespace().map(byte).collect()
+}
+
+/// A sheet of examples/worked.
+pub fn worked(name: &str) -> Bytes {
+    let folder = Path::new(env!("CARGO_MANIFEST_DIR")).join("../examples/worked");
+    fs::read(folder.join(format!("{name}.sheet"))).unwrap()
 }
 
 /// Document 01's small inputs for refusals 1 to 8, each with its number and place.
