@@ -10,7 +10,7 @@ use Rattle.model.specs.Exchange.{exchangeTick}
 use Rattle.model.specs.Machine.{Machine, run}
 use Rattle.model.specs.Start.{startMachine}
 use Rattle.model.specs.Rates.{inTick, ownBefore, ownTicks}
-use Rattle.model.specs.ExactTicks.{Tally, tally, tallyOf, exactly, tallies}
+use Rattle.model.specs.ExactTicks.{Tally, tally, tallyOf, exactTicks, tallies}
 use Rattle.model.proofs.Sheets.{sheetA, exchanging, body₁, bodyTwoWords, against, sheetU}
 use Rattle.model.proofs.Bytes.{word, task, release, end, load, pair, swap}
 
@@ -33,7 +33,7 @@ computed r =
 
 -- the ticks are those that the steps tell
 abbrev told : Row → ℕ
-told r = exactly (r .did)
+told r = exactTicks (r .did)
 
 -- Task 1 finds word 0 overlapped, and before its Install task 2 changes that word: it does every step there is.
 unfoldable pub sheetOfThree : List ℕ

@@ -33,8 +33,8 @@ abbrev pub noTally : Tally
 noTally = tally 0 0 0 0 0
 
 -- THE TICKS that it takes
-abbrev pub exactly : Tally → ℕ
-exactly c = 3 + 6 * c .tried + 5 * c .differed + c .fetched + c .marked + c .failed
+abbrev pub exactTicks : Tally → ℕ
+exactTicks c = 3 + 6 * c .tried + 5 * c .differed + c .fetched + c .marked + c .failed
 
 -- ONE STEP
 -- a mark by task p on the task of that entry's init
@@ -93,7 +93,7 @@ tallies m p a l = tallyBefore (λ u. stepTally (inTick m u) p) a (suc l)
 
 -- AN EXCHANGE of k words took t ticks and did that
 pub record TakesExactly (k : ℕ) (Yes : Type 0) (t : ℕ) (c : Tally) : Type 0 where
-  pub exact : t ≡ exactly c
+  pub exact : t ≡ exactTicks c
   -- each word is tried, or the exchange stops there, or it is not come to
   pub words : c .tried + c .differed ≤ k
   pub stops : c .differed + c .failed ≤ 1

@@ -13,6 +13,7 @@ use simulator::drops::drops_counted;
 use simulator::exact_ticks::exact_ticks_hold;
 use simulator::gathered::gathered_rising;
 use simulator::generator::{case, Case, CASES, SEED};
+use simulator::history::{run_with_history, Exchange};
 use simulator::lost::lost_counted;
 use simulator::machine::Machine;
 use simulator::observer::NoObserver;
@@ -82,7 +83,7 @@ fn line(case: &Case) -> Option<String> {
     let mut buffer = case.buffer();
     let answer = run(&case.sheet, case.limit, &mut buffer);
     Some(format!(
-        "{} {} {} {:02x} {} {} {}",
+        "{} {} {} {:02x} {} {} {} {}",
         hexadecimal(&case.sheet),
         case.limit,
         case.buffer_length,
@@ -90,7 +91,29 @@ fn line(case: &Case) -> Option<String> {
         answer.number,
         answer.place,
         hexadecimal(&buffer),
+        exchanges(case),
     ))
+}
+
+/// Its finished exchanges: task, first and last tick, ticks of its own and the five numbers of change 7.
+fn exchanges(case: &Case) -> String {
+    let Ok(sheet) = sheet::parse(&case.sheet) else { return "-".to_string() };
+    let history = run_with_history(&sheet, case.limit.min(TOP_LIMIT) as u32).1;
+    let mut found = Vec::new();
+    for operation in &history.operations {
+        let numbers = |exchange: &Exchange| {
+            let (span, tally) = (exchange.span, exchange.tally);
+            let did = [tally.tried, tally.differed, tally.fetched, tally.marked, tally.failed];
+            let ticks = [operation.task as u32, span.first, span.last?, span.own_ticks()];
+            let numbers = ticks.iter().chain(&did).map(u32::to_string);
+            Some(numbers.collect::<Vec<String>>().join(","))
+        };
+        found.extend(operation.exchanges.iter().filter_map(numbers));
+    }
+    if found.is_empty() {
+        return "-".to_string();
+    }
+    found.join(";")
 }
 
 /// A refused call does no tick.

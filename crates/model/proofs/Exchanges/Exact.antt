@@ -10,7 +10,7 @@ use Rattle.model.specs.Lists.{replace}
 use Rattle.model.specs.Word.{Word, sameWord, Memory, cellOf, statusOf}
 use Rattle.model.specs.Exchange.{Entry, Step, start, test, load, look, fetch, fail, mark, install, commit, save, clean, cleanMark}
 use Rattle.model.specs.Exchange.{Exchange, Exchanged, goes, ends, entryAt}
-use Rattle.model.specs.ExactTicks.{Tally, tally, noTally, exactly, tallyOf, TakesExactly}
+use Rattle.model.specs.ExactTicks.{Tally, tally, noTally, exactTicks, tallyOf, TakesExactly}
 use Rattle.model.proofs.Lists.{test?, replace-same, length-replace, impossible}
 use Rattle.model.proofs.Exchanges.Act.{here}
 use Rattle.model.proofs.Exchanges.Words.{same-word, other-word}
@@ -43,7 +43,7 @@ abbrev sum : Tally → ℕ
 sum c = 5 * c .tried + 5 * c .differed + c .fetched + c .marked + c .failed
 
 -- t ticks are n more than that, with i words tried of k, and at most f fetches and g marks more than one for each word done
-pub record Counted (n f g : ℕ) (t k i : ℕ) (c : Tally) : Type 0 where
+pub record Tallied (n f g : ℕ) (t k i : ℕ) (c : Tally) : Type 0 where
   pub ticks : t ≡ n + sum c
   pub tried : c .tried ≡ i
   pub words : i + c .differed ≤ k
@@ -57,7 +57,7 @@ Good c = (c .differed ≡ 0) × (c .failed ≡ 0)
 
 -- at entry i
 pub record AtEntry (n f g : ℕ) (t k i : ℕ) (c : Tally) : Type 0 where
-  pub counted : Counted n f g t k i c
+  pub counted : Tallied n f g t k i c
   pub below : i < k
   pub good : Good c
 
@@ -67,22 +67,22 @@ All k yes? c = yes? ≡ true → (c .tried ≡ k) × (c .differed ≡ 0) × (c .
 
 -- in Clean at entry j
 pub record Cleaning (n g : ℕ) (t k i j : ℕ) (yes? : Bool) (c : Tally) : Type 0 where
-  pub counted : Counted n 0 g t k i c
+  pub counted : Tallied n 0 g t k i c
   pub more : j < i
   pub all : All k yes? c
 
 -- t ticks done at that step; where Fail is next, it is counted already
 abbrev pub Exact : ℕ → ℕ → ℕ → ℕ → Tally → Step → Type 0
 Exact t k i status c start = (t ≡ 0) × (c ≡ noTally)
-Exact t k i status c test = Counted 1 0 0 t k i c × (Good c ⊎ (status ≡ 1))
+Exact t k i status c test = Tallied 1 0 0 t k i c × (Good c ⊎ (status ≡ 1))
 Exact t k i status c load = AtEntry 2 0 0 t k i c
 Exact t k i status c look = AtEntry 3 0 0 t k i c
 Exact t k i status c fetch = AtEntry 4 0 0 t k i c
 Exact t k i status c (save v) = AtEntry 4 1 0 t k i c
-Exact t k i status c fail = Counted 0 0 0 t k i c
+Exact t k i status c fail = Tallied 0 0 0 t k i c
 Exact t k i status c mark = AtEntry 5 1 0 t k i c
 Exact t k i status c install = AtEntry 5 1 1 t k i c
-Exact t k i status c commit = Counted 2 0 0 t k i c × (((i ≡ k) × Good c) ⊎ (status ≡ 1))
+Exact t k i status c commit = Tallied 2 0 0 t k i c × (((i ≡ k) × Good c) ⊎ (status ≡ 1))
 Exact t k i status c (clean j yes?) = Cleaning (3 + j) j t k i j yes? c
 Exact t k i status c (cleanMark j yes?) = Cleaning (4 + j) j t k i j yes? c
 
@@ -95,10 +95,10 @@ ExactAfter t c k p (goes n y) = Ticked t c k p n y
 ExactAfter t c k p (ends n yes?) = TakesExactly k (yes? ≡ true) t c
 
 -- AN EXCHANGE THAT HAS ENDED: its bounds follow from the equation
-takes-exactly : {n g t k i : ℕ} {c : Tally} {Yes : Type 0} → Counted n 0 g t k i c → n ≡ 3 + i → g ≤ i
+takes-exactly : {n g t k i : ℕ} {c : Tally} {Yes : Type 0} → Tallied n 0 g t k i c → n ≡ 3 + i → g ≤ i
     → (Yes → (c .tried ≡ k) × (c .differed ≡ 0) × (c .failed ≡ 0)) → TakesExactly k Yes t c
 takes-exactly {t = t} {k} {c = c} b e l all =
-    let exact : t ≡ exactly c = omega (arith, b .ticks, b .tried) in
+    let exact : t ≡ exactTicks c = omega (arith, b .ticks, b .tried) in
     let words : c .tried + c .differed ≤ k = omega (arith, b .tried, b .words) in
     let stops = b .stops in
     let fetches : c .fetched ≤ c .tried + c .differed = omega (arith, b .tried, b .fetches) in
@@ -129,8 +129,8 @@ all-on : {k : ℕ} {yes? : Bool} (c : Tally) (a m : ℕ) → All k yes? c → Al
 all-on c a m h y = let b = h y in (omega (arith, b .0), omega (arith, b .1), omega (arith, b .2))
 
 module _ {t k : ℕ} {c : Tally} where
-  on : {n f g i n′ f′ g′ : ℕ} → Counted n f g t k i c → (a m : ℕ) → suc n ≡ n′ + a + m → f + a ≤ f′ → g + m ≤ g′
-      → Counted n′ f′ g′ (suc t) k i (plus c (tally 0 0 a m 0))
+  on : {n f g i n′ f′ g′ : ℕ} → Tallied n f g t k i c → (a m : ℕ) → suc n ≡ n′ + a + m → f + a ≤ f′ → g + m ≤ g′
+      → Tallied n′ f′ g′ (suc t) k i (plus c (tally 0 0 a m 0))
   on b a m e l l′ = record {
     ticks = omega (arith, b .ticks);
     tried = omega (arith, b .tried);
@@ -146,7 +146,7 @@ module _ {t k : ℕ} {c : Tally} where
 
   -- it is done with entry i: the word is tried, or its value differs, or its install failed
   entry-done : {n g i n′ i′ : ℕ} → AtEntry n 1 g t k i c → (a d b : ℕ) → a + d ≡ 1 → d + b ≤ 1 → g ≤ a → suc n ≡ n′ + 5 + b → i′ ≡ i + a
-      → Counted n′ 0 0 (suc t) k i′ (plus c (tally a d 0 0 b))
+      → Tallied n′ 0 0 (suc t) k i′ (plus c (tally a d 0 0 b))
   entry-done h a d b one stop l e e′ =
       let w = h .counted in
       record {
@@ -204,7 +204,7 @@ module _ {t : ℕ} {c : Tally} {k p : ℕ} {m : Memory} {x : Exchange} (h : Tick
   unfolding tallyOf
   tick-exact l u (starts s) =
       let b = exact-as start s in
-      let first : Counted 1 0 0 (suc t) k 0 noTally = record {
+      let first : Tallied 1 0 0 (suc t) k 0 noTally = record {
         ticks = omega (arith, b .0);
         tried = refl;
         words = omega arith;
@@ -280,7 +280,7 @@ module _ {t : ℕ} {c : Tally} {k p : ℕ} {m : Memory} {x : Exchange} (h : Tick
       })
   tick-exact l u (decides-last s d z) =
       let b = exact-as commit s in
-      let w : Counted 3 0 0 (suc t) k (x .i) (plus c noTally) = on (b .0) 0 0 (omega arith) (omega arith) (omega arith) in
+      let w : Tallied 3 0 0 (suc t) k (x .i) (plus c noTally) = on (b .0) 0 0 (omega arith) (omega arith) (omega arith) in
       rw s (takes-exactly w (omega arith) (omega arith) (decided-all d (b .0 .tried) (b .1)))
   tick-exact l u (cleans j yes? q ne) =
       let b = cleaned-exact u q in

@@ -13,7 +13,7 @@ use Rattle.model.specs.Exchange.{Exchange, exchangeOf, goes, ends, excha
 use Rattle.model.specs.ExactTicks.{Tally, noTally, tallyOf, TakesExactly}
 use Rattle.model.proofs.Lists.{impossible}
 use Rattle.model.proofs.Exchanges.Outcome.{outcome}
-use Rattle.model.proofs.Exchanges.Exact.{Counted, Good, AtEntry, Cleaning, Exact, Ticked, ExactAfter, tick-exact}
+use Rattle.model.proofs.Exchanges.Exact.{Tallied, Good, AtEntry, Cleaning, Exact, Ticked, ExactAfter, tick-exact}
 pub use Rattle.model.proofs.Exchanges.Exact.{MarksOther, plus}
 
 -- READINGS
@@ -122,7 +122,7 @@ exchange-ends {p} {es} {t} {c} {m} {x} r = less (x .step) (ran-exact r .exact)
     k : ℕ
     k = length es
 
-    between : {n : ℕ} → n ≤ 2 → Counted n 0 0 t k (x .i) c → t < 9 * k + 4
+    between : {n : ℕ} → n ≤ 2 → Tallied n 0 0 t k (x .i) c → t < 9 * k + 4
     between l b = omega (arith, b .ticks, b .tried, b .words, b .stops, b .fetches, b .marks)
 
     entry : {n f g : ℕ} → n ≤ 5 → f ≤ 1 → g ≤ 1 → AtEntry n f g t k (x .i) c → t < 9 * k + 4
