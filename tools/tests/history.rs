@@ -5,13 +5,13 @@ mod operations;
 #[path = "common/tables.rs"]
 mod tables;
 
-use operations::{rows_with, shown, ALL, ALONE};
+use operations::{rows_with, shown, ALL, ALONE, EXCHANGE};
 use simulator::observer::NoObserver;
 use simulator::run_observed;
 use tables::{csv_rows, json, Json};
 use tools::encode::encode;
 use tools::examples::folder;
-use tools::history;
+use tools::history::{self, COLUMNS};
 use tools::names::Names;
 use tools::recording::subject::Subject;
 use tools::source::Source;
@@ -31,13 +31,15 @@ fn rows(name: &str, limit: u32) -> Vec<Vec<String>> {
 }
 
 /// The ticks are those that P5's text names. t1 is put in the order by its Load of w1, which differs: 22, before t0's 30.
+/// t0's exchange tries w0. t1's fetches w0, Marks t0, tries w0 and stops at w1.
 #[test]
 fn p5_row_by_row() {
     let mut names = names(&["t1=upper"]);
     names.set(Subject::Word(1), "valve, left");
     let found = rows_with(&example("worked/p5"), ALL, &names);
-    let lower = "0|0||SWAP|3|31|9|w0: 12 -> 5|0|no||30|2|30";
-    let upper = "1|1|upper|SWAP|13|28|16|w0: 12 -> 7; w1 valve, left: 0 -> 7|0|no||27|1|22";
+    let lower = "0|0||SWAP|3|31|9|w0: 12 -> 5|0|no||30|2|30|9|1|0|0|0|0";
+    let upper =
+        "1|1|upper|SWAP|13|28|16|w0: 12 -> 7; w1 valve, left: 0 -> 7|0|no||27|1|22|16|1|1|1|1|0";
     let found: Vec<String> = found.iter().map(|row| row.join("|")).collect();
     assert_eq!(found, [lower, upper]);
 }
@@ -138,13 +140,14 @@ fn what_the_limit_cuts_off() {
     assert_eq!(rows("cold-room", 0), Vec::<Vec<String>>::new());
 }
 
-/// P10: 20 ticks. It stands in no order.
+/// P10: 20 ticks. It stands in no order, and comes to no exchange.
 #[test]
 fn a_spent_transaction() {
     let found = rows("worked/p10", ALL);
     let columns =
         ["first_tick", "last_tick", "own_ticks", "outcome", "commit_tick", "order", "order_tick"];
     assert_eq!(shown(&found[0], &columns), "0|19|20|spent|||");
+    assert_eq!(shown(&found[0], &EXCHANGE), "|||||");
 }
 
 #[test]
@@ -200,6 +203,16 @@ fn json_of_reads_and_swaps() {
     assert!(empty.field("operations").list().is_empty());
 }
 
+/// In the order of the table, from left to right.
+#[test]
+fn the_manual_has_every_column() {
+    let manual = include_str!("../../docs/PROGRAM.md");
+    let (_, table) = manual.split_once("\n| Column | |\n|---|---|\n").unwrap();
+    let rows = table.lines().take_while(|line| line.starts_with('|'));
+    let named = rows.flat_map(|row| row.split('|').nth(1).unwrap().split(','));
+    assert_eq!(named.map(|name| name.trim_matches([' ', '`'])).collect::<Vec<_>>(), COLUMNS);
+}
+
 #[test]
 fn every_line_says_where_it_comes_from() {
     let source = Source::Compared { version: "0.7.0".to_string() };
@@ -227,6 +240,6 @@ fn what_has_no_history_is_refused() {
 fn a_transaction_that_touches_nothing() {
     let sheet = encode("TASK\nBEGIN\nLOAD r0 5\nCOMMIT\nRELEASE 0 t0\nEND").unwrap().bytes;
     let found = rows_with(&sheet, ALL, &Names::default());
-    let row = "0|0||TRANSACTION|0|2|3|registers 0 0 0 0 0 0 0 0; LOAD r0 5||committed||2|1|2";
+    let row = "0|0||TRANSACTION|0|2|3|registers 0 0 0 0 0 0 0 0; LOAD r0 5||committed||2|1|2||||||";
     assert_eq!(found[0].join("|"), row);
 }

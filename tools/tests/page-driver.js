@@ -100,6 +100,7 @@ function shown() {
     sentence: texts("#happens .sentence").join(),
     command: texts("#happens .command").join(),
     events: texts("#happens li"),
+    exchange: texts("#exchange > *"),
     values: Object.fromEntries(values.map((one) => [one.dataset.place, Number(one.textContent)])),
     changed: texts("#values .changed").map(Number),
     counts: Object.fromEntries(counts.map((one) => [one.id.replace("-count", ""), one.textContent])),

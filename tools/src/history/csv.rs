@@ -1,5 +1,6 @@
 //! The table of operations as CSV.
 
+use simulator::history::Exchange;
 use simulator::sheet::Command;
 
 use super::rows::{cause, Arguments, Row, Table};
@@ -7,7 +8,7 @@ use crate::recording::subject::Subject;
 use crate::source::Source;
 
 /// The columns' names, from left to right.
-pub const COLUMNS: [&str; 15] = [
+pub const COLUMNS: [&str; 21] = [
     "number",
     "task",
     "task_name",
@@ -22,10 +23,16 @@ pub const COLUMNS: [&str; 15] = [
     "commit_tick",
     "order",
     "order_tick",
+    "exchange_ticks",
+    "tried",
+    "differed",
+    "fetched",
+    "marked",
+    "failed",
     "source",
 ];
 
-/// What stands between several arguments, answers or attempts in one field.
+/// What stands between several arguments, answers, attempts or exchanges in one field.
 const BETWEEN: &str = "; ";
 
 pub fn write(table: &Table, source: &Source) -> String {
@@ -36,8 +43,11 @@ pub fn write(table: &Table, source: &Source) -> String {
     text
 }
 
-fn fields(table: &Table, number: usize, row: &Row, source: &Source) -> [String; 15] {
+fn fields(table: &Table, number: usize, row: &Row, source: &Source) -> [String; 21] {
     let name = table.names.name(Subject::Task(row.task)).unwrap_or_default();
+    let exchanges = |number: fn(&Exchange) -> u32| {
+        joined(row.exchanges.iter().map(|exchange| number(exchange).to_string()))
+    };
     [
         number.to_string(),
         row.task.to_string(),
@@ -53,6 +63,12 @@ fn fields(table: &Table, number: usize, row: &Row, source: &Source) -> [String; 
         optional(row.commit_tick),
         optional(row.order.map(|place| place.number)),
         optional(row.order.map(|place| place.tick)),
+        exchanges(|exchange| exchange.span.own_ticks()),
+        exchanges(|exchange| exchange.tally.tried),
+        exchanges(|exchange| exchange.tally.differed),
+        exchanges(|exchange| exchange.tally.fetched),
+        exchanges(|exchange| exchange.tally.marked),
+        exchanges(|exchange| exchange.tally.failed),
         short(source),
     ]
 }
@@ -105,7 +121,7 @@ fn written(table: &Table, command: &Command) -> String {
     }
 }
 
-fn line(fields: [String; 15]) -> String {
+fn line(fields: [String; 21]) -> String {
     fields.map(|field| quoted(&field)).join(",") + "\n"
 }
 

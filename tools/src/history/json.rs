@@ -2,6 +2,7 @@
 
 use std::fmt::{self, Display, Formatter, Write};
 
+use simulator::history::Exchange;
 use simulator::sheet::Command;
 
 use super::rows::{cause, Arguments, Row, Table};
@@ -55,6 +56,25 @@ fn operation(table: &Table, index: usize, row: &Row) -> Json {
         ("commit_tick", optional(row.commit_tick)),
         ("order", optional(row.order.map(|place| place.number as u32))),
         ("order_tick", optional(row.order.map(|place| place.tick))),
+        ("exchanges", Json::List(row.exchanges.iter().map(exchange).collect())),
+    ])
+}
+
+/// Its answer is there once its Commit was done, even if the limit cut it off later.
+fn exchange(exchange: &Exchange) -> Json {
+    let Exchange { pairs, span, committed, tally, .. } = exchange;
+    let answer = committed.map(|yes| text(if yes { "yes" } else { "no" }));
+    Json::Object(vec![
+        ("first_tick", number(span.first)),
+        ("last_tick", optional(span.last)),
+        ("own_ticks", number(span.own_ticks())),
+        ("words", number(pairs.len() as u32)),
+        ("answer", answer.unwrap_or(Json::Null)),
+        ("tried", number(tally.tried)),
+        ("differed", number(tally.differed)),
+        ("fetched", number(tally.fetched)),
+        ("marked", number(tally.marked)),
+        ("failed", number(tally.failed)),
     ])
 }
 

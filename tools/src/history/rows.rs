@@ -1,6 +1,6 @@
 //! A row for each operation of a run, in the order in which they began.
 
-use simulator::history::{History, Kind, LostAttempt, Operation};
+use simulator::history::{Exchange, History, Kind, LostAttempt, Operation};
 use simulator::machine::{Machine, Pair};
 use simulator::observer::Cause;
 use simulator::report::render;
@@ -35,6 +35,8 @@ pub struct Row {
     pub commit_tick: Option<u32>,
     /// Where it stands, and the tick that puts it there.
     pub order: Option<Place>,
+    /// A SWAP has one, a transaction one for each COMMIT it came to.
+    pub exchanges: Vec<Exchange>,
 }
 
 /// What the plain machine is fed.
@@ -120,6 +122,7 @@ impl Run<'_> {
             lost,
             commit_tick: self.ticks.commit(task, attempt, last),
             order: None,
+            exchanges: operation.exchanges.clone(),
         }
     }
 

@@ -1,5 +1,6 @@
-//! The data of the page: bytes for each tick, and lists of releases and changes. `script/run.js` reads them.
+//! The data of the page: bytes for each tick, and lists of releases, changes and exchanges. `script/run.js` reads them.
 
+use simulator::history::{Exchange, History};
 use simulator::observer::{Cause, Fate};
 use simulator::sheet::{Command, Sheet, BLOCK_VALUES, REGISTERS};
 
@@ -18,6 +19,9 @@ pub const ANSWERS_YES: u8 = 1 << 4;
 pub const ANSWERS_NO: u8 = 1 << 5;
 pub const LOST_STALE: u8 = 1 << 6;
 pub const LOST_REJECTED: u8 = 1 << 7;
+
+/// The last tick of an exchange that the limit cut off: above every tick.
+pub const NOT_ENDED: u16 = u16::MAX;
 
 /// The numbers of one block: its version, then its values.
 const BLOCK_NUMBERS: usize = 1 + BLOCK_VALUES;
@@ -49,7 +53,7 @@ impl Places {
 }
 
 /// The whole data as JSON.
-pub fn written(sheet: &Sheet, recording: &Recording, names: &Names) -> String {
+pub fn written(sheet: &Sheet, recording: &Recording, history: &History, names: &Names) -> String {
     let named = |subjects: Vec<Subject>| strings(subjects.into_iter().map(|one| names.of(one)));
     let places = Places::of(sheet);
     object(&[
@@ -67,6 +71,7 @@ pub fn written(sheet: &Sheet, recording: &Recording, names: &Names) -> String {
         ("each", each_tick(recording)),
         ("releases", releases(recording)),
         ("changes", changes(&places, recording)),
+        ("exchanges", exchanges(history)),
     ])
 }
 
@@ -198,6 +203,32 @@ fn changes(places: &Places, recording: &Recording) -> String {
         }
     }
     object(&[("tick", sixteen_bits(ticks)), ("place", bytes(&changed)), ("value", bytes(&values))])
+}
+
+/// Every exchange in the order in which they began, with a byte for each of its numbers: it takes at most 76 ticks of its own.
+fn exchanges(history: &History) -> String {
+    let operations = history.operations.iter();
+    let mut all: Vec<(usize, &Exchange)> = operations
+        .flat_map(|operation| operation.exchanges.iter().map(|exchange| (operation.task, exchange)))
+        .collect();
+    all.sort_by_key(|(_, exchange)| exchange.span.first);
+    let ticks = |tick: fn(&Exchange) -> u16| sixteen_bits(all.iter().map(|one| tick(one.1)));
+    let each = |number: fn(&Exchange) -> u32| {
+        bytes(&all.iter().map(|one| number(one.1) as u8).collect::<Vec<u8>>())
+    };
+    object(&[
+        ("task", bytes(&all.iter().map(|one| one.0 as u8).collect::<Vec<u8>>())),
+        ("first", ticks(|exchange| exchange.span.first as u16)),
+        ("last", ticks(|exchange| exchange.span.last.map_or(NOT_ENDED, |last| last as u16))),
+        ("own", each(|exchange| exchange.span.own_ticks())),
+        ("words", each(|exchange| exchange.pairs.len() as u32)),
+        ("answer", each(|exchange| exchange.committed.map_or(0, |yes| if yes { 2 } else { 1 }))),
+        ("tried", each(|exchange| exchange.tally.tried)),
+        ("differed", each(|exchange| exchange.tally.differed)),
+        ("fetched", each(|exchange| exchange.tally.fetched)),
+        ("marked", each(|exchange| exchange.tally.marked)),
+        ("failed", each(|exchange| exchange.tally.failed)),
+    ])
 }
 
 fn bytes(bytes: &[u8]) -> String {

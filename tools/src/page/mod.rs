@@ -5,6 +5,7 @@ pub mod data;
 mod figures;
 mod template;
 
+use simulator::history::run_with_history;
 use simulator::sheet::{parse, Fault};
 use simulator::TOP_LIMIT;
 
@@ -61,7 +62,8 @@ pub fn draw(sheet: &[u8], options: &Options) -> Result<String, Fault> {
     }
     let recording = Recording::new(&sheet, options.limit, 0, options.limit);
     let script = SCRIPT.concat();
-    let run = data::written(&sheet, &recording, &options.names);
+    let (_, history) = run_with_history(&sheet, options.limit);
+    let run = data::written(&sheet, &recording, &history, &options.names);
     Ok(template::filled(
         HTML,
         &[

@@ -10,6 +10,10 @@ use crate::tables::csv_rows;
 pub const ALL: u32 = TOP_LIMIT as u32;
 pub const ALONE: Source = Source::SecondSimulatorAlone;
 
+/// What is told of the exchanges of a row.
+pub const EXCHANGE: [&str; 6] =
+    ["exchange_ticks", "tried", "differed", "fetched", "marked", "failed"];
+
 /// The rows below the columns' names, without the source, which stands last.
 pub fn rows_with(sheet: &[u8], limit: u32, names: &Names) -> Vec<Vec<String>> {
     let mut rows = csv_rows(&history::csv(sheet, limit, names, &ALONE).unwrap());

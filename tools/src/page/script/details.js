@@ -3,7 +3,13 @@
 const FATES = ["is released and starts a job", "is released; the release waits: the job is unfinished",
   "starts the job of a release that waited", "is released; the release is dropped: four wait already"];
 
+// The ticks that every exchange has, and what it counts: how many ticks each of them takes, and what it is.
+const EXCHANGE_TICKS = 3;
+const COUNTED = [["tried", 6, "words that it tried to install"], ["differed", 5, "1 if it stopped at a differing value"],
+  ["fetched", 1, "its fetches of a saved value"], ["marked", 1, "its marks on other tasks"], ["failed", 1, "1 if an install failed"]];
+
 const happens = document.getElementById("happens");
+const exchange = document.getElementById("exchange");
 const values = document.getElementById("values");
 let told;
 
@@ -26,6 +32,7 @@ function tellTick() {
   document.getElementById("tick-title").textContent =
     tick === null ? "No tick" : `Tick ${tick}${view.pinned === null ? "" : ", pinned"}`;
   happens.replaceChildren(...(tick === null ? [nothingTold()] : whatHappens(tick)));
+  exchange.replaceChildren(...(tick === null ? [] : exchangeInWords(tick)));
   values.replaceChildren(...whatHolds(tick));
 }
 
@@ -88,6 +95,44 @@ function changesInWords(tick) {
   if (own.length === 0 && !isIdle(tick)) own.push("no current value and no register changes");
   return own;
 }
+
+// The exchange that a tick is part of: its ticks, its answer, and why it took as many ticks.
+function exchangeInWords(tick) {
+  const found = exchangeOf(tick);
+  if (found === null) return [];
+  const ended = found.last !== NOT_ENDED, answer = ANSWERS[found.answer];
+  const words = counted(found.words, run.commands[run.command[tick]] === "COMMIT" ? "bank word" : "word");
+  const ticks = `from tick ${found.first}${ended ? ` to ${found.last}` : ""}`;
+  const outcome = ended ? answer : `${answer === null ? "" : `${answer}, then `}cut off by the limit`;
+  return [
+    element("h3", "", `Exchange of ${run.tasks[found.task]} ${ticks}, ${words}: ${outcome}`),
+    element("p", "", ...(ended ? sumInWords(found) : countsInWords(found))),
+  ];
+}
+
+// An exchange that ended took exactly this sum.
+function sumInWords(found) {
+  const sum = COUNTED.reduce((ticks, [name, cost]) => ticks + cost * found[name], EXCHANGE_TICKS);
+  const start = [`${sum === found.own ? "=" : "≠"} ${EXCHANGE_TICKS}`, "Start, the last Test and Commit"];
+  const parts = COUNTED.map(([name, cost, what]) => [`+ ${cost === 1 ? "" : `${cost} × `}${found[name]} ${name}`, what]);
+  return [`${counted(found.own, "tick")} of its own`, ...[start, ...parts].flatMap(partInWords)];
+}
+
+// One that the limit cut off has come so far.
+function countsInWords(found) {
+  const comma = (index) => (index < COUNTED.length - 1 ? "," : "");
+  const parts = COUNTED.map(([name, , what], index) => [`${found[name]} ${name}${comma(index)}`, what]);
+  return [`${counted(found.own, "tick")} of its own so far:`, ...parts.flatMap(partInWords)];
+}
+
+// Kept in one line; its title says what it counts.
+function partInWords([text, what]) {
+  const part = element("span", "part", text);
+  part.title = what;
+  return [" ", part];
+}
+
+function counted(number, thing) { return `${number} ${thing}${number === 1 ? "" : "s"}`; }
 
 // The values after a tick; without a tick those at the start.
 function whatHolds(tick) {

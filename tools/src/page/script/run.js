@@ -18,6 +18,10 @@ const WAITS = 1;
 const STARTS_AFTER_WAITING = 2;
 const DROPPED = 3;
 
+// The last tick of an exchange that the limit cut off, above every tick; and what Commit has answered.
+const NOT_ENDED = 65535;
+const ANSWERS = [null, "no", "yes"];
+
 const run = readRun(JSON.parse(document.getElementById("run").textContent));
 
 function readRun(data) {
@@ -40,13 +44,22 @@ function readRun(data) {
       place: bytesOf(data.changes.place),
       value: numbersOf(data.changes.value, 4, Uint32Array),
     },
+    exchanges: readExchanges(data.exchanges),
   };
   read.firstBlockPlace = data.words.length;
   read.firstRegisterPlace = data.words.length + data.blocks.length * BLOCK_NUMBERS;
   read.places = read.firstRegisterPlace + data.tasks.length * REGISTERS;
-  read.changesOfPlace = changesByPlace(read);
+  read.changesOfPlace = grouped(read.changes.place, read.places);
+  read.exchangesOfTask = grouped(read.exchanges.task, data.tasks.length);
   read.series = changingSeries(read);
   return read;
+}
+
+// Two bytes for the first and the last tick of an exchange, one for each of the other numbers.
+function readExchanges(lists) {
+  const isTick = (name) => name === "first" || name === "last";
+  const read = ([name, list]) => [name, isTick(name) ? numbersOf(list, 2, Uint16Array) : bytesOf(list)];
+  return Object.fromEntries(Object.entries(lists).map(read));
 }
 
 function bytesOf(base64) {
@@ -68,14 +81,13 @@ function numbersOf(base64, width, Kind) {
   return numbers;
 }
 
-// For each place, which of the changes are its own, in the order of ticks.
-function changesByPlace(read) {
-  const place = read.changes.place;
-  const counts = new Uint32Array(read.places);
-  for (const one of place) counts[one]++;
+// For each place which of the changes are its own, or for each task which of the exchanges, in the order of ticks.
+function grouped(owners, number) {
+  const counts = new Uint32Array(number);
+  for (const one of owners) counts[one]++;
   const lists = Array.from(counts, (count) => new Uint32Array(count));
   counts.fill(0);
-  place.forEach((one, index) => { lists[one][counts[one]++] = index; });
+  owners.forEach((one, index) => { lists[one][counts[one]++] = index; });
   return lists;
 }
 
@@ -106,16 +118,30 @@ function countBelow(numbers, bound) {
   return low;
 }
 
-// The number at a place before a tick: that of its last earlier change, or the one it started with.
-function valueBefore(place, tick) {
-  const own = run.changesOfPlace[place], ticks = run.changes.tick;
+// Of those listed, in the order of their ticks, the last one before a tick, or nothing.
+function lastBefore(own, ticks, tick) {
   let low = 0, high = own.length;
   while (low < high) {
     const middle = (low + high) >> 1;
     if (ticks[own[middle]] < tick) low = middle + 1; else high = middle;
   }
-  if (low > 0) return run.changes.value[own[low - 1]];
+  return own[low - 1];
+}
+
+// The number at a place before a tick: that of its last earlier change, or the one it started with.
+function valueBefore(place, tick) {
+  const change = lastBefore(run.changesOfPlace[place], run.changes.tick, tick);
+  if (change !== undefined) return run.changes.value[change];
   return place < run.firstRegisterPlace ? run.start[place] : 0;
+}
+
+// The exchange that a tick is part of: the last one that its task has begun, unless that has ended. Until then a task does
+// nothing else.
+function exchangeOf(tick) {
+  if (isIdle(tick)) return null;
+  const found = lastBefore(run.exchangesOfTask[taskOf(tick)], run.exchanges.first, tick + 1);
+  if (found === undefined || tick > run.exchanges.last[found]) return null;
+  return Object.fromEntries(Object.entries(run.exchanges).map(([name, list]) => [name, list[found]]));
 }
 
 // The changes of one tick: place, old and new.
