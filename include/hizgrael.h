@@ -22,7 +22,7 @@
 #include <stdint.h>
 
 /* The version. It stands here and nowhere else: the Makefile, the pkg-config file, the Rust wrapper and the program read this line. */
-#define HIZGRAEL_VERSION "0.7.0"
+#define HIZGRAEL_VERSION "0.8.0"
 
 #ifdef __cplusplus
 extern "C" {

@@ -16,7 +16,8 @@
 --   Grounded  3. what a reading gives was the current value at its Load: `reading-gives`; the grounds are kept: `exchange-past`, `start-past`,
 --             `reading-past`, `free-past`; a no has its grounds: `no-has-grounds`
 --   Rates     a reading ends in its 2nd or 3rd tick, an exchange in exactly the ticks that its steps tell, of k entries by its (9k + 4)th:
---             `reading-rate`, `reading-ends`, `exchange-exact`, `exchange-ends`; Marks: its marks are on other tasks
+--             `reading-rate`, `reading-ends`, `exchange-exact`, `exchange-ends`; Exact has its walk over the outcomes, Marks: its marks are on other
+--             tasks
 -- Ground asks a History for what was seen and hit and how that passes a tick (Passes, SeesNow); it does not say how one is kept.
 --
 -- THE MACHINE: Demand3/Acts walks over all statements, by act before and after, and Demand3/Cells draws the conclusions,
