@@ -132,17 +132,17 @@ impl Counted {
         Counted { first: tick, last: None, task, own_ticks: 0, tally: Tally::default() }
     }
 
-    /// A tick of its own. Of the two Fails, the one after an install goes on to the next word.
+    /// A tick of its own. A Save or an Install shows by its next step that it has found something else.
     fn take_tick(&mut self, before: &Standing, after: &Standing) -> Result<(), String> {
         self.own_ticks += 1;
         let tally = &mut self.tally;
         match before.step {
-            Step::Install => tally.tried += 1,
             Step::Fetch => tally.fetched += 1,
-            Step::FailAfterSave | Step::FailAfterInstall if after.position > before.position => {
-                tally.failed += 1;
+            Step::Save => tally.differed += u32::from(after.step == Step::FailAfterSave),
+            Step::Install => {
+                tally.tried += 1;
+                tally.failed += u32::from(after.step == Step::FailAfterInstall);
             }
-            Step::FailAfterSave | Step::FailAfterInstall => tally.differed += 1,
             _ => tally.marked += u32::from(before.to_mark.is_some()),
         }
         // At Commit, i is the number of words tried.

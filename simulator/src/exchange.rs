@@ -83,6 +83,7 @@ impl Machine<'_> {
         let pair = job.pairs[position];
         self.save[task][position] = job.exchange.found;
         let next = if job.exchange.found != pair.old {
+            observer.event(self.tick, task, Event::ExchangeDiffers);
             Step::FailAfterSave
         } else if job.exchange.overlapped[position] && pair.changes() {
             Step::Mark
@@ -95,7 +96,6 @@ impl Machine<'_> {
     /// The word differs from its old value: it is not installed, and Clean does not visit it.
     pub fn fail_after_save<O: Observer>(&mut self, task: usize, observer: &mut O) {
         observer.statement(self.tick, task, Statement::FailAfterSave);
-        observer.event(self.tick, task, Event::ExchangeDiffers);
         self.status[task] = FAILED;
         self.jobs[task].step = Step::Test;
     }

@@ -60,6 +60,7 @@ pub enum Event<'a> {
         pairs: &'a [Pair],
     },
     ExchangeLoads,
+    /// Save has found another value than old: Fail comes next.
     ExchangeDiffers,
     /// The task whose status an exchange's Mark sets to 1, before Install or in Clean.
     Marks {

@@ -100,15 +100,22 @@ fn two_marks_for_one_word_and_a_failed_install() {
     assert_rows(&three_rivals(), &expected);
 }
 
-/// Each number rises in the tick of its statement: Fetch 30, Mark 32, Install 33, Fail 34, Mark 38.
+/// The exchange that began as this one, in the run with this limit.
+fn cut_off(sheet: &[u8], limit: u64, number: usize) -> Row {
+    assert_eq!(exact_ticks_hold(sheet, limit), Ok(()));
+    rows(sheet, limit)[number]
+}
+
+/// Each number rises in the tick of the statement that finds it: Fetch 30, Mark 32, Install 33, tried and
+/// failed, Mark 38. Fail 34 counts nothing.
 #[test]
 fn an_exchange_cut_off_keeps_what_it_counted() {
-    let second = |limit| rows(&three_rivals(), limit)[1];
+    let second = |limit| cut_off(&three_rivals(), limit, 1);
     assert_eq!(second(30), (1, 12, None, 4, [0, 0, 0, 0, 0]));
     assert_eq!(second(31), (1, 12, None, 5, [0, 0, 1, 0, 0]));
     assert_eq!(second(32), (1, 12, None, 6, [0, 0, 1, 0, 0]));
     assert_eq!(second(33), (1, 12, None, 7, [0, 0, 1, 1, 0]));
-    assert_eq!(second(34), (1, 12, None, 8, [1, 0, 1, 1, 0]));
+    assert_eq!(second(34), (1, 12, None, 8, [1, 0, 1, 1, 1]));
     assert_eq!(second(35), (1, 12, None, 9, [1, 0, 1, 1, 1]));
     assert_eq!(second(38), (1, 12, None, 12, [1, 0, 1, 1, 1]));
     assert_eq!(second(39), (1, 12, Some(38), 13, [1, 0, 1, 2, 1]));
@@ -146,8 +153,13 @@ fn a_mark_in_clean_only() {
 #[test]
 fn a_fetched_value_that_differs() {
     let tasks = sheet(&[exchanges_12_for(5), task(), load(1, 99), pair(0, 1, 2), swap(0)]);
+    let sheet = sheet(&[word(12), tasks, release(0, 0), release(9, 1), end()]);
     let expected = [(0, 3, 22, 9, [1, 0, 0, 0, 0]), (1, 11, 19, 9, [0, 1, 1, 0, 0])];
-    assert_rows(&sheet(&[word(12), tasks, release(0, 0), release(9, 1), end()]), &expected);
+    assert_rows(&sheet, &expected);
+    // Cut off before Save, between Save and Fail, after Fail.
+    assert_eq!(cut_off(&sheet, 16, 1), (1, 11, None, 5, [0, 0, 1, 0, 0]));
+    assert_eq!(cut_off(&sheet, 17, 1), (1, 11, None, 6, [0, 1, 1, 0, 0]));
+    assert_eq!(cut_off(&sheet, 18, 1), (1, 11, None, 7, [0, 1, 1, 0, 0]));
 }
 
 /// t0 exchanges 12 for 5 in words 1 and 0, and t1 in word 0 comes at this tick.
@@ -164,6 +176,10 @@ fn two_words_disturbed_at(tick: u16) -> Bytes {
 fn the_second_install_fails() {
     let expected = [(0, 4, 31, 16, [2, 0, 0, 0, 1]), (1, 17, 25, 9, [1, 0, 0, 0, 0])];
     assert_rows(&two_words_disturbed_at(14), &expected);
+    // Cut off before Install, between Install and Fail, after Fail.
+    assert_eq!(cut_off(&two_words_disturbed_at(14), 26, 0), (0, 4, None, 10, [1, 0, 0, 0, 0]));
+    assert_eq!(cut_off(&two_words_disturbed_at(14), 27, 0), (0, 4, None, 11, [2, 0, 0, 0, 1]));
+    assert_eq!(cut_off(&two_words_disturbed_at(14), 28, 0), (0, 4, None, 12, [2, 0, 0, 0, 1]));
 }
 
 /// t1 comes before t0's second Load, which then finds 7. Ticks: t0 4 to 10, as above. t1 11 to 13, 14 to 22.
@@ -172,6 +188,10 @@ fn the_second_install_fails() {
 fn the_second_word_differs() {
     let expected = [(0, 4, 29, 14, [1, 1, 0, 0, 0]), (1, 14, 22, 9, [1, 0, 0, 0, 0])];
     assert_rows(&two_words_disturbed_at(11), &expected);
+    // Cut off before Save, between Save and Fail, after Fail.
+    assert_eq!(cut_off(&two_words_disturbed_at(11), 25, 0), (0, 4, None, 9, [1, 0, 0, 0, 0]));
+    assert_eq!(cut_off(&two_words_disturbed_at(11), 26, 0), (0, 4, None, 10, [1, 1, 0, 0, 0]));
+    assert_eq!(cut_off(&two_words_disturbed_at(11), 27, 0), (0, 4, None, 11, [1, 1, 0, 0, 0]));
 }
 
 /// The rule that an exchange of so many words with these numbers breaks, if any.

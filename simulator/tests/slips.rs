@@ -242,10 +242,10 @@ slips! {
         "self.answer(task, u32::from(answer));"
             => "self.answer(task, u32::from(answer)); self.counts[task].lost += u32::from(!answer);";
     fail_goes_to_commit_without_a_test: "exchange.rs",
-        "Event::ExchangeDiffers);
+        "Statement::FailAfterSave);
         self.status[task] = FAILED;
         self.jobs[task].step = Step::Test;"
-            => "Event::ExchangeDiffers);
+            => "Statement::FailAfterSave);
         self.status[task] = FAILED;
         self.jobs[task].step = Step::Commit;";
     clean_leaves_out_the_word_whose_install_failed: "exchange.rs",
@@ -255,9 +255,19 @@ slips! {
             => "Statement::FailAfterInstall);
         self.status[task] = FAILED;";
     differing_value_counted_as_a_failed_install: "tally.rs",
-        "Statement::FailAfterSave => self.differed += 1" => "Statement::FailAfterSave => self.failed += 1";
+        "Event::ExchangeDiffers => self.differed += 1" => "Event::ExchangeDiffers => self.failed += 1";
     failed_install_not_counted_as_tried: "tally.rs",
-        "Statement::InstallDone | Statement::InstallNotDone" => "Statement::InstallDone";
+        "self.tried += 1;
+                self.failed += 1;" => "self.failed += 1;";
+    // These two show where the limit cuts an exchange off just before its Fail.
+    differing_value_seen_in_the_fail: "exact_ticks.rs",
+        "Step::Save => tally.differed += u32::from(after.step == Step::FailAfterSave),"
+            => "Step::FailAfterSave => tally.differed += 1,";
+    failed_install_counted_in_the_fail: "tally.rs",
+        "self.failed += 1;
+            }"
+            => "}
+            Statement::FailAfterInstall => self.failed += 1,";
     fetch_not_counted: "tally.rs",
         "Statement::ExchangeFetch => self.fetched += 1," => "";
     // The sum is the same: the state shows a mark.

@@ -34,6 +34,11 @@ fn the_worked_swaps() {
     // t1 finds 5, tries nothing and Fails: Start, Test, Load, Look, Save, Fail, Test, Commit.
     let p4 = ["0|3|22|9|1|0|0|0|0", "1|14|21|8|0|1|0|0|0"];
     assert_eq!(exchanges(&example("worked/p4"), ALL), p4);
+    // Cut off before that Save in tick 18, after it and after the Fail: differed is counted in the Save.
+    let cut_off = |limit| exchanges(&example("worked/p4"), limit)[1].clone();
+    assert_eq!(cut_off(18), "1|14||4|0|0|0|0|0");
+    assert_eq!(cut_off(19), "1|14||5|0|1|0|0|0");
+    assert_eq!(cut_off(20), "1|14||6|0|1|0|0|0");
     // A READ has no exchange.
     assert_eq!(exchanges(&example("worked/p7-at-9"), ALL), ["0|3|14|9|1|0|0|0|0", "1|9|11||||||"]);
 }
@@ -45,8 +50,9 @@ fn an_install_that_fails() {
     let text = String::from_utf8(std::fs::read(folder().join("worked/p3.txt")).unwrap()).unwrap();
     let sheet = encode(&text.replace("RELEASE 9 t1", "RELEASE 8 t1")).unwrap().bytes;
     assert_eq!(exchanges(&sheet, ALL), ["0|3|24|10|1|0|0|0|1", "1|11|19|9|1|0|0|0|0"]);
-    // Cut off after the Install, before the Fail.
-    assert_eq!(exchanges(&sheet, 21), ["0|3||6|1|0|0|0|0", "1|11|19|9|1|0|0|0|0"]);
+    // Cut off before the Install, after it and after the Fail: tried and failed are counted in the Install.
+    assert_eq!(exchanges(&sheet, 20)[0], "0|3||5|0|0|0|0|0");
+    assert_eq!(exchanges(&sheet, 21), ["0|3||6|1|0|0|0|1", "1|11|19|9|1|0|0|0|0"]);
     assert_eq!(exchanges(&sheet, 22)[0], "0|3||7|1|0|0|0|1");
 }
 

@@ -10,7 +10,8 @@ use packed::{bytes, member, numbers};
 use simulator::contention::Style;
 use simulator::generator::{case, valid_sheet, SEED};
 use simulator::history::Tally;
-use simulator::observer::Statement;
+use simulator::machine::{Machine, Step};
+use simulator::observer::{NoObserver, Statement};
 use simulator::random::Random;
 use simulator::sheet::parse;
 use simulator::TOP_LIMIT;
@@ -67,7 +68,8 @@ fn place_of(tick: u32, task: usize, exchanges: &[Exchange]) -> Option<usize> {
 /// those of its statements. Returns how many exchanges there are.
 fn compare(sheet: &[u8], limit: u32) -> usize {
     let page = draw(sheet, &Options { limit, ..Options::default() }).unwrap();
-    let recording = Recording::new(&parse(sheet).unwrap(), limit, 0, limit);
+    let sheet = parse(sheet).unwrap();
+    let recording = Recording::new(&sheet, limit, 0, limit);
     let read = exchanges(&page);
     assert!(read.windows(2).all(|two| two[0].first < two[1].first));
     let none = |one: &Exchange| Exchange { own: 0, answer: None, tally: Tally::default(), ..*one };
@@ -84,17 +86,26 @@ fn compare(sheet: &[u8], limit: u32) -> usize {
         one.answer = done.commit.or(one.answer);
         count(&mut one.tally, done.statement);
     }
+    // A Save that found another value than old, with the limit before its Fail.
+    let mut machine = Machine::new(&sheet);
+    machine.run(limit, &mut NoObserver);
+    for one in counted.iter_mut().filter(|one| one.last.is_none()) {
+        one.tally.differed += u32::from(machine.jobs[one.task].step == Step::FailAfterSave);
+    }
     assert_eq!(counted, read);
     read.len()
 }
 
 fn count(tally: &mut Tally, statement: Statement) {
     match statement {
-        Statement::InstallDone | Statement::InstallNotDone => tally.tried += 1,
+        Statement::InstallDone => tally.tried += 1,
+        Statement::InstallNotDone => {
+            tally.tried += 1;
+            tally.failed += 1;
+        }
         Statement::FailAfterSave => tally.differed += 1,
         Statement::ExchangeFetch => tally.fetched += 1,
         Statement::Mark | Statement::CleanMark => tally.marked += 1,
-        Statement::FailAfterInstall => tally.failed += 1,
         _ => {}
     }
 }
