@@ -95,20 +95,21 @@ fn line(case: &Case) -> Option<String> {
     ))
 }
 
-/// Its finished exchanges: task, first and last tick, ticks of its own and the five numbers of change 7.
+/// Its exchanges: task, first and last tick (of one cut off the run's), own ticks and the five numbers of change 7.
 fn exchanges(case: &Case) -> String {
     let Ok(sheet) = sheet::parse(&case.sheet) else { return "-".to_string() };
-    let history = run_with_history(&sheet, case.limit.min(TOP_LIMIT) as u32).1;
+    let (machine, history) = run_with_history(&sheet, case.limit.min(TOP_LIMIT) as u32);
     let mut found = Vec::new();
     for operation in &history.operations {
         let numbers = |exchange: &Exchange| {
             let (span, tally) = (exchange.span, exchange.tally);
             let did = [tally.tried, tally.differed, tally.fetched, tally.marked, tally.failed];
-            let ticks = [operation.task as u32, span.first, span.last?, span.own_ticks()];
+            let last = span.last.unwrap_or(machine.tick - 1);
+            let ticks = [operation.task as u32, span.first, last, span.own_ticks()];
             let numbers = ticks.iter().chain(&did).map(u32::to_string);
-            Some(numbers.collect::<Vec<String>>().join(","))
+            numbers.collect::<Vec<String>>().join(",")
         };
-        found.extend(operation.exchanges.iter().filter_map(numbers));
+        found.extend(operation.exchanges.iter().map(numbers));
     }
     if found.is_empty() {
         return "-".to_string();
