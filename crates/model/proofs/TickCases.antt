@@ -1,12 +1,10 @@
 -- Worked figures of exchanges: one table of sheets, tasks, first and last ticks of an exchange, its ticks and what it did in them, and one fact
 -- over the whole table, by computation.
-use Prim.Native.Nat.{ℕ, suc}
+use Prim.Native.Nat.{ℕ}
 use mathlib.Core.Path.{_≡_, refl}
 use mathlib.Core.List.{List, [], _∷_, _++_, map}
 use Rattle.model.specs.Lists.{at}
 use Rattle.model.specs.Sheet.{sheetOf}
-use Rattle.model.specs.Word.{readTick}
-use Rattle.model.specs.Exchange.{exchangeTick}
 use Rattle.model.specs.Machine.{Machine, run}
 use Rattle.model.specs.Start.{startMachine}
 use Rattle.model.specs.Rates.{inTick, ownBefore, ownTicks}

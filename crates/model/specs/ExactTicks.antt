@@ -11,19 +11,23 @@ use Rattle.model.specs.Word.{Memory, sameWord, cellOf}
 use Rattle.model.specs.Exchange.{Step, start, test, load, look, fetch, fail, mark, install, commit, save, clean, cleanMark}
 use Rattle.model.specs.Exchange.{Entry, Exchange, entryAt}
 use Rattle.model.specs.Job.{Inner, between, first, copying, again, committing, Phase, idle, plain, reading, exchanging, transacting}
-use Rattle.model.specs.Machine.{Machine, taskAt, runningOf, run}
+use Rattle.model.specs.Machine.{Machine, taskAt, runningOf}
 use Rattle.model.specs.Start.{startMachine}
 use Rattle.model.specs.Arguments.{Pair, swapOf}
 use Rattle.model.specs.History.{Operation}
 use Rattle.model.specs.Rates.{mostExchange, inTick, isTask, oneIf, sumBefore, ownTicks, Starts, Ends, IsAt, NoneIn}
 
--- WHAT AN EXCHANGE DID: the words that it tried to install, whether it stopped at a differing value, its fetches, its marks on other
--- tasks, and whether an install failed
+-- WHAT AN EXCHANGE DID
 pub record Tally : Type 0 where
+  -- a: the words that it tried to install
   pub tried : ℕ
+  -- d: 1 if it stopped at a differing value
   pub differed : ℕ
+  -- f: its fetches
   pub fetched : ℕ
+  -- m: its marks on other tasks
   pub marked : ℕ
+  -- b: 1 if an install failed
   pub failed : ℕ
 
 abbrev pub tally : ℕ → ℕ → ℕ → ℕ → ℕ → Tally
@@ -41,7 +45,7 @@ exactTicks c = 3 + 6 * c .tried + 5 * c .differed + c .fetched + c .marked + c .
 abbrev pub marksOther : ℕ → Entry → Tally
 marksOther p e = tally 0 0 0 (oneIf (not (eqb (e .init .task) p))) 0
 
--- task p's step of exchange x, with that memory
+-- task p's step of exchange x, with that memory: a Save finds whether the value differs, an Install whether it fails
 unfoldable pub tallyOf : ℕ → Memory → Exchange → Step → Tally
 unfolding sameWord
 tallyOf p m x start = noTally

@@ -16,7 +16,7 @@ use Rattle.model.specs.Start.{startMachine}
 use Rattle.model.specs.Rates.{ownBefore}
 use Rattle.model.proofs.Lists.{same?, replace-same, replace-other, impossible}
 use Rattle.model.proofs.Fit.Sheet.{SheetFit}
-use Rattle.model.specs.ExactTicks.{Tally, noTally, tallyOf, tallyIn, tallyBefore, TakesExactly}
+use Rattle.model.specs.ExactTicks.{Tally, noTally, tallyOf, tallyBefore, TakesExactly}
 use Rattle.model.proofs.Exchanges.Rates.{MarksOther, plus, Ran, before-start, own-tick, others, exchange-exact, exchange-ends}
 use Rattle.model.proofs.History.Steps.{stateAfter, arrivedAt, state-next}
 use Rattle.model.proofs.Fit.Running.{running-foremost}

@@ -15,8 +15,8 @@ use Rattle.model.specs.Machine.{Machine, noTask, taskAt, Running, nobody
 use Rattle.model.specs.Start.{startMachine}
 use Rattle.model.specs.History.{Operation, History, noHistory, eventOf, observed}
 use Rattle.model.specs.Exchange.{Exchange}
-use Rattle.model.specs.Rates.{isTask, ownBefore}
-use Rattle.model.specs.ExactTicks.{Tally, noTally, tallyIn, tallyIf, tallyBefore, stepTally}
+use Rattle.model.specs.Rates.{ownBefore}
+use Rattle.model.specs.ExactTicks.{Tally, noTally, tallyIn, tallyBefore, stepTally}
 use Rattle.model.specs.Arguments.{Arguments}
 use Rattle.model.proofs.Lists.{same?, replace-same, replace-other, impossible}
 use Rattle.model.proofs.Fit.Sheet.{SheetFit}

@@ -1,6 +1,6 @@
 -- A task inside a READ or a SWAP is there in time after so many ticks of its own and what it did in them, and its statement keeps that or ends
 -- the operation in time.
-use Prim.Native.Nat.{ℕ, suc, _+_, _*_, _<_, _≤_}
+use Prim.Native.Nat.{ℕ, suc, _+_, _*_, _<_}
 use mathlib.Core.Bool.{Bool, true, false}
 use native.Mathlib.Omega.{arith}
 use mathlib.Core.Path.{_≡_, refl, sym, _∙_, subst}
