@@ -1,5 +1,5 @@
 -- `decimal` is right for every number: its bytes are digits, the first is 0 for the number 0 alone, and read back they are the number.
-use Prim.Native.Nat.{ℕ, suc, ◌+◌, ◌*◌, ◌-◌, ◌/◌, ◌%◌, ◌≤◌, ◌<◌}
+use Prim.Native.Nat.{ℕ, zero, suc, ◌+◌, ◌*◌, ◌-◌, ◌/◌, ◌%◌, ◌≤◌, ◌<◌}
 use mathlib.Core.Bool.{Bool, true, false}
 use mathlib.Core.Path.{◌≡◌, refl, sym, ap, ◌∙◌}
 use mathlib.Core.List.{List, [], ◌∷◌}
@@ -53,6 +53,8 @@ more n v follow h = rw (le-ltb v 10 h)
 
 -- any two counts of steps that are more than v give the same digits
 enough : (n k v : ℕ) (follow : List ℕ) → v < n → v < k → digits n v follow ≡ digits k v follow
+enough zero k v follow a b = elim a [ ]
+enough (suc n) zero v follow a b = elim b [ ]
 enough (suc n) (suc k) v follow a b =
     small? v
     (λ h. only n v follow h ∙ sym (only k v follow h))
@@ -68,18 +70,21 @@ last_digit v follow h = more v v follow h ∙ enough v (suc (v / 10)) (v / 10) (
 -- THE THEOREM, first for digits in front of others
 reads : (n v : ℕ) (follow : List ℕ) → v < n → read_from 0 (digits n v follow) ≡ read_from v follow
 unfolding read_from
+reads zero v follow a = elim a [ ]
 reads (suc n) v follow a =
     small? v
     (λ h. rw (only n v follow h) (ap (λ (x : ℕ). read_from x follow) (omega arith)))
     (λ h. rw (more n v follow h) (reads n (v / 10) ((0x30 + v % 10) ∷ follow) (omega arith) ∙ ap (λ (x : ℕ). read_from x follow) (omega arith)))
 
 bytes : (n v : ℕ) (follow : List ℕ) → v < n → AllDigits follow → AllDigits (digits n v follow)
+bytes zero v follow a d = elim a [ ]
 bytes (suc n) v follow a d =
     small? v
     (λ h. rw (only n v follow h) ((omega arith, omega arith), d))
     (λ h. rw (more n v follow h) (bytes n (v / 10) ((0x30 + v % 10) ∷ follow) (omega arith) ((omega arith, omega arith), d)))
 
 first : (n v w : ℕ) (follow : List ℕ) → v < n → (v ≡ 0 → w ≡ 0) → Leads w (digits n v follow)
+first zero v w follow a e = elim a [ ]
 first (suc n) v w follow a e =
     small? v
     (λ h. rw (only n v follow h) (leads (0x30 + v) follow (λ z. e (omega arith))))

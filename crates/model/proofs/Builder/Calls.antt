@@ -1,5 +1,5 @@
 -- What calls from nothing filled leave: commands that the reader passes, their bytes in front of the buffer as it was.
-use Prim.Native.Nat.{ℕ, zero, suc, ◌+◌, ◌<◌, ◌≤◌}
+use Prim.Native.Nat.{ℕ, suc, ◌+◌, ◌<◌, ◌≤◌}
 use mathlib.Core.Bool.{Bool, true, false}
 use mathlib.Core.Path.{◌≡◌, refl, sym, ap, ◌∙◌, subst}
 use mathlib.Core.List.{List, [], ◌∷◌, ◌++◌}
@@ -9,7 +9,7 @@ use borrow.Author.Tests.{leb-true, leb-false}
 use lib.Dec.{leb}
 use lib.ListN.{length, take, drop, length-append, length-drop}
 use lib.Seq.{take-append_seam, drop-append-add, drop-drop}
-use Rattle.model.specs.Refusal.{Refusal, byte_after_end, buffer_full, number}
+use Rattle.model.specs.Refusal.{Refusal, byte_after_end, buffer_full}
 use Rattle.model.specs.Command.{Command, END}
 use Rattle.model.specs.Fault.{Known, nothing_known, fault_of}
 use Rattle.model.specs.Sheet.{after, end?}

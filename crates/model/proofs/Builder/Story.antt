@@ -1,23 +1,23 @@
 -- The story of calls from nothing filled: the reader's numbers and places, sheets that it accepts, every one of them, and each by one list.
-use Prim.Native.Nat.{ℕ, suc, ◌+◌, ◌<◌, ◌≤◌}
+use Prim.Native.Nat.{ℕ, ◌+◌, ◌<◌, ◌≤◌}
 use mathlib.Core.Bool.{true, false}
 use mathlib.Core.Path.{◌≡◌, refl, sym, ap, ◌∙◌, subst}
 use mathlib.Core.Logic.{◌↔◌}
 use mathlib.Core.List.{List, [], ◌∷◌, ◌++◌}
 use mathlib.Core.Option.{none, some}
 use native.Mathlib.Omega.{arith}
-use lib.ListN.{length, get_or, take, drop, length-append}
+use lib.ListN.{length, drop, length-append}
 use lib.Seq.{take-append_seam, drop-append_seam}
 use Rattle.model.specs.Refusal.{Refusal, byte_after_end, number}
 use Rattle.model.specs.Command.{Command, END}
 use Rattle.model.specs.Fault.{Known, nothing_known, fault_of}
-use Rattle.model.specs.Sheet.{after, end?, accepted, turned_down, verdict, commands_from, commands_at}
+use Rattle.model.specs.Sheet.{after, end?, accepted, turned_down, verdict, commands_at}
 use Rattle.model.specs.WellFormed.{Each}
-use Rattle.model.specs.Encoding.{operands_of, widths_of, encode, encode_all, OperandsFit}
-use Rattle.model.specs.Builder.{BuilderState, nothing_filled, Composed, declined, taken, compose, handed, given, Calls, start, takes, filled_part, ComposedBy, Story}
+use Rattle.model.specs.Encoding.{encode, encode_all, OperandsFit}
+use Rattle.model.specs.Builder.{BuilderState, Composed, taken, compose, handed, given, Calls, start, takes, filled_part, ComposedBy, Story}
 use Rattle.model.proofs.Lists.{impossible}
 use Rattle.model.proofs.Refusals.{number-some, same_number}
-use Rattle.model.proofs.Fit.Reading.{FoundAt, ReadFrom, lastly, firstly, read_all}
+use Rattle.model.proofs.Fit.Reading.{ReadFrom, lastly, firstly, read_all}
 use Rattle.model.proofs.Fit.Body.{passed_of}
 use Rattle.model.proofs.Builder.Handed.{handed-exact}
 use Rattle.model.proofs.Encoding.Numbers.{append_assoc, Bytes}
@@ -168,7 +168,7 @@ module _ (b sheet : List ℕ) (small : Bytes sheet) where
       let rest-room : length (encode_all (l ++ (c ∷ []))) + length (encode_all r) ≤ length b =
       omega (arith, h, sizes, longer b l c (left_by calls).room) in
       subst (λ (z : List Command). ComposedBy b z (encode_all z)) apart
-      (build (next-calls calls c fits e good room) (next-ended calls c fits e good room ∙ f) known rest rest-room)
+      (build {l = l ++ (c ∷ [])} (next-calls calls c fits e good room) (next-ended calls c fits e good room ∙ f) known rest rest-room)
 
   composed : verdict sheet ≡ accepted → length sheet ≤ length b → ComposedBy b (commands_at sheet 0) sheet
   unfolding commands_at

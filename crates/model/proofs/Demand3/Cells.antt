@@ -9,7 +9,7 @@ use mathlib.Core.Option.{Option, none, some}
 use native.Mathlib.Omega.{arith}
 use lib.Dec.{eqb}
 use lib.ListN.{length, length-map}
-use Rattle.model.specs.Lists.{at, replace}
+use Rattle.model.specs.Lists.{replace}
 use Rattle.model.specs.Command.{SWAP, BodyCommand, outside}
 use Rattle.model.specs.Word.{Word, Memory, status_of, set_status, current_of, Reading, loading, looking, fetching}
 use Rattle.model.specs.Exchange.{Entry, Step, start, commit, Exchange, commit_by, clean_by, exchange_tick}

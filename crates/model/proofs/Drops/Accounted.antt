@@ -43,6 +43,7 @@ pub record Accounted (s : Sheet) (n : ℕ) (m : Machine) (xs : List Arrival) : T
 
 -- A RELEASE ARRIVES
 in_append : (r : Release) (l : List Release) (x : Release) → In r (l ++ (x ∷ [])) → In r l ⊎ (r ≡ x)
+in_append r [] x (inr i) = elim i [ ]
 in_append r [] x (inl e) = inr e
 in_append r (y ∷ l) x (inl e) = inl (inl e)
 in_append r (y ∷ l) x (inr i) = go (in_append r l x i)

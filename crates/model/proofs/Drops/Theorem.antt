@@ -25,6 +25,7 @@ use Rattle.model.proofs.Drops.Starts.{starts_between, seen-starts}
 -- those to come are of later ticks
 all-later : (now : ℕ) (l : List Release) → ((i : ℕ) → i < length l → now ≤ (release_at l i).tick) → (r : Release) → In r l → now ≤ r.tick
 unfolding at
+all-later now [] f r x'' = elim x'' [ ]
 all-later now (x ∷ l) f r (inl e) = rw e (f 0 (omega arith))
 all-later now (x ∷ l) f r (inr i) = all-later now l (λ i h. f (suc i) (omega arith)) r i
 

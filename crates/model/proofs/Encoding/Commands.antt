@@ -1,24 +1,21 @@
 -- A command that is written is decoded again, and the bytes that a command is decoded from are those that it is written as.
-use Prim.Native.Nat.{ℕ, zero, suc, ◌+◌, ◌^◌, ◌<◌, ◌≤◌}
-use mathlib.Core.Bool.{Bool, true, false, ◌&&◌}
+use Prim.Native.Nat.{ℕ, zero, suc, ◌+◌}
+use mathlib.Core.Bool.{Bool, true, false}
 use mathlib.Core.Path.{◌≡◌, refl, sym, ap, ◌∙◌, subst, fun_ext}
 use mathlib.Core.List.{List, [], ◌∷◌, ◌++◌}
-use mathlib.Core.Option.{Option, none, some}
+use mathlib.Core.Option.{some}
 use native.Mathlib.Omega.{arith}
-use borrow.Author.Tests.{lt-ltb, le-leb, ltb-true, leb-true, eqb-true}
+use borrow.Author.Tests.{lt-ltb, le-leb, eqb-true}
 use lib.Dec.{eqb, ltb, leb}
 use lib.ListN.{length, get_or, drop, length-append}
 use lib.Seq.{get_or-append_seam, drop-cons}
-use Rattle.model.specs.Ceilings.{max_words, max_blocks, max_tasks}
 use Rattle.model.specs.Command.{GET, PUT, READ, PAIR, SWAP, BEGIN, access, COMMIT, LOAD, ADD, outside, inside}
 use Rattle.model.specs.Command.{Command, WORD, BLOCK, TASK, RELEASE, END, body, Row, table, row_by, row_of, total, big_endian, operand}
 use Rattle.model.specs.Command.{found, found_byte, found_row, found_whole, command_at}
-use Rattle.model.specs.Fault.{SheetCounts, in_range, in_range_body, in_range_outside, in_range_inside}
 use Rattle.model.specs.Encoding.{byte_of, operands_of, widths_from, widths_of, operand_bytes, encode, Fits, OperandsFit}
 use Rattle.model.proofs.Lists.{impossible}
 use Rattle.model.proofs.Fit.Accepted.{EachRow, row-each}
-use Rattle.model.proofs.Fit.Elements.{and_left, and_right}
-use Rattle.model.proofs.Fit.Reading.{FoundAt, found_at}
+use Rattle.model.proofs.Fit.Reading.{FoundAt}
 use Rattle.model.proofs.Encoding.Numbers.{append_assoc, operand_back, operands_length, Bytes, operands_at, operands_fit, operands_again}
 
 -- THE ROW OF A COMMAND

@@ -30,7 +30,9 @@ number_back (suc w) v p q h =
     let most : big_endian (p ++ (bytes_of w (v / 256) ++ (v % 256 ∷ q))) (length p) w ≡ v / 256 =
     number_back w (v / 256) p (v % 256 ∷ q) high in
     let low : get_or (p ++ (bytes_of w (v / 256) ++ (v % 256 ∷ q))) (length p + w) 0 ≡ v % 256 = last_byte w (v / 256) p (v % 256) q in
-    rw (apart, most, low) (omega (arith, mod-add-div v 256))
+    let whole : big_endian (p ++ ((bytes_of w (v / 256) ++ (v % 256 ∷ [])) ++ q)) (length p) w ≡ v / 256 =
+    ap (λ (l : List ℕ). big_endian l (length p) w) apart ∙ most in
+    rw (whole, apart, low) (omega (arith, mod-add-div v 256))
   where
     div_small : (v m : ℕ) → v < 256 * m → v / 256 < m
     div_small v m h = omega arith
@@ -52,7 +54,9 @@ operand_back (w ∷ ws) (v ∷ vs) p q f (suc n) =
     ap (λ (l : List ℕ). p ++ l) (append_assoc (bytes_of w v) (operand_bytes ws vs) q)
     ∙ sym (append_assoc p (bytes_of w v) (operand_bytes ws vs ++ q)) in
     let place : length p + w ≡ length (p ++ bytes_of w v) = omega (arith, length-append p (bytes_of w v), bytes-length w v) in
-    rw (apart, place) (operand_back ws vs (p ++ bytes_of w v) q f.1 n)
+    ap (λ (l : List ℕ). operand l (length p + w) ws n) apart
+    ∙ ap (λ (i : ℕ). operand ((p ++ bytes_of w v) ++ (operand_bytes ws vs ++ q)) i ws n) place
+    ∙ operand_back ws vs (p ++ bytes_of w v) q f.1 n
 
 pub operands_length : (ws vs : List ℕ) → Fits ws vs → length (operand_bytes ws vs) ≡ total ws
 unfolding operand_bytes total

@@ -10,10 +10,10 @@ use lib.Dec.{ltb, leb}
 use lib.ListN.{length, get_or, replicate}
 use Rattle.model.specs.Ceilings.{max_words, max_blocks, max_tasks, value_range}
 use Rattle.model.specs.Command.{GET, PUT, READ, PAIR, SWAP, BEGIN, access, COMMIT, LOAD, ADD, outside, inside, BodyCommand}
-use Rattle.model.specs.Command.{Command, WORD, BLOCK, TASK, RELEASE, END, body, table, row_by, row_of}
+use Rattle.model.specs.Command.{Command, WORD, BLOCK, TASK, RELEASE, END, body, row_by}
 use Rattle.model.specs.Fault.{SheetCounts, Known, nothing_known, in_range, in_range_body, under_ceiling, fault_of}
 use Rattle.model.specs.Sheet.{after}
-use Rattle.model.specs.Encoding.{byte_of, operands_of, widths_from, widths_of, ValuesFit, Fits, OperandsFit}
+use Rattle.model.specs.Encoding.{operands_of, widths_of, ValuesFit, Fits, OperandsFit}
 use Rattle.model.proofs.Fit.Elements.{and_left, and_right}
 use Rattle.model.proofs.Fit.Body.{passed_of}
 

@@ -1,21 +1,19 @@
 -- The reader on written commands: those without a fault are passed one after another, and the verdict is that of what follows.
-use Prim.Native.Nat.{ℕ, zero, suc, ◌+◌, ◌<◌, ◌≤◌}
-use mathlib.Core.Bool.{Bool, true, false}
-use mathlib.Core.Path.{◌≡◌, refl, sym, ap, ◌∙◌, subst}
+use Prim.Native.Nat.{ℕ, suc, ◌+◌}
+use mathlib.Core.Bool.{true, false}
+use mathlib.Core.Path.{◌≡◌, refl, sym, ap, ◌∙◌}
 use mathlib.Core.List.{List, [], ◌∷◌, ◌++◌}
-use mathlib.Core.Option.{Option, none, some}
+use mathlib.Core.Option.{none, some}
 use native.Mathlib.Omega.{arith}
-use borrow.Author.Tests.{lt-ltb, le-ltb}
 use lib.Dec.{ltb}
-use lib.ListN.{length, get_or, drop, length-append}
-use Rattle.model.specs.Refusal.{Refusal, byte_after_end}
-use Rattle.model.specs.Command.{Command, END, found, command_at}
-use Rattle.model.specs.Fault.{Known, nothing_known, fault_of}
-use Rattle.model.specs.Sheet.{after, end?, Verdict, accepted, turned_down, at_end, judge_end, judge_fault, judge, verdict_from, verdict}
-use Rattle.model.specs.Sheet.{commands_from, commands_at}
+use lib.ListN.{length, length-append}
+use Rattle.model.specs.Refusal.{Refusal}
+use Rattle.model.specs.Command.{Command, found, command_at}
+use Rattle.model.specs.Fault.{Known, fault_of}
+use Rattle.model.specs.Sheet.{after, end?, turned_down, at_end, judge_end, judge_fault, judge, verdict_from}
 use Rattle.model.specs.Encoding.{encode, encode_all, OperandsFit}
 use Rattle.model.proofs.Encoding.Numbers.{append_assoc}
-use Rattle.model.proofs.Encoding.Commands.{encode-length, command_back}
+use Rattle.model.proofs.Encoding.Commands.{command_back}
 
 -- these commands, none of them END, are without fault one after another, and their operands fit
 pub data Passes : Known → List Command → Known → Type 0 where

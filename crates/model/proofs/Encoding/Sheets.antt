@@ -1,18 +1,18 @@
 -- An accepted sheet is the bytes of the commands that the reader hands out, and their operands fit.
-use Prim.Native.Nat.{ℕ, zero, suc, ◌+◌, ◌^◌, ◌<◌, ◌≤◌}
+use Prim.Native.Nat.{ℕ, zero, suc, ◌^◌, ◌<◌}
 use mathlib.Core.Path.{◌≡◌, refl, sym, ap, ◌∙◌}
 use mathlib.Core.List.{List, [], ◌∷◌, ◌++◌}
 use native.Mathlib.Omega.{arith}
-use lib.ListN.{length, get_or, drop, drop_of_length-le, replicate}
+use lib.ListN.{get_or, drop, drop_of_length-le, replicate}
 use Rattle.model.specs.Ceilings.{value_range}
-use Rattle.model.specs.Command.{GET, PUT, READ, PAIR, SWAP, BEGIN, access, COMMIT, LOAD, ADD, outside, inside}
+use Rattle.model.specs.Command.{LOAD, ADD, outside, inside}
 use Rattle.model.specs.Command.{Command, WORD, BLOCK, TASK, RELEASE, END, body, row_by}
-use Rattle.model.specs.Fault.{Known, nothing_known}
-use Rattle.model.specs.Sheet.{accepted, verdict, commands_from, commands_at}
+use Rattle.model.specs.Fault.{Known}
+use Rattle.model.specs.Sheet.{accepted, verdict, commands_at}
 use Rattle.model.specs.Encoding.{operands_of, widths_of, encode, encode_all, ValuesFit, Fits, OperandsFit}
-use Rattle.model.proofs.Fit.Reading.{FoundAt, ReadFrom, lastly, firstly, read_all}
+use Rattle.model.proofs.Fit.Reading.{ReadFrom, lastly, firstly, read_all}
 use Rattle.model.proofs.Encoding.Numbers.{Bytes}
-use Rattle.model.proofs.Encoding.Commands.{as_many, found_fits, bytes-again}
+use Rattle.model.proofs.Encoding.Commands.{as_many, bytes-again}
 use Rattle.model.proofs.Encoding.Reading.{encode_cons, encode_one, append-nil}
 
 module _ (s : List ℕ) (small : Bytes s) where

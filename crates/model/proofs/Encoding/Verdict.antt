@@ -7,11 +7,11 @@ use mathlib.Core.Option.{Option, none, some}
 use native.Mathlib.Omega.{arith}
 use borrow.Author.Tests.{lt-ltb, le-ltb}
 use lib.Dec.{ltb, leb}
-use lib.ListN.{length, get_or, drop, length-append}
+use lib.ListN.{length, get_or, length-append}
 use Rattle.model.specs.Refusal.{Refusal, byte_after_end}
 use Rattle.model.specs.Command.{Command, END, Row, table, row_by, row_of, total, Found, found, refused, found_whole, found_row, found_byte, command_at}
 use Rattle.model.specs.Fault.{Known, nothing_known, fault_of}
-use Rattle.model.specs.Sheet.{after, end?, Verdict, accepted, turned_down, at_end, judge_end, judge_fault, judge, verdict_from, verdict}
+use Rattle.model.specs.Sheet.{after, end?, accepted, turned_down, at_end, judge_end, judge_fault, judge, verdict_from, verdict}
 use Rattle.model.specs.Sheet.{listed, commands_from, commands_at}
 use Rattle.model.specs.WellFormed.{Each}
 use Rattle.model.specs.Encoding.{operands_of, widths_of, encode, encode_all, OperandsFit}

@@ -141,7 +141,7 @@ module _ {below : ℕ → ℕ → Type 0} {m : Memory} {acts : List Act} {p : �
         cleaning-moved (clean_mark j yes?) clean-same refl (rw s (omega arith)) S.invariant.contents (past_by m.cells gone)
         (clean-entry, (at-step_as S (clean j yes?) s).1, o)
 
-  pub cleaned-at : {n : Memory} (j : ℕ) (yes? : Bool) → Room m p x.entries → Cleans p m x j yes? n → CleanedAt j yes? n
+  pub cleaned-at : (j : ℕ) {n : Memory} (yes? : Bool) → Room m p x.entries → Cleans p m x j yes? n → CleanedAt j yes? n
   cleaned-at j yes? R (renews s e h) = cleaned-cell j yes? s R (cleaned p (entry_at x j)) (valid refl)
   cleaned-at j yes? R (passes s e h) = cleaned-none j yes? s h
   cleaned-at j yes? R (gives_back s e h) = cleaned-cell j yes? s R (entry_at x j).init (clean_settled j yes? s).found.loaded.valid_or_held

@@ -8,7 +8,7 @@ use native.Mathlib.Omega.{arith}
 use lib.Dec.{eqb}
 use lib.ListN.{length}
 use borrow.Author.Tests.{eqb-true, eqb-false}
-use Rattle.model.specs.Lists.{at, replace}
+use Rattle.model.specs.Lists.{replace}
 use Rattle.model.specs.Word.{Word, Memory, cell_of, status_of, saved, set_cell, set_status, set_save, current, current_of, fresh_word}
 use Rattle.model.specs.Exchange.{start, commit, clean, clean_mark, install, fail, mark}
 use Rattle.model.specs.Exchange.{Exchange, Exchanged, entry_at, changing, installed, cleaned}
@@ -108,7 +108,7 @@ module _ {below : ℕ → ℕ → Type 0} {m : Memory} {acts : List Act} {p : �
               sym (installed-old m.status m.saves p (entry_at x j) j (eqb-false _ _ (sym k)) ∙ (clean_settled S j yes? s).found.kept-old)
           go true k e = unchanging (entry_at x j) e ∙ sym (installed-new m.status m.saves p (entry_at x j) j (eqb-true _ _ (sym k)))
 
-    cleaned-current : {n : Memory} (j : ℕ) (yes? : Bool) → Cleans p m x j yes? n → (c : ℕ) → current_of n c ≡ current_of m c
+    cleaned-current : (j : ℕ) {n : Memory} (yes? : Bool) → Cleans p m x j yes? n → (c : ℕ) → current_of n c ≡ current_of m c
     cleaned-current j yes? (renews s e h) c = clean-current j yes? s h (cleaned p (entry_at x j)) (renew_current j yes? s h e) c
     cleaned-current j yes? (passes s e h) c = refl
     cleaned-current j yes? (gives_back s e h) c = clean-current j yes? s h (entry_at x j).init (back_current j yes? s h e) c

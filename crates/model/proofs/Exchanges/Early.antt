@@ -7,7 +7,7 @@ use mathlib.Core.List.{List}
 use native.Mathlib.Omega.{arith}
 use lib.ListN.{length}
 use borrow.Author.Tests.{not-true}
-use Rattle.model.specs.Lists.{at, replace}
+use Rattle.model.specs.Lists.{replace}
 use Rattle.model.specs.Word.{Word, Memory, status_of, saved}
 use Rattle.model.specs.Exchange.{Entry, entry, Step, Exchange, entry_at, installed, to, onward, with_init, init_loaded}
 use Rattle.model.proofs.Lists.{replace-same, replace-other, length-replace, at_below, same?, impossible}

@@ -6,7 +6,6 @@ use mathlib.Core.Logic.{◌≢◌, ◌⊎◌, inl, inr}
 use mathlib.Core.List.{List}
 use native.Mathlib.Omega.{arith}
 use lib.ListN.{length}
-use Rattle.model.specs.Lists.{at}
 use Rattle.model.specs.Word.{Word, Memory, cell_of, status_of, set_cell, fresh_word}
 use Rattle.model.specs.Exchange.{Entry, start, load, install, commit, mark, fail, save, clean}
 use Rattle.model.specs.Exchange.{clean_mark, Exchange, Exchanged, goes, ends, entry_at, installed, to}
@@ -169,7 +168,7 @@ module _ {below : ℕ → ℕ → Type 0} {m : Memory} {acts : List Act} {p : �
           };
         }
 
-  cleared : {n : Memory} (j : ℕ) (yes? : Bool) → Room m p x.entries → Cleans p m x j yes? n → Cleared j yes? n
+  cleared : (j : ℕ) {n : Memory} (yes? : Bool) → Room m p x.entries → Cleans p m x j yes? n → Cleared j yes? n
   cleared j yes? R (renews s e h) =
       cleared_cell j yes? s _ h (λ r B b. inr (changing_hits S T P r j B b (j_inside j yes? s) (changes (entry_at x j) (and_right yes? _ e))))
   cleared j yes? R (passes s e h) = cleared_lost j yes? s h

@@ -5,7 +5,7 @@ use mathlib.Core.Path.{◌≡◌, refl, sym, subst}
 use mathlib.Core.Logic.{◌≢◌, inl}
 use mathlib.Core.List.{List}
 use native.Mathlib.Omega.{arith}
-use Rattle.model.specs.Lists.{at, replace}
+use Rattle.model.specs.Lists.{replace}
 use Rattle.model.specs.Word.{Word, Memory, cell_of, status_of, set_status, saved, own, Reading}
 use Rattle.model.specs.Word.{loading, looking, fetching, gives, read_tick, looking_by}
 use Rattle.model.specs.Exchange.{Entry, Step, start, test, Exchange, Exchanged, ends, exchange_tick}

@@ -4,7 +4,7 @@ use mathlib.Core.Bool.{true}
 use mathlib.Core.Path.{◌≡◌, refl, sym, subst}
 use mathlib.Core.List.{List}
 use native.Mathlib.Omega.{arith}
-use Rattle.model.specs.Lists.{at, replace}
+use Rattle.model.specs.Lists.{replace}
 use Rattle.model.specs.Word.{Word, Memory, memory, cell_of, set_status, Reading, looking, Read, reads, gives, read_tick}
 use Rattle.model.specs.Exchange.{Entry, Step, start, test, Exchange, Exchanged, exchange_tick}
 use Rattle.model.proofs.Exchanges.Act.{Act, free, reading, exchanging, act_at, act_by, act_of, act_after, started?, memory_after, Quiet, Distinct}

@@ -130,7 +130,7 @@ module _ {below : ℕ → ℕ → Type 0} {m : Memory} {acts : List Act} {p : �
         let k = (clean_settled S j yes? s).marked o (changes (entry_at x j) (and_right yes? _ e)) in
         absurd (omega (arith, rw i at k))
 
-  returns : {n : Memory} (j : ℕ) (yes? : Bool) → Room m p x.entries → Cleans p m x j yes? n → Returns j n
+  returns : (j : ℕ) {n : Memory} (yes? : Bool) → Room m p x.entries → Cleans p m x j yes? n → Returns j n
   returns j yes? R (renews s e h) =
       record { at_entry = rw s; keep = λ c u L k. own-cell j yes? s _ h c u L.task k; back = λ u L o i. was_marked j yes? s e u L.unmarked o i }
   returns j yes? R (passes s e h) = record { at_entry = rw s; keep = λ c u L k. k; back = λ u L o i. was_marked j yes? s e u L.unmarked o i }

@@ -7,7 +7,6 @@ use mathlib.Core.Option.{some}
 use native.Mathlib.Omega.{arith}
 use lib.Dec.{eqb}
 use lib.ListN.{length, get_or}
-use Rattle.model.specs.Lists.{at}
 use Rattle.model.specs.Command.{Command, Row, table, row_by, row_of, operand}
 use Rattle.model.specs.Sheet.{Sheet, accepted, verdict, commands_from, declared, sheet_of}
 use Rattle.model.specs.Machine.{run}

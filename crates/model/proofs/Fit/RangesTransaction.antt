@@ -12,7 +12,7 @@ use Rattle.model.specs.Command.{Access, GET, PUT, Inside, access, COMMIT, BodyCo
 use Rattle.model.specs.Word.{Memory, stored, loading, Read, reads, gives, read_tick, set_stored}
 use Rattle.model.specs.Exchange.{Entry, entry, Exchanged, goes, ends, exchange_of, exchange_tick, Exchange}
 use Rattle.model.specs.Job.{Touched, untouched, remembered, copied, Transaction, Inner, between, first, copying}
-use Rattle.model.specs.Job.{again, committing, Phase, reading, lost, Task, Turn, turn, loses_attempt, rest, done, done_by, in_phase, Deed}
+use Rattle.model.specs.Job.{again, committing, Phase, lost, Task, Turn, turn, loses_attempt, rest, done, done_by, in_phase, Deed}
 use Rattle.model.specs.Transaction.{bank, bank_value, version_of, store_of, block_of, remembered_of, touched_of, touch}
 use Rattle.model.specs.Transaction.{within, stays, goes_on, restarted, loaded, added, first_read, copy_by, copy_tick}
 use Rattle.model.specs.Transaction.{access_tick, check_by, again_read, nothing?, spent?, gather, taken_back, command_tick}

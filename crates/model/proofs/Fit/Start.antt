@@ -4,7 +4,6 @@ use mathlib.Core.Path.{◌≡◌, refl, sym, ◌∙◌, ap, subst}
 use mathlib.Core.List.{List, [], ◌∷◌, ◌++◌, map}
 use native.Mathlib.Omega.{arith}
 use lib.ListN.{length, replicate, length-append, length-replicate, length-map}
-use Rattle.model.specs.Ceilings.{registers}
 use Rattle.model.specs.Lists.{at}
 use Rattle.model.specs.Command.{Block, BodyCommand, Release, no_block}
 use Rattle.model.specs.Sheet.{Sheet}

@@ -8,7 +8,6 @@ use native.Mathlib.Omega.{arith}
 use lib.Dec.{eqb, ltb, leb}
 use lib.ListN.{length}
 use borrow.Author.Tests.{ltb-true, leb-true, eqb-true}
-use Rattle.model.specs.Lists.{at}
 use Rattle.model.specs.Command.{Block, Release, BodyCommand, LOAD, ADD, outside, inside}
 use Rattle.model.specs.Command.{Command, WORD, BLOCK, TASK, RELEASE, END, body, no_block}
 use Rattle.model.specs.Fault.{Section, Known, words?, blocks?, body?, releases?, may_end, bodies_over, before, in_place}

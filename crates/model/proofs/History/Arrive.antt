@@ -7,7 +7,7 @@ use mathlib.Core.List.{List, []}
 use lib.Dec.{ltb}
 use lib.ListN.{length, replicate}
 use borrow.Author.Tests.{ltb-true, ltb-false}
-use Rattle.model.specs.Lists.{at, replace}
+use Rattle.model.specs.Lists.{replace}
 use Rattle.model.specs.Command.{BodyCommand}
 use Rattle.model.specs.Job.{Phase, idle, plain, reading, exchanging, transacting, Job, job, Task, started}
 use Rattle.model.specs.Machine.{Machine, no_task, task_at, unfinished, runs_before, nobody, running_of, unfinished_at, starting, behind, dropping, enter}

@@ -13,6 +13,7 @@ use Rattle.model.proofs.WholeCases.{listed_by, counted_from}
 
 counted_below : (i : ℕ) (l : List (Option Operation)) (b : ℕ) → In b (counted_from i l) → i ≤ b
 unfolding counted_from listed_by
+counted_below i [] b n = elim n [ ]
 counted_below i (o ∷ l) b n = go (counted_by o) n (counted_below (suc i) l b)
   where
     go : (t : Bool) → In b (listed_by t i (counted_from (suc i) l)) → (In b (counted_from (suc i) l) → suc i ≤ b) → i ≤ b
@@ -41,6 +42,7 @@ in_counted i (o ∷ l) (suc a) b s e = go (counted_by o) (in_counted (suc i) l a
 
 pub counted-counts : (i : ℕ) (l : List (Option Operation)) (a b : ℕ) → i + a ≡ b → In b (counted_from i l) → counted_by (at none l a) ≡ true
 unfolding at counted_from listed_by
+counted-counts i [] a b s n = elim n [ ]
 counted-counts i (o ∷ l) zero b s n = go (counted_by o) n
   where
     go : (t : Bool) → In b (listed_by t i (counted_from (suc i) l)) → t ≡ true

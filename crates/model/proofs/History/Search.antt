@@ -7,7 +7,7 @@ use mathlib.Core.List.{List, [], ◌∷◌, ◌++◌, append_assoc}
 use mathlib.Core.Option.{Option, none, some}
 use native.Mathlib.Omega.{arith}
 use lib.ListN.{length, length-append}
-use Rattle.model.specs.Lists.{at, In}
+use Rattle.model.specs.Lists.{In}
 use Rattle.model.specs.Plain.{Contents, result, plainly}
 use Rattle.model.specs.History.{Operation, History, operation_at}
 use Rattle.model.specs.Claim.{Replays, exactly, freely, Sequence, no_more, then, Once, EndedBefore, RespectsTime, WholeOperations}
@@ -145,6 +145,7 @@ module _ (h : History) (d : Contents) where
   next-found : (go : List ℕ → Contents → Bool) (a : ℕ) (c : Contents) (r l : List ℕ) → In a l
       → ((x y : List ℕ) → x ++ (a ∷ y) ≡ r ++ l → (timely h a (x ++ y) && fed (go (x ++ y)) h a (operation_at h a) c) ≡ true) → next go h r l c ≡ true
   unfolding next
+  next-found go a c r [] x'' k = elim x'' [ ]
   next-found go a c r (b ∷ l) (inl e) k =
       rw (sym e) (or_left (timely h a (r ++ l) && fed (go (r ++ l)) h a (operation_at h a) c) _ (k r l (rw e refl)))
   next-found go a c r (b ∷ l) (inr i) k =

@@ -34,11 +34,13 @@ among_told a (b ∷ l) e = or_cases (eqb a b) (among a l) e (λ t. inl (eqb-true
 
 among-found : (a : ℕ) (l : List ℕ) → In a l → among a l ≡ true
 unfolding among
+among-found a [] x' = elim x' [ ]
 among-found a (b ∷ l) (inl e) = or_left (eqb a b) _ (eq-eqb a b e)
 among-found a (b ∷ l) (inr i) = or_right (eqb a b) _ (among-found a l i)
 
 all_told : (l m : List ℕ) → all_among l m ≡ true → (a : ℕ) → In a l → In a m
 unfolding all_among
+all_told [] m e a x'' = elim x'' [ ]
 all_told (b ∷ l) m e a (inl i) = rw i (among_told b m (and_left (among b m) (all_among l m) e))
 all_told (b ∷ l) m e a (inr i) = all_told l m (and_right (among b m) _ e) a i
 

@@ -13,7 +13,7 @@ use Rattle.model.specs.Command.{Block}
 use Rattle.model.specs.Plain.{Contents}
 use Rattle.model.specs.History.{Operation, History, operation_at}
 use Rattle.model.specs.Claim.{Interfered, EndedBefore}
-use Rattle.model.specs.Arguments.{Pair, Arguments, swap_of}
+use Rattle.model.specs.Arguments.{Pair, Arguments, read_of, swap_of, transaction_of}
 use Rattle.model.proofs.Fit.Elements.{and_left, and_right, or_cases, or_left, or_right}
 use Rattle.model.proofs.WholeCases.{same_numbers, same_blocks, same_contents, last_before, ended_before, timely}
 use Rattle.model.proofs.WholeCases.{names, changes_named, pairs_of, interferes, interfered_from, interfered}
@@ -82,6 +82,7 @@ module _ (h : History) (a : ℕ) where
 
   pub timely_told : (l : List ℕ) → timely h a l ≡ true → (b : ℕ) → In b l → EndedBefore h b a → ⊥
   unfolding timely
+  timely_told [] t b x3 f = elim x3 [ ]
   timely_told (c ∷ l) t b (inl e) f =
       true≢false (sym (ended_seen b f) ∙ ap (λ (x : ℕ). ended_before a (operation_at h x)) e
       ∙ not-true _ (and_left (not (ended_before a (operation_at h c))) (timely h a l) t))
@@ -111,6 +112,7 @@ names_told w (p ∷ l) e =
 
 names-found : (w : ℕ) (l : List Pair) (p : Pair) → In p l → w ≡ p.word → names w l ≡ true
 unfolding names
+names-found w [] p x'' f = elim x'' [ ]
 names-found w (q ∷ l) p (inl e) f = or_left _ _ (eq-eqb w q.word (f ∙ ap (λ (x : Pair). x.word) e))
 names-found w (q ∷ l) p (inr i) f = or_right (eqb w q.word) _ (names-found w l p i f)
 
@@ -135,11 +137,14 @@ changes_told ps (q ∷ l) e =
 
 changes-found : (ps qs : List Pair) (q : Pair) → In q qs → q.old ≢ q.new → names q.word ps ≡ true → changes_named ps qs ≡ true
 unfolding changes_named
+changes-found ps [] q x3 n t = elim x3 [ ]
 changes-found ps (c ∷ l) q (inl e) n t =
     rw (sym e) (or_left (not (eqb q.old q.new) && names q.word ps) _ (rw (ne_eqb q.old q.new n) t))
 changes-found ps (c ∷ l) q (inr i) n t = or_right (not (eqb c.old c.new) && names c.word ps) _ (changes-found ps l q i n t)
 
 swap-pairs : (g : Arguments) (p : Pair) → In p (pairs_of g) → g ≡ swap_of (pairs_of g)
+swap-pairs (read_of _) p i = elim i [ ]
+swap-pairs (transaction_of _ _) p i = elim i [ ]
 swap-pairs (swap_of ps) p i = refl
 
 module _ (h : History) (a : ℕ) (o : Operation) (z : ℕ) where

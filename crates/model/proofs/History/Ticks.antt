@@ -9,7 +9,7 @@ use native.Mathlib.Decide.{dec_lt}
 use native.Mathlib.Omega.{arith}
 use lib.ListN.{length}
 use borrow.Author.Tests.{lt-ltb}
-use Rattle.model.specs.Lists.{at, replace}
+use Rattle.model.specs.Lists.{replace}
 use Rattle.model.specs.Job.{idle, Task, counting, ticks}
 use Rattle.model.specs.Machine.{Machine, no_task, task_at, runs_before, Running, nobody, running, running_of, move, statement}
 use Rattle.model.specs.History.{History, operation_at, nothing, observed}

@@ -29,6 +29,7 @@ lost_append q (x ∷ l) o = rw (lost_append q l o) (omega arith)
 lost_replaced : (q : ℕ) (l : List (Option Operation)) (n : ℕ) (o : Option Operation) → n < length l
     → lost_of q (replace l n o) + lost_by q (at none l n) ≡ lost_of q l + lost_by q o
 unfolding lost_of at replace
+lost_replaced q [] n o h = elim h [ ]
 lost_replaced q (x ∷ l) zero o h = omega arith
 lost_replaced q (x ∷ l) (suc n) o h = omega (arith, lost_replaced q l n o (omega arith))
 

@@ -5,7 +5,7 @@ use mathlib.Core.Logic.{◌≢◌, ◌⊎◌, inl, inr}
 use mathlib.Core.List.{List}
 use native.Mathlib.Omega.{arith}
 use Rattle.model.specs.Sheet.{Sheet}
-use Rattle.model.specs.Command.{Access, access, BodyCommand}
+use Rattle.model.specs.Command.{Access, BodyCommand}
 use Rattle.model.specs.Word.{Memory, Reading, loading, looking, Read, reads, gives, cell_of, read_tick}
 use Rattle.model.specs.Job.{Transaction, Inner, idle, first, again, transacting, Task, counting, ticks}
 use Rattle.model.specs.Transaction.{bank, block_of, first_read, access_tick, again_read, command_tick, transaction_tick}

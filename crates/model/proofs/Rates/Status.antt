@@ -33,7 +33,7 @@ module _ (p q : ℕ) (ne : q ≢ p) where
   decided_stays {m} (commits e) h = own-stays m 2 h
   decided_stays (refuses d) h = h
 
-  cleaned-stays : {m n : Memory} {x : Exchange} {j : ℕ} {yes? : Bool} → Cleans p m x j yes? n → status_of m q ≡ 1 → status_of n q ≡ 1
+  cleaned-stays : {m : Memory} {x : Exchange} {j : ℕ} {n : Memory} {yes? : Bool} → Cleans p m x j yes? n → status_of m q ≡ 1 → status_of n q ≡ 1
   cleaned-stays (renews s e f) h = h
   cleaned-stays (passes s e f) h = h
   cleaned-stays (gives_back s e f) h = h

@@ -1,8 +1,7 @@
 -- The ticks that a task has used, as the T line gives them, are its own ticks of the whole run.
-use Prim.Native.Nat.{ℕ, zero, suc, ◌-◌}
+use Prim.Native.Nat.{ℕ, zero, suc}
 use mathlib.Core.Path.{◌≡◌, refl, sym, ◌∙◌, ap}
 use native.Mathlib.Omega.{arith}
-use Rattle.model.specs.Lists.{at}
 use Rattle.model.specs.Sheet.{Sheet}
 use Rattle.model.specs.Job.{Counts, counting, ticks}
 use Rattle.model.specs.Machine.{no_task, task_at, Running, nobody, running, move, statement}

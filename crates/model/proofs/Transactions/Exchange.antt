@@ -25,7 +25,7 @@ module _ (p : ℕ) (m : Memory) (x : Exchange) where
       → Seen p m x (goes n y)
   before s e ne y st = goes_on (y ∙ ap said_yes (sym e)) (rw e ne) st
 
-  cleaned-step : {n : Memory} {j : ℕ} {yes? : Bool} → Cleans p m x j yes? n
+  cleaned-step : {j : ℕ} {n : Memory} {yes? : Bool} → Cleans p m x j yes? n
       → (yes? ≡ said_yes x.step) × says_yes p m x.step ≡ false × (n.stores ≡ m.stores)
   cleaned-step (renews e f g) = (rw e, rw e, refl)
   cleaned-step (passes e f g) = (rw e, rw e, refl)

@@ -1,15 +1,14 @@
 -- A sheet is accepted exactly when it is well formed.
 use Prim.Native.Nat.{ℕ}
-use mathlib.Core.Path.{◌≡◌, refl, sym, ap, ◌∙◌}
+use mathlib.Core.Path.{◌≡◌, refl, ap, ◌∙◌}
 use mathlib.Core.Logic.{◌↔◌}
 use mathlib.Core.List.{List, [], ◌∷◌, ◌++◌}
 use mathlib.Core.Option.{none}
-use lib.ListN.{length}
 use Rattle.model.specs.Command.{Command, END}
-use Rattle.model.specs.Fault.{Known, nothing_known, fault_of}
-use Rattle.model.specs.Sheet.{after, end?, accepted, verdict, commands_at}
+use Rattle.model.specs.Fault.{Known, fault_of}
+use Rattle.model.specs.Sheet.{accepted, verdict, commands_at}
 use Rattle.model.specs.Encoding.{encode_all, ValuesFit}
-use Rattle.model.specs.WellFormed.{commands_of, WellFormed}
+use Rattle.model.specs.WellFormed.{WellFormed}
 use Rattle.model.proofs.Fit.Reading.{Good, ending, going, good}
 use Rattle.model.proofs.Encoding.Numbers.{Bytes}
 use Rattle.model.proofs.Encoding.Commands.{found_fits}
