@@ -1,3 +1,5 @@
+#![tactic(auto)]
+
 // A word packed into a number; the two arrays of a run by named parts (shared, task), and total accessors for a part: past its end an
 // element reads 0 and a store does nothing.
 ghost use Rattle.std.specs.Prelude.{◌≡◌, ◌+◌, ◌*◌, ◌≤◌, length};
