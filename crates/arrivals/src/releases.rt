@@ -7,7 +7,7 @@ use commands::ceilings::SheetCeilings;
 use commands::{Command, Decoded};
 
 // The next release, decoded once: whether there is one, its tick and task, and the place after it.
-#[derive(Drop)]
+#[derive(Clone, Copy)]
 pub struct Pending {
     pub some: bool,
     pub tick: u32,
@@ -19,7 +19,7 @@ pub struct Pending {
 pub const NOBODY: u8 = SheetCeilings::TASKS;
 
 // The next release at a tick: none, one of a later tick, or one due now, with its task and the place where the next one stands.
-#[derive(Drop)]
+#[derive(Clone, Copy)]
 pub enum Coming {
     Nothing,
     Later,

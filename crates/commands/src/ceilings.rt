@@ -1,5 +1,5 @@
 // Document 01's ceilings and operand ranges, once for all code: of what a sheet declares, of a task's commands, and of a run.
-#[derive(Drop)]
+#[derive(Clone, Copy)]
 pub struct SheetCeilings;
 
 impl SheetCeilings {
@@ -22,7 +22,7 @@ impl SheetCeilings {
     pub const BLOCK_VALUES: usize = 8;
 }
 
-#[derive(Drop)]
+#[derive(Clone, Copy)]
 pub struct TaskCeilings;
 
 impl TaskCeilings {
@@ -43,7 +43,7 @@ impl TaskCeilings {
     pub const LAST_OFFSET: u8 = 7;
 }
 
-#[derive(Drop)]
+#[derive(Clone, Copy)]
 pub struct RunCeilings;
 
 impl RunCeilings {

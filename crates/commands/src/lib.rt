@@ -1,3 +1,5 @@
+#![tactic(auto)]
+
 // The commands of the run sheet, and the command at a place of a lent sheet.
 ghost use Rattle.std.specs.Prelude.{◌≡◌, suc, ◌+◌, ◌≤◌, length, get_or};
 ghost use Rattle.model.specs.Command.{big_endian, command_at};
@@ -12,20 +14,20 @@ pub mod ceilings;
 pub mod table;
 
 // The tick has 32 bits, though two bytes hold it: so the operands of all commands lie at one place of the enum.
-#[derive(Drop)]
+#[derive(Clone, Copy)]
 pub struct Release {
     pub tick: u32,
     pub task: u8,
 }
 
-#[derive(Drop)]
+#[derive(Clone, Copy)]
 pub enum Access {
     Get { register: u8, block: u8, offset: u8 },
     Put { block: u8, offset: u8, register: u8 },
 }
 
 // What stands only outside a transaction.
-#[derive(Drop)]
+#[derive(Clone, Copy)]
 pub enum Outside {
     Read { register: u8, word: u8 },
     Pair { word: u8, old: u8, new: u8 },
@@ -34,14 +36,14 @@ pub enum Outside {
 }
 
 // What stands only inside one.
-#[derive(Drop)]
+#[derive(Clone, Copy)]
 pub enum Inside {
     Access(Access),
     Commit,
 }
 
 // What stands only in a body.
-#[derive(Drop)]
+#[derive(Clone, Copy)]
 pub enum BodyCommand {
     Load { register: u8, value: u32 },
     Add { register: u8, other: u8 },
@@ -50,7 +52,7 @@ pub enum BodyCommand {
 }
 
 // BLOCK carries its version; `values` gives its eight values in an array beside it.
-#[derive(Drop)]
+#[derive(Clone, Copy)]
 pub enum Command {
     Word(u32),
     Block(u32),
@@ -60,7 +62,7 @@ pub enum Command {
     Body(BodyCommand),
 }
 
-#[derive(Drop)]
+#[derive(Clone, Copy)]
 pub enum Refusal {
     NoCommand,
     CutShort,
@@ -75,21 +77,21 @@ pub enum Refusal {
     BufferFull,
 }
 
-#[derive(Drop)]
+#[derive(Clone, Copy)]
 pub struct Fault {
     pub refusal: Refusal,
     pub place: usize,
 }
 
 // The entry of a command whose operands all lie within the sheet, or the fault.
-#[derive(Drop)]
+#[derive(Clone, Copy)]
 pub enum Whole {
     By(Entry),
     Refused(Fault),
 }
 
 // A command and the place after it, or the fault.
-#[derive(Drop)]
+#[derive(Clone, Copy)]
 pub enum Decoded {
     Got(Command, usize),
     Refused(Fault),

@@ -3,7 +3,7 @@ ghost use Rattle.std.specs.Prelude.{◌≡◌, ◌≤◌, length, drop};
 ghost use Rattle.commands.specs.Table.{entries, entry_in, entry_of};
 
 // A command byte, and how many operand bytes follow it.
-#[derive(Drop)]
+#[derive(Clone, Copy)]
 pub struct Entry {
     pub byte: u8,
     pub width: u8,
@@ -72,7 +72,7 @@ pub const TABLE: [Entry; 14] = [
 const FIRST_BODY_ENTRY: usize = 5;
 
 // What names a byte's command: its entry, or nothing.
-#[derive(Drop)]
+#[derive(Clone, Copy)]
 pub enum Named {
     By(Entry),
     Nothing,

@@ -13,7 +13,7 @@ use sheet::check::is_end;
 use sheet::learned;
 
 // What the last call left beside the buffer: what the reader knows after the filled part, its length, and whether END is taken.
-#[derive(Drop)]
+#[derive(Clone, Copy)]
 pub struct BuilderState {
     pub known: Known,
     pub filled: usize,
@@ -21,7 +21,7 @@ pub struct BuilderState {
 }
 
 // 0 and the length then filled, or the number and place of a refusal; the state for the next call.
-#[derive(Drop)]
+#[derive(Clone, Copy)]
 pub struct Composed {
     pub number: u8,
     pub place: usize,

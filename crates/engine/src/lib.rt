@@ -14,7 +14,7 @@ use start::Counts;
 mod exports;
 
 // Document 01's number of the refusal, 0 if there is none, and its place; of a run that is not turned down, the report's length.
-#[derive(Drop)]
+#[derive(Clone, Copy)]
 pub struct Answer {
     pub number: u8,
     pub place: usize,

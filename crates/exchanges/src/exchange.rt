@@ -8,7 +8,7 @@ ghost use Rattle.exchanges.specs.Exchange.{after_start, after_test, after_load, 
 use crate::{places, read};
 use state::{Memory, Task, Word, shared, task};
 
-#[derive(Drop)]
+#[derive(Clone, Copy)]
 pub enum Step {
     Start,
     Test(u8),
@@ -25,13 +25,13 @@ pub enum Step {
 }
 
 // The value found for entry i: Save is next.
-#[derive(Drop)]
+#[derive(Clone, Copy)]
 pub struct Found {
     pub i: u8,
     pub value: u32,
 }
 
-#[derive(Drop)]
+#[derive(Clone, Copy)]
 pub enum Exchanged {
     Goes(Step),
     Finds(Found),

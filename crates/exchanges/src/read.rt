@@ -6,14 +6,14 @@ ghost use Rattle.exchanges.specs.Reading.{owned, saved_for, current_in, after_lo
 use crate::places;
 use state::{Memory, shared};
 
-#[derive(Drop)]
+#[derive(Clone, Copy)]
 pub enum Reading {
     Load,
     Look(u64),
     Fetch(u64),
 }
 
-#[derive(Drop)]
+#[derive(Clone, Copy)]
 pub enum Read {
     Reads(Reading),
     Gives(u32),

@@ -12,7 +12,7 @@ use state::{Task, Word, task};
 
 // The inner step of a transaction: between inner steps; in the first reading of a bank word; after n copied values;
 // in the second reading, with the value that GET fetched; in the exchange of COMMIT.
-#[derive(Drop)]
+#[derive(Clone, Copy)]
 pub enum Inner {
     Between,
     First(Access, Reading),
@@ -22,7 +22,7 @@ pub enum Inner {
 }
 
 // In a read: its register and word; in an exchange: the register for the answer.
-#[derive(Drop)]
+#[derive(Clone, Copy)]
 pub enum Phase {
     Idle,
     Plain,
@@ -32,7 +32,7 @@ pub enum Phase {
 }
 
 // The line at work and the one after BEGIN; the value that an exchange found last; the waiting PAIRs; the used copy slots.
-#[derive(Drop)]
+#[derive(Clone, Copy)]
 pub struct Job {
     pub phase: Phase,
     pub at: usize,

@@ -21,7 +21,7 @@ const COMMANDS: usize = SheetCeilings::COMMANDS as usize;
 
 // A run between two ticks: the jobs, the mask of unfinished ones, how many releases wait behind each, the task whose job has ended with one
 // waiting, or NOBODY, the place of the next release and the ticks done.
-#[derive(Drop)]
+#[derive(Clone, Copy)]
 pub struct Paused {
     pub jobs: [Job; TASKS],
     pub mask: u32,

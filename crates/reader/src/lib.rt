@@ -6,7 +6,7 @@ ghost use Rattle.reader.specs.Handed.{HandsOut, after, moved};
 
 use commands::Decoded;
 
-#[derive(Drop)]
+#[derive(Clone, Copy)]
 pub struct Reader<'a> {
     pub sheet: &'a [u8],
     pub at: usize,

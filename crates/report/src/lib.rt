@@ -33,7 +33,7 @@ const REGISTERS: usize = TaskCeilings::REGISTERS as usize;
 const SHOWN: usize = 5;
 
 // How many words, blocks and tasks the sheet declares, and the ticks done.
-#[derive(Drop)]
+#[derive(Clone, Copy)]
 pub struct Totals {
     pub words: usize,
     pub blocks: usize,

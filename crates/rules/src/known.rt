@@ -7,7 +7,7 @@ ghost use Rattle.rules.specs.View.{view_numbers, view_body, view_known};
 use commands::Release;
 use commands::ceilings::TaskCeilings;
 
-#[derive(Drop)]
+#[derive(Clone, Copy)]
 pub enum Section {
     Words,
     Blocks,
@@ -15,7 +15,7 @@ pub enum Section {
     Releases,
 }
 
-#[derive(Drop)]
+#[derive(Clone, Copy)]
 pub struct SheetCounts {
     pub words: u8,
     pub blocks: u8,
@@ -25,7 +25,7 @@ pub struct SheetCounts {
 }
 
 // As many numbers as a task may name of one kind: the first `count` of the array.
-#[derive(Drop)]
+#[derive(Clone, Copy)]
 pub struct Numbers {
     pub values: [u8; TaskCeilings::TOUCHED],
     pub count: usize,
@@ -33,7 +33,7 @@ pub struct Numbers {
 
 // The task whose body is open: whether the body is empty, the words of the waiting PAIRs, whether a transaction is open, the
 // different blocks it names, and those it PUTs.
-#[derive(Drop)]
+#[derive(Clone, Copy)]
 pub struct Task {
     pub empty: bool,
     pub pairs: Numbers,
@@ -42,7 +42,7 @@ pub struct Task {
     pub puts: Numbers,
 }
 
-#[derive(Drop)]
+#[derive(Clone, Copy)]
 pub struct Known {
     pub section: Section,
     pub counts: SheetCounts,

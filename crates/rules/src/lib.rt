@@ -15,7 +15,7 @@ pub mod known;
 pub mod place;
 
 // The first rule that a command breaks.
-#[derive(Drop)]
+#[derive(Clone, Copy)]
 pub enum Flaw {
     None,
     Some(Refusal),

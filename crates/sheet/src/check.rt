@@ -10,14 +10,14 @@ use commands::{Command, Fault, Refusal};
 use rules::Flaw;
 use rules::known::Known;
 
-#[derive(Drop)]
+#[derive(Clone, Copy)]
 pub enum Verdict {
     Accepted,
     TurnedDown(Fault),
 }
 
 // A command either ends the reading or not.
-#[derive(Drop)]
+#[derive(Clone, Copy)]
 pub enum Judged {
     Stops(Verdict),
     Goes,

@@ -9,7 +9,7 @@ ghost use Rattle.sheet.specs.Indexed.{Indexed, Room, counted, place_or, empty_in
 use commands::ceilings::SheetCeilings;
 use commands::{Command, Decoded};
 
-#[derive(Drop)]
+#[derive(Clone, Copy)]
 pub struct Sheet {
     pub words: u8,
     pub blocks: u8,

@@ -17,7 +17,7 @@ use sheet::check::{Judged, Verdict, judge};
 use sheet::learned;
 
 // What is known before the next command, and whether a verdict has ended the reading.
-#[derive(Drop)]
+#[derive(Clone, Copy)]
 pub struct Reading {
     pub known: Known,
     pub judged: Judged,

@@ -23,7 +23,7 @@ const TASKS: usize = SheetCeilings::TASKS as usize;
 const COPIES: usize = 4;
 
 // How many words, blocks and tasks the sheet declares.
-#[derive(Drop)]
+#[derive(Clone, Copy)]
 pub struct Counts {
     pub words: usize,
     pub blocks: usize,

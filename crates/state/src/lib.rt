@@ -15,7 +15,7 @@ pub type Task = [u32; 109];
 pub mod shared;
 pub mod task;
 
-#[derive(Drop)]
+#[derive(Clone, Copy)]
 pub struct Word {
     pub value: u32,
     pub count: u8,

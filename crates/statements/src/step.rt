@@ -11,7 +11,7 @@ use state::{Memory, Task};
 use transactions::{accesses, commits};
 
 // Whether a job is at a step of an exchange, of SWAP or of COMMIT.
-#[derive(Drop)]
+#[derive(Clone, Copy)]
 pub enum Exchanging {
     At(Step),
     No,

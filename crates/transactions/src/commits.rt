@@ -60,7 +60,7 @@ fn either(a: bool, b: bool) -> bool
 }
 
 // How many passes gathered the entries, one each; whether a PUT block is at the last version.
-#[derive(Drop)]
+#[derive(Clone, Copy)]
 pub struct Gathered {
     pub passes: u8,
     pub spent: bool,
