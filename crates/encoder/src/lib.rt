@@ -1,3 +1,5 @@
+#![tactic(auto)]
+
 // The bytes of a command, written at a place of a buffer that has room for them: its byte, and its operands as wide as the table says.
 ghost use Rattle.std.specs.Prelude.{◌≡◌, [], ◌++◌, ◌+◌, ◌*◌, ◌≤◌, length};
 ghost use Rattle.std.proofs.lemmas.List.Edits.{sets};

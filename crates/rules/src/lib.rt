@@ -1,3 +1,5 @@
+#![tactic(auto)]
+
 // The fault of a command, by what is known when it is read: one function for each rule, and the lowest number of those broken.
 ghost use Rattle.std.specs.Prelude.{◌≡◌, ◌&&◌, ◌||◌, [], ◌≤◌};
 ghost use Rattle.model.specs.Ceilings.{max_touched};

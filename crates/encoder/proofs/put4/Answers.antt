@@ -1,0 +1,20 @@
+-- `put4` meets its contract.
+use Prim.Native.Nat.{◌/◌, ◌%◌}
+use lib.ListN.{length-set}
+use Rattle.encoder.proofs.Stores.{stored-four}
+use borrow.Author.Rules.{rules}
+use Rattle.encoder.proofs.put4.Goals as goal
+
+pub bounds-buffer-at-2 : goal.bounds-buffer-at-2
+bounds-buffer-at-2 c = simp length-set (search rules)
+
+pub bounds-buffer-at-3 : goal.bounds-buffer-at-3
+bounds-buffer-at-3 c = simp length-set (search rules)
+
+pub bounds-buffer-at-4 : goal.bounds-buffer-at-4
+bounds-buffer-at-4 c = simp length-set (search rules)
+
+pub returns : goal.returns
+returns c =
+    stored-four c.args.buffer.now c.args.at (c.args.value / 256 / 256 / 256 % 256) (c.args.value / 256 / 256 % 256) (c.args.value / 256 % 256)
+    (c.args.value % 256)

@@ -1,0 +1,6 @@
+-- `installed` meets its contract.
+use Rattle.std.proofs.Common.{rules}
+use Rattle.exchanges.proofs.exchange.installed.Goals as goal
+
+pub returns : goal.returns
+returns c = cc

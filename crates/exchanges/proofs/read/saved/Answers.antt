@@ -1,0 +1,6 @@
+-- `saved` meets its contract.
+use Rattle.std.proofs.Common.{rules}
+use Rattle.exchanges.proofs.read.saved.Goals as goal
+
+pub returns : goal.returns
+returns c = cc
