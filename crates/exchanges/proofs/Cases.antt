@@ -9,7 +9,7 @@ use Rattle.exchanges.specs.Exchange.{after_start}
 use Rattle.exchanges.specs.Exchange.{after_save, after_install, after_commit, after_clean, after_exchange}
 use Rattle.exchanges.specs.declared.read.Reading.TheVariants as reading
 use Rattle.exchanges.specs.declared.read.Read.TheVariants.{Reads, Gives}
-use Rattle.exchanges.specs.declared.exchange.Step.TheVariants.{Test, Fetch, Fail, Mark, Install, Clean, CleanMark, Start}
+use Rattle.exchanges.specs.declared.exchange.Step.TheVariants.{Test, Fail, Mark, Install, Clean, CleanMark, Start}
 use Rattle.exchanges.specs.declared.exchange.Exchanged.TheVariants.{Goes, Ends}
 
 -- two cells; tasks 0 and 1; task 0 has saved 5 for its first pair

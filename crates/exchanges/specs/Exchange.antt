@@ -8,7 +8,6 @@ use Rattle.exchanges.specs.Reading.{owned, saved_for}
 use Rattle.exchanges.specs.declared.exchange.Step.{Step}
 use Rattle.exchanges.specs.declared.exchange.Step.TheVariants.{Start, Test, Load, Look, Fetch, Save, Fail}
 use Rattle.exchanges.specs.declared.exchange.Step.TheVariants.{Mark, Install, Commit, Clean, CleanMark}
-use Rattle.exchanges.specs.declared.exchange.Found.{Found}
 use Rattle.exchanges.specs.declared.exchange.Exchanged.{Exchanged}
 use Rattle.exchanges.specs.declared.exchange.Exchanged.TheVariants.{Goes, Finds, Ends}
 

@@ -1,5 +1,5 @@
 -- What a tick of READ leaves, over the shared memory.
-use Rattle.std.specs.Prelude.{ℕ, ◌+◌, ◌*◌, Bool, true, false, ◌||◌, ◌==◌}
+use Rattle.std.specs.Prelude.{ℕ, ◌+◌, ◌*◌, Bool, ◌||◌, ◌==◌}
 use Rattle.model.specs.Lists.{at}
 use Rattle.state.specs.Packed.{value_of, count_of, valid_of, task_of}
 use Rattle.state.specs.State.{Shared}

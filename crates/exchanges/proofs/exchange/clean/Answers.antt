@@ -1,6 +1,6 @@
 -- `clean` meets its contract.
 use Rattle.exchanges.specs.Exchange.{after_clean}
-use Rattle.std.proofs.Common.{sym, ◌∙◌, rules, eq-eqb, ne_eqb}
+use Rattle.std.proofs.Common.{sym, ◌∙◌, eq-eqb, ne_eqb}
 use Rattle.exchanges.proofs.exchange.clean.Goals as goal
 
 pub returns-then-mine : goal.returns-then-mine
@@ -13,7 +13,7 @@ returns-then-mine c = rw (
   ← c.old.ensures,
   sym
       c.as_new.ensures ∙ c.if-as_new.true,
-  c.if-mine.true,
+  eq-eqb _ _ c.if-mine.true,
   c.set_cell.ensures,
   c.pack-word.ensures,
   c.to_next.ensures,
@@ -28,7 +28,7 @@ returns-then-as_new c = rw (
   ← c.new-new.ensures,
   ← c.old.ensures,
   sym c.as_new.ensures ∙ c.if-as_new.true,
-  c.if-mine.false,
+  ne_eqb _ _ c.if-mine.false,
   c.to_next-then-as_new.ensures,
 )
 
@@ -42,7 +42,7 @@ returns-then-mine-2 c = rw (
   ← c.old.ensures,
   sym
       c.as_new.ensures ∙ c.if-as_new.false,
-  c.if-mine-2.true,
+  eq-eqb _ _ c.if-mine-2.true,
   ← c.init-word.ensures,
   c.set_cell-then-mine-2.ensures,
   c.to_next-then-mine-2.ensures,
@@ -58,7 +58,7 @@ returns-then-overlapped-eq0 c = rw (
   ← c.old.ensures,
   sym c.as_new.ensures
       ∙ c.if-as_new.false,
-  c.if-mine-2.false,
+  ne_eqb _ _ c.if-mine-2.false,
   ← c.overlapped.ensures,
   eq-eqb _ _ c.if-overlapped-eq0.true,
   c.to_next-then-overlapped-eq0.ensures,
@@ -74,7 +74,7 @@ returns c = rw (
   ← c.old.ensures,
   sym c.as_new.ensures
       ∙ c.if-as_new.false,
-  c.if-mine-2.false,
+  ne_eqb _ _ c.if-mine-2.false,
   ← c.overlapped.ensures,
   ne_eqb _ _ c.if-overlapped-eq0.false,
 )

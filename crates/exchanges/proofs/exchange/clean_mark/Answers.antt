@@ -1,6 +1,5 @@
 -- `clean_mark` meets its contract.
 use Rattle.exchanges.specs.Exchange.{after_clean_mark}
-use Rattle.std.proofs.Common.{rules}
 use Rattle.exchanges.proofs.exchange.clean_mark.Goals as goal
 
 pub returns : goal.returns

@@ -1,6 +1,6 @@
 -- `commit` meets its contract.
 use Rattle.exchanges.specs.Exchange.{after_commit}
-use Rattle.std.proofs.Common.{rules, eq-eqb, ne_eqb}
+use Rattle.std.proofs.Common.{eq-eqb, ne_eqb}
 use Rattle.exchanges.proofs.exchange.commit.Goals as goal
 
 pub returns-then-status-eq0 : goal.returns-then-status-eq0

@@ -1,6 +1,6 @@
 -- `exchange_tick` meets its contract.
 use Rattle.exchanges.specs.Exchange.{goes_on, after_exchange}
-use Rattle.std.proofs.Common.{ap, rules}
+use Rattle.std.proofs.Common.{ap}
 use Rattle.exchanges.proofs.exchange.exchange_tick.Goals as goal
 
 pub returns-in-Start : goal.returns-in-Start

@@ -1,6 +1,5 @@
 -- `fail` meets its contract.
 use Rattle.exchanges.specs.Exchange.{after_fail}
-use Rattle.std.proofs.Common.{rules}
 use Rattle.exchanges.proofs.exchange.fail.Goals as goal
 
 pub returns : goal.returns

@@ -1,6 +1,5 @@
 -- `fetch` meets its contract.
 use Rattle.exchanges.specs.Exchange.{after_fetch}
-use Rattle.std.proofs.Common.{rules}
 use Rattle.exchanges.proofs.exchange.fetch.Goals as goal
 
 pub returns : goal.returns

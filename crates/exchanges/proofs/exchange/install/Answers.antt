@@ -1,7 +1,6 @@
 -- `install` meets its contract.
 use Rattle.exchanges.specs.Exchange.{after_install}
 use Rattle.exchanges.proofs.Tests.{when_equal, when_not}
-use Rattle.std.proofs.Common.{rules}
 use Rattle.exchanges.proofs.exchange.install.Goals as goal
 
 pub returns-then-cell-init : goal.returns-then-cell-init

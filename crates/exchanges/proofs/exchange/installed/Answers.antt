@@ -1,5 +1,4 @@
 -- `installed` meets its contract.
-use Rattle.std.proofs.Common.{rules}
 use Rattle.exchanges.proofs.exchange.installed.Goals as goal
 
 pub returns : goal.returns

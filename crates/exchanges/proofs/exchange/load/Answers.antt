@@ -1,6 +1,5 @@
 -- `load` meets its contract.
 use Rattle.exchanges.specs.Exchange.{after_load}
-use Rattle.std.proofs.Common.{rules}
 use Rattle.exchanges.proofs.exchange.load.Goals as goal
 
 pub returns : goal.returns

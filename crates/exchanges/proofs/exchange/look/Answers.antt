@@ -1,5 +1,5 @@
 -- `look` meets its contract.
-use Rattle.std.proofs.Common.{sym, ◌∙◌, rules}
+use Rattle.std.proofs.Common.{sym, ◌∙◌}
 use Rattle.exchanges.specs.Exchange.{after_look}
 use Rattle.exchanges.proofs.exchange.look.Goals as goal
 
@@ -9,7 +9,7 @@ returns-then-own c = rw (
   ← c.init-word.ensures,
   sym c.own.ensures
       ∙ c.if-own.true,
-  ← c.value_of_lem.ensures,
+  ← c.value_of-value.ensures,
   c.set_overlapped.ensures,
 )
 

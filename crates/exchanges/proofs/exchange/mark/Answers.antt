@@ -1,6 +1,5 @@
 -- `mark` meets its contract.
 use Rattle.exchanges.specs.Exchange.{after_mark}
-use Rattle.std.proofs.Common.{rules}
 use Rattle.exchanges.proofs.exchange.mark.Goals as goal
 
 pub returns : goal.returns

@@ -1,6 +1,5 @@
 -- `mark_task` meets its contract.
 use Rattle.exchanges.specs.Exchange.{marked}
-use Rattle.std.proofs.Common.{rules}
 use Rattle.exchanges.proofs.exchange.mark_task.Goals as goal
 
 pub returns : goal.returns

@@ -1,5 +1,5 @@
 -- `save` meets its contract.
-use Rattle.std.proofs.Common.{rules, eq-eqb, ne_eqb}
+use Rattle.std.proofs.Common.{eq-eqb, ne_eqb}
 use Rattle.exchanges.specs.Exchange.{after_save}
 use Rattle.exchanges.proofs.exchange.save.Goals as goal
 

@@ -1,6 +1,6 @@
 -- `test` meets its contract.
 use Rattle.exchanges.specs.Exchange.{after_test}
-use Rattle.std.proofs.Common.{rules, eq-eqb, ne_eqb}
+use Rattle.std.proofs.Common.{eq-eqb, ne_eqb}
 use Rattle.exchanges.proofs.exchange.test.Goals as goal
 
 pub returns-then-i-k : goal.returns-then-i-k

@@ -1,5 +1,5 @@
 -- `to_next` meets its contract.
-use Rattle.std.proofs.Common.{rules, eq-eqb, ne_eqb}
+use Rattle.std.proofs.Common.{eq-eqb, ne_eqb}
 use Rattle.exchanges.proofs.exchange.to_next.Goals as goal
 
 pub returns-then-n-i : goal.returns-then-n-i

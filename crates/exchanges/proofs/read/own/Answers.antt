@@ -1,6 +1,5 @@
 -- `own` meets its contract.
 use Rattle.exchanges.specs.Reading.{owned}
-use Rattle.std.proofs.Common.{rules}
 use Rattle.exchanges.proofs.read.own.Goals as goal
 
 pub returns-then-valid_of : goal.returns-then-valid_of

@@ -1,6 +1,5 @@
 -- `read_tick` meets its contract.
 use Rattle.exchanges.specs.Reading.{after_reading}
-use Rattle.std.proofs.Common.{rules}
 use Rattle.exchanges.proofs.read.read_tick.Goals as goal
 
 pub returns-in-Load : goal.returns-in-Load

@@ -1,5 +1,4 @@
 -- `saved` meets its contract.
-use Rattle.std.proofs.Common.{rules}
 use Rattle.exchanges.proofs.read.saved.Goals as goal
 
 pub returns : goal.returns
