@@ -37,8 +37,8 @@ TOGETHER = [
 
 
 def snake(word):
-    """camelCase to snake_case; a word that begins with a capital stays."""
-    if not re.match(r"[a-z]", word) or not re.search(r"[A-Z]", word):
+    """camelCase to snake_case; a word that begins with a capital stays, and so does a byte of Rust's, as b'W'."""
+    if not re.match(r"[a-z](?!')", word) or not re.search(r"[A-Z]", word):
         return word
     word = re.sub(r"([a-z0-9])([A-Z])", r"\1_\2", word)
     return re.sub(r"([A-Z])([A-Z][a-z])", r"\1_\2", word).lower()

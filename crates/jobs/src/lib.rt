@@ -1,3 +1,5 @@
+#![tactic(auto)]
+
 // A task's job: idle, in a plain command, in a read, in an exchange or in a transaction, each with its next step.
 ghost use Rattle.std.specs.Prelude.{◌≡◌};
 ghost use Rattle.state.specs.State.{own};

@@ -1,3 +1,5 @@
+#![tactic(auto)]
+
 // The report of a finished run, in the caller's buffer. The same code first finds the report's length and then writes it.
 mod text;
 
@@ -59,7 +61,7 @@ fn word_lines(buffer: &mut [u8], place: usize, memory: &Memory, words: usize) ->
     let mut w = 0;
     while w < words {
         let value = contents(memory, w);
-        next = text::pair_line(&mut *buffer, next, b'w', w as u32, value);
+        next = text::pair_line(&mut *buffer, next, b'W', w as u32, value);
         w += 1;
     }
     next
@@ -83,7 +85,7 @@ fn block_line(buffer: &mut [u8], place: usize, memory: &Memory, block: usize) ->
     ensures { Written 112 (block_line (memory_of (shared memory.now)) block) buffer.old buffer.new place result }
 {
     let bank = contents(memory, WORDS + block);
-    let middle = text::head(&mut *buffer, place, b'b', block as u32);
+    let middle = text::head(&mut *buffer, place, b'B', block as u32);
     let next = text::field(&mut *buffer, middle, bank / 256);
     store_fields(&mut *buffer, next, memory, bank % 256)
 }
@@ -108,9 +110,9 @@ fn task_line(buffer: &mut [u8], place: usize, tasks: &[Task; 8], p: usize) -> us
 {
     let task = &tasks[p];
     let counts = task::counts(task);
-    let next = text::row_line(&mut *buffer, place, b't', p as u32, counts, SHOWN);
+    let next = text::row_line(&mut *buffer, place, b'T', p as u32, counts, SHOWN);
     let registers = task::registers(task);
-    text::row_line(&mut *buffer, next, b'r', p as u32, registers, REGISTERS)
+    text::row_line(&mut *buffer, next, b'R', p as u32, registers, REGISTERS)
 }
 
 fn task_lines(buffer: &mut [u8], place: usize, tasks: &[Task; 8], count: usize) -> usize
@@ -145,7 +147,7 @@ fn write(buffer: &mut [u8], memory: &Memory, tasks: &[Task; 8], totals: Totals) 
     let after_words = word_lines(&mut *buffer, 0, memory, words);
     let after_blocks = block_lines(&mut *buffer, after_words, memory, blocks);
     let after_tasks = task_lines(&mut *buffer, after_blocks, tasks, count);
-    text::number_line(&mut *buffer, after_tasks, b'e', totals.now)
+    text::number_line(&mut *buffer, after_tasks, b'E', totals.now)
 }
 
 // The report's length. If the buffer is as long, the report stands at its start, and nothing else in it is changed; if not, nothing is.

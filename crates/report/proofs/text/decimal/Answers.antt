@@ -1,0 +1,10 @@
+-- The digits found are all that the number has.
+use borrow.Author.Rules.{rules}
+use Rattle.report.proofs.Writing.{to_the_end}
+use Rattle.report.proofs.text.decimal.Goals as goal
+
+pub returns : goal.returns
+returns c =
+    to_the_end c.digits-first.new.0
+    c.digits-first.result 10 c.copy.ensures
+    c.digits-first.ensures.1 (search rules) (search rules)

@@ -1,0 +1,7 @@
+-- A space, then the number.
+use borrow.Author.Rules.{rules}
+use Rattle.report.proofs.Writing.{then}
+use Rattle.report.proofs.text.field.Goals as goal
+
+pub returns : goal.returns
+returns c = then c.put-next.ensures c.decimal.ensures

@@ -1,0 +1,11 @@
+-- A letter, two numbers and the line's end.
+use borrow.Author.Rules.{rules}
+use Rattle.model.specs.Report.{fields}
+use Rattle.report.proofs.Writing.{then}
+use Rattle.report.proofs.text.pair_line.Goals as goal
+
+pub returns : goal.returns
+unfolding fields
+returns c =
+    then c.head-middle.ensures
+    (then c.field-end.ensures c.put.ensures)
