@@ -1,6 +1,5 @@
 -- `add` meets its contract.
 use Rattle.jobs.specs.Jobs.{added}
-use Rattle.std.proofs.Common.{rules}
 use Rattle.jobs.proofs.add.Goals as goal
 
 pub returns : goal.returns
@@ -8,6 +7,6 @@ unfolding added
 returns c = rw (
   ← c.register.ensures,
   ← c.register-2.ensures,
-  ← c.wrapping_add_u32-sum.ensures,
+  ← c.wrapping_add_u32-sum.ensures.value,
   c.set_register.ensures,
 )

@@ -1,5 +1,4 @@
 -- `done` meets its contract.
-use Rattle.std.proofs.Common.{rules}
 use Rattle.jobs.proofs.done.Goals as goal
 
 pub returns : goal.returns

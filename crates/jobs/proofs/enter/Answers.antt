@@ -1,6 +1,5 @@
 -- `enter` meets its contract.
 use Rattle.jobs.specs.Jobs.{entered_in}
-use Rattle.std.proofs.Common.{rules}
 use Rattle.jobs.proofs.enter.Goals as goal
 
 pub returns : goal.returns

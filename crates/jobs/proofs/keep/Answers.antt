@@ -1,7 +1,6 @@
 -- `keep` meets its contract.
-use Rattle.std.proofs.Common.{◌≡◌, ℕ, ◌+◌, ◌-◌, ◌≤◌, refl, add-one, arith, rules}
-use Rattle.state.specs.State.{own}
-use Rattle.jobs.specs.Jobs.{copied, keeping}
+use Rattle.std.proofs.Common.{◌≡◌, refl, add-one, arith, rules}
+use Rattle.jobs.specs.Jobs.{copied}
 use Rattle.jobs.proofs.keep.Goals as goal
 
 pub loop-n-init : goal.loop-n-init

@@ -1,7 +1,7 @@
 -- `keep` meets its contract.
-use Rattle.std.proofs.Common.{◌≡◌, ℕ, ◌+◌, ◌-◌, ◌≤◌, refl, add-one, arith, rules}
+use Rattle.std.proofs.Common.{◌≡◌, ◌-◌, ◌≤◌}
 use Rattle.state.specs.State.{own}
-use Rattle.jobs.specs.Jobs.{copied, keeping}
+use Rattle.jobs.specs.Jobs.{keeping}
 use Rattle.jobs.proofs.keep.Given as goal
 
 abbrev pub invariant-loop-n : goal.invariant-loop-n

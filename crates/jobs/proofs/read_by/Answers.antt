@@ -1,6 +1,5 @@
 -- `read_by` meets its contract.
 use Rattle.jobs.specs.Jobs.{read_by}
-use Rattle.std.proofs.Common.{rules}
 use Rattle.jobs.proofs.read_by.Goals as goal
 
 pub returns-in-Reads : goal.returns-in-Reads

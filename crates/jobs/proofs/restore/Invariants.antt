@@ -1,7 +1,7 @@
 -- `restore` meets its contract.
-use Rattle.std.proofs.Common.{◌≡◌, ℕ, ◌+◌, ◌-◌, ◌≤◌, refl, add-one, arith, rules}
+use Rattle.std.proofs.Common.{◌≡◌, ◌-◌, ◌≤◌}
 use Rattle.state.specs.State.{own}
-use Rattle.jobs.specs.Jobs.{copied, restoring}
+use Rattle.jobs.specs.Jobs.{restoring}
 use Rattle.jobs.proofs.restore.Given as goal
 
 abbrev pub invariant-loop-n : goal.invariant-loop-n

@@ -1,6 +1,5 @@
 -- `swap_by` meets its contract.
 use Rattle.jobs.specs.Jobs.{swap_by}
-use Rattle.std.proofs.Common.{rules}
 use Rattle.jobs.proofs.swap_by.Goals as goal
 
 pub returns-in-Goes : goal.returns-in-Goes

@@ -92,7 +92,7 @@ timely_fewer t c p m (exchanging r x) a e h =
     let z : swap_of (pairs_of x) ≡ a = cc in rw (← z, ← h.pairs, length-map h.entries pair_of) (exchange-ends h.ran)
 timely_fewer t c p m (transacting x s) a e h = let z : transaction_of x.kept (until_commit x.commands) ≡ a = cc in rw (← z) tt
 
--- TASK p's OWN STATEMENT, which did d: it is in time afterwards, and if its operation ends, that took what it may
+-- TASK p'S OWN STATEMENT, which did d: it is in time afterwards, and if its operation ends, that took what it may
 pub record TimelyNext (g : Option Arguments) (d : Deed) (t : ℕ) (c : Tally) (p : ℕ) (m : Memory) (f : Phase) : Type 0 where
   pub inside : Timely t c p m f
   pub ended : given f ≡ none → (u : ℕ) (o : Operation) → RateBy g (amended (event_of u d) o).answers t c

@@ -1,13 +1,11 @@
 -- The B lines. The invariant: those of the blocks below `b` are written.
-use Prim.Native.Nat.{◌*◌, ◌≤◌, ◌-◌}
 use mathlib.Core.Path.{refl}
 use native.Mathlib.Omega.{arith}
 use borrow.Author.Rules.{rules}
-use Rattle.model.specs.Report.{lines, block_line}
+use Rattle.model.specs.Report.{block_line}
 use Rattle.state.specs.State.{shared}
 use Rattle.state.specs.Held.{memory_of}
-use Rattle.report.specs.Writing.{Written}
-use Rattle.report.proofs.Writing.{no_lines, line_more, all_lines, same_size}
+use Rattle.report.proofs.Writing.{no_lines, line_more, all_lines}
 use Rattle.report.proofs.block_lines.Goals as goal
 
 pub loop-b-init : goal.loop-b-init
@@ -19,9 +17,6 @@ block_line-next-requires c = omega (arith, c.loop-b.invariant.1.room, c.requires
 pub loop-b-preserved : goal.loop-b-preserved
 loop-b-preserved c = let m = memory_of (shared c.args.memory.now) in
     (search rules, line_more (block_line m) refl c.loop-b.invariant.1 c.block_line-next.ensures)
-
-pub LOST-same-length : goal.LOST-same-length
-LOST-same-length c = same_size c.loop.invariant.1
 
 pub returns : goal.returns
 returns c = all_lines 112 _ _ _ c.loop-b.invariant.0 c.loop-b-test.false c.loop-b.invariant.1

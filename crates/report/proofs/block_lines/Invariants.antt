@@ -1,13 +1,9 @@
 -- The B lines. The invariant: those of the blocks below `b` are written.
 use Prim.Native.Nat.{◌*◌, ◌≤◌, ◌-◌}
-use mathlib.Core.Path.{refl}
-use native.Mathlib.Omega.{arith}
-use borrow.Author.Rules.{rules}
 use Rattle.model.specs.Report.{lines, block_line}
 use Rattle.state.specs.State.{shared}
 use Rattle.state.specs.Held.{memory_of}
 use Rattle.report.specs.Writing.{Written}
-use Rattle.report.proofs.Writing.{no_lines, line_more, all_lines, same_size}
 use Rattle.report.proofs.block_lines.Given as goal
 
 abbrev pub invariant-loop-b : goal.invariant-loop-b

@@ -1,5 +1,4 @@
 -- The first round changes nothing and finds the length; the second writes only where the report fits.
-use borrow.Author.Rules.{rules}
 use Rattle.report.proofs.Whole.{long_enough, too_short}
 use Rattle.report.proofs.report.Goals as goal
 

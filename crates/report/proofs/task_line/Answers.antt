@@ -1,6 +1,5 @@
 -- A T line with the first counts, then an R line with the registers.
 use native.Mathlib.Omega.{arith}
-use borrow.Author.Rules.{rules}
 use Rattle.report.proofs.Views.{task-text}
 use Rattle.report.proofs.task_line.Goals as goal
 

@@ -1,14 +1,11 @@
 -- The T and R lines. The invariant: those of the tasks below `p` are written.
-use Prim.Native.Nat.{◌*◌, ◌≤◌, ◌-◌}
 use mathlib.Core.Path.{refl}
 use mathlib.Core.List.{map}
 use native.Mathlib.Omega.{arith}
 use borrow.Author.Rules.{rules}
-use Rattle.model.specs.Report.{lines}
 use Rattle.state.specs.State.{own}
-use Rattle.report.specs.Writing.{Written}
 use Rattle.report.specs.Text.{task_lines_of, task_most}
-use Rattle.report.proofs.Writing.{no_lines, line_more, all_lines, same_size}
+use Rattle.report.proofs.Writing.{no_lines, line_more, all_lines}
 use Rattle.report.proofs.task_lines.Goals as goal
 
 pub loop-p-init : goal.loop-p-init
@@ -20,9 +17,6 @@ task_line-next-requires c = omega (arith, c.loop-p.invariant.1.room, c.requires)
 pub loop-p-preserved : goal.loop-p-preserved
 loop-p-preserved c = let ts = map own c.args.tasks.now in
     (search rules, line_more (task_lines_of ts) refl c.loop-p.invariant.1 c.task_line-next.ensures)
-
-pub LOST-same-length : goal.LOST-same-length
-LOST-same-length c = same_size c.loop.invariant.1
 
 pub returns : goal.returns
 returns c = all_lines task_most _ _ _ c.loop-p.invariant.0 c.loop-p-test.false c.loop-p.invariant.1

@@ -1,14 +1,10 @@
 -- The T and R lines. The invariant: those of the tasks below `p` are written.
 use Prim.Native.Nat.{◌*◌, ◌≤◌, ◌-◌}
-use mathlib.Core.Path.{refl}
 use mathlib.Core.List.{map}
-use native.Mathlib.Omega.{arith}
-use borrow.Author.Rules.{rules}
 use Rattle.model.specs.Report.{lines}
 use Rattle.state.specs.State.{own}
 use Rattle.report.specs.Writing.{Written}
 use Rattle.report.specs.Text.{task_lines_of, task_most}
-use Rattle.report.proofs.Writing.{no_lines, line_more, all_lines, same_size}
 use Rattle.report.proofs.task_lines.Given as goal
 
 abbrev pub invariant-loop-p : goal.invariant-loop-p

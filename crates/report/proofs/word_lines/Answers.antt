@@ -1,13 +1,11 @@
 -- The W lines. The invariant: those of the words below `w` are written.
-use Prim.Native.Nat.{◌*◌, ◌≤◌, ◌-◌}
 use native.Mathlib.Omega.{arith}
 use borrow.Author.Rules.{rules}
-use Rattle.model.specs.Report.{lines, word_line}
+use Rattle.model.specs.Report.{word_line}
 use Rattle.state.specs.State.{shared}
 use Rattle.state.specs.Held.{memory_of}
-use Rattle.report.specs.Writing.{Written}
 use Rattle.report.proofs.Views.{word-text}
-use Rattle.report.proofs.Writing.{no_lines, line_more, all_lines, same_size}
+use Rattle.report.proofs.Writing.{no_lines, line_more, all_lines}
 use Rattle.report.proofs.word_lines.Goals as goal
 
 pub loop-w-init : goal.loop-w-init
@@ -23,9 +21,6 @@ loop-w-preserved c = let m = memory_of (shared c.args.memory.now) in (
       c.contents-value.ensures) c.loop-w.invariant.1
       c.pair_line-next.ensures,
 )
-
-pub LOST-same-length : goal.LOST-same-length
-LOST-same-length c = same_size c.loop.invariant.1
 
 pub returns : goal.returns
 returns c = all_lines 24 _ _ _ c.loop-w.invariant.0 c.loop-w-test.false c.loop-w.invariant.1

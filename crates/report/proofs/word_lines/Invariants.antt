@@ -1,13 +1,9 @@
 -- The W lines. The invariant: those of the words below `w` are written.
 use Prim.Native.Nat.{◌*◌, ◌≤◌, ◌-◌}
-use native.Mathlib.Omega.{arith}
-use borrow.Author.Rules.{rules}
 use Rattle.model.specs.Report.{lines, word_line}
 use Rattle.state.specs.State.{shared}
 use Rattle.state.specs.Held.{memory_of}
 use Rattle.report.specs.Writing.{Written}
-use Rattle.report.proofs.Views.{word-text}
-use Rattle.report.proofs.Writing.{no_lines, line_more, all_lines, same_size}
 use Rattle.report.proofs.word_lines.Given as goal
 
 abbrev pub invariant-loop-w : goal.invariant-loop-w

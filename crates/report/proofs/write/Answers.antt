@@ -1,5 +1,4 @@
 -- All lines in their order, with no more of them than the ceilings allow.
-use borrow.Author.Rules.{rules}
 use Rattle.report.proofs.Whole.{whole}
 use Rattle.report.proofs.write.Goals as goal
 

@@ -1,10 +1,7 @@
 -- The bytes of a text, one after another. The invariant: the first `i` are written.
-use Prim.Native.Nat.{◌≤◌, ◌-◌}
 use native.Mathlib.Omega.{arith}
-use lib.ListN.{length, take}
 use borrow.Author.Rules.{rules}
-use Rattle.report.specs.Writing.{Written}
-use Rattle.report.proofs.Writing.{all-bytes, same_size, nothing, byte_more}
+use Rattle.report.proofs.Writing.{all-bytes, nothing, byte_more}
 use Rattle.report.proofs.text.copy.Goals as goal
 
 pub loop-i-init : goal.loop-i-init
@@ -19,9 +16,6 @@ loop-i-preserved c = (
   byte_more _ _ c.loop-i-test.true c.loop-i.invariant.1
       c.put-next.ensures,
 )
-
-pub LOST-same-length : goal.LOST-same-length
-LOST-same-length c = same_size c.loop.invariant.1
 
 pub returns : goal.returns
 returns c = all-bytes _ _ c.loop-i.invariant.0 c.loop-i-test.false c.loop-i.invariant.1

@@ -1,10 +1,7 @@
 -- The bytes of a text, one after another. The invariant: the first `i` are written.
 use Prim.Native.Nat.{◌≤◌, ◌-◌}
-use native.Mathlib.Omega.{arith}
 use lib.ListN.{length, take}
-use borrow.Author.Rules.{rules}
 use Rattle.report.specs.Writing.{Written}
-use Rattle.report.proofs.Writing.{all-bytes, same_size, nothing, byte_more}
 use Rattle.report.proofs.text.copy.Given as goal
 
 abbrev pub invariant-loop-i : goal.invariant-loop-i

@@ -5,6 +5,6 @@ use Rattle.report.proofs.text.decimal.Goals as goal
 
 pub returns : goal.returns
 returns c =
-    to_the_end c.digits-first.new.0
+    to_the_end c.digits-first.new.text
     c.digits-first.result 10 c.copy.ensures
     c.digits-first.ensures.1 (search rules) (search rules)

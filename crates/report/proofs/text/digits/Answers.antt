@@ -1,8 +1,6 @@
 -- The digits are stored from the last to the first. The invariant: those of `rest` are left; the measure is `rest`.
-use native.Mathlib.Omega.{arith}
-use lib.ListN.{length-set}
 use borrow.Author.Rules.{rules}
-use Rattle.report.proofs.Numerals.{Left, whole-number, further, stored_next, stored-first}
+use Rattle.report.proofs.Numerals.{whole-number, further, stored_next, stored-first}
 use Rattle.report.proofs.text.digits.Goals as goal
 
 pub loop-rest-init : goal.loop-rest-init
@@ -13,9 +11,6 @@ overflow_sub-first c = further c.loop-rest.invariant c.loop-rest-test.true
 
 pub loop-rest-preserved : goal.loop-rest-preserved
 loop-rest-preserved c = stored_next c.loop-rest.invariant c.loop-rest-test.true
-
-pub LOST-same-length : goal.LOST-same-length
-LOST-same-length c = simp length-set (omega (arith, c.loop.invariant.whole, c.requires))
 
 pub returns : goal.returns
 returns c = (c.loop-rest.invariant.inside, stored-first c.loop-rest.invariant c.loop-rest-test.false)

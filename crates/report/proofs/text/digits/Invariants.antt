@@ -1,8 +1,5 @@
 -- The digits are stored from the last to the first. The invariant: those of `rest` are left; the measure is `rest`.
-use native.Mathlib.Omega.{arith}
-use lib.ListN.{length-set}
-use borrow.Author.Rules.{rules}
-use Rattle.report.proofs.Numerals.{Left, whole-number, further, stored_next, stored-first}
+use Rattle.report.proofs.Numerals.{Left}
 use Rattle.report.proofs.text.digits.Given as goal
 
 abbrev pub invariant-loop-rest : goal.invariant-loop-rest

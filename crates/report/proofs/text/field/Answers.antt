@@ -1,5 +1,4 @@
 -- A space, then the number.
-use borrow.Author.Rules.{rules}
 use Rattle.report.proofs.Writing.{then}
 use Rattle.report.proofs.text.field.Goals as goal
 

@@ -1,11 +1,8 @@
 -- The numbers of a line and its end. The invariant: the first `i` are written.
-use Prim.Native.Nat.{◌*◌, ◌≤◌, ◌-◌}
-use mathlib.Core.Path.{refl, ◌∙◌}
+use mathlib.Core.Path.{refl}
 use native.Mathlib.Omega.{arith}
 use borrow.Author.Rules.{rules}
-use Rattle.model.specs.Report.{lines}
-use Rattle.report.specs.Writing.{Written}
-use Rattle.report.proofs.Writing.{no_lines, line_more, all-fields, same_size}
+use Rattle.report.proofs.Writing.{no_lines, line_more, all-fields}
 use Rattle.report.proofs.Lines.{field_of}
 use Rattle.report.proofs.text.fields.Goals as goal
 
@@ -24,9 +21,6 @@ loop-i-preserved c = let a = c.args in (
 
 pub put-requires : goal.put-requires
 put-requires c = omega (arith, c.loop-i.invariant.1.room, c.requires)
-
-pub LOST-same-length : goal.LOST-same-length
-LOST-same-length c = same_size c.put.ensures ∙ same_size c.loop.invariant.1
 
 pub returns : goal.returns
 returns c =

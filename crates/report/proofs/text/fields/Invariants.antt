@@ -1,11 +1,7 @@
 -- The numbers of a line and its end. The invariant: the first `i` are written.
 use Prim.Native.Nat.{◌*◌, ◌≤◌, ◌-◌}
-use mathlib.Core.Path.{refl, ◌∙◌}
-use native.Mathlib.Omega.{arith}
-use borrow.Author.Rules.{rules}
 use Rattle.model.specs.Report.{lines}
 use Rattle.report.specs.Writing.{Written}
-use Rattle.report.proofs.Writing.{no_lines, line_more, all-fields, same_size}
 use Rattle.report.proofs.Lines.{field_of}
 use Rattle.report.proofs.text.fields.Given as goal
 

@@ -1,5 +1,4 @@
 -- A letter, then the first number.
-use borrow.Author.Rules.{rules}
 use Rattle.report.proofs.Writing.{then}
 use Rattle.report.proofs.text.head.Goals as goal
 

@@ -1,5 +1,4 @@
 -- A letter, two numbers and the line's end.
-use borrow.Author.Rules.{rules}
 use Rattle.model.specs.Report.{fields}
 use Rattle.report.proofs.Writing.{then}
 use Rattle.report.proofs.text.pair_line.Goals as goal

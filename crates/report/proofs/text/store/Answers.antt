@@ -1,7 +1,6 @@
 -- Past the end nothing is stored.
 use mathlib.Core.Path.{sym}
 use lib.Seq.{set_out}
-use borrow.Author.Rules.{rules}
 use Rattle.report.proofs.text.store.Goals as goal
 
 pub returns : goal.returns
