@@ -1,3 +1,5 @@
+#![tactic(auto)]
+
 // The statements of a transaction: GET, PUT and COMMIT.
 pub mod accesses;
 pub mod commits;
