@@ -1,3 +1,5 @@
+#![tactic(auto)]
+
 // What a release does to its task: it waits behind an unfinished job, or is dropped and counted, or a job starts.
 ghost use Rattle.std.specs.Prelude.{◌≡◌, ◌^◌, ◌<◌};
 ghost use Rattle.state.specs.State.{own};

@@ -2,9 +2,6 @@
 use Prim.Native.Nat.{ℕ}
 use mathlib.Core.Path.{◌≡◌, refl, sym, ap, ◌∙◌}
 use mathlib.Core.Bool.{Bool, true, false, false≢true}
-use mathlib.Core.List.{[], ◌∷◌}
-use denote.Enum.Declared.{tag_of}
-use types.Run.{OneOf, miss}
 use Rattle.state.specs.State.{Shared, Own}
 use Rattle.exchanges.specs.Places.{noted, Left, left}
 use Rattle.exchanges.specs.Reading.{after_reading}
@@ -14,7 +11,6 @@ use Rattle.exchanges.specs.declared.read.Reading.{Reading}
 use Rattle.exchanges.specs.declared.exchange.Step.{Step}
 use Rattle.exchanges.specs.declared.exchange.Exchanged.{Exchanged}
 use Rattle.jobs.specs.Jobs.{read_by, swap_by}
-use Rattle.jobs.specs.contracts.Phase.{the_type}
 use Rattle.jobs.specs.declared.Inner.{Inner}
 use Rattle.jobs.specs.declared.Inner.TheVariants.{Between, First, Copying, Again, Committing}
 use Rattle.jobs.specs.declared.Phase.{Phase}
@@ -73,14 +69,14 @@ module _ (m : Shared) (t : Own) (p : ℕ) (j : Job) where
       let same : z ≡ s = same_step z s (sym (rw e3 at e1) ∙ e2) in
       rw (e3, same, ← e4, ← e5)
 
-  step-committing : (s : Step) (f : Phase) → exchange_step f ≡ At s → OneOf (0 ∷ 1 ∷ 2 ∷ 4 ∷ []) (tag_of the_type f)
+  step-committing : (s : Step) (f : Phase) → exchange_step f ≡ At s → ((r : ℕ) (z : Step) → f ≡ P.Exchange r z → ⊥)
       → (d : Exchanged) (x : Job) (n : Shared) (u v : Own)
       → left d n u ≡ after_exchange m t p j.pairs j.value s → noted x v ≡ committed_by u j d → left x n v ≡ step_tick m t p j f
   unfolding exchange_step step_tick transaction_tick
   step-committing s P.Idle e h d x n u v e1 e2 = nowhere s e
   step-committing s P.Plain e h d x n u v e1 e2 = nowhere s e
   step-committing s (P.Read r w z) e h d x n u v e1 e2 = nowhere s e
-  step-committing s (P.Exchange r z) e h d x n u v e1 e2 = absurd (miss (0 ∷ 1 ∷ 2 ∷ 4 ∷ []) 3 tt h)
+  step-committing s (P.Exchange r z) e h d x n u v e1 e2 = absurd (h r z refl)
   step-committing s (P.Transaction Between) e h d x n u v e1 e2 = nowhere s e
   step-committing s (P.Transaction (First a z)) e h d x n u v e1 e2 = nowhere s e
   step-committing s (P.Transaction (Copying a k)) e h d x n u v e1 e2 = nowhere s e
@@ -88,6 +84,6 @@ module _ (m : Shared) (t : Own) (p : ℕ) (j : Job) where
   step-committing s (P.Transaction (Committing z)) e h d x n u v e1 e2 = rw (same_step z s e, ← e1, ← e2)
 
   pub step-commit : (f : Phase) {y : Exchanging} {s : Step} {d : Exchanged} {x : Job} {n : Shared} {u v : Own}
-      → y ≡ exchange_step f → y ≡ At s → OneOf (0 ∷ 1 ∷ 2 ∷ 4 ∷ []) (tag_of the_type f)
+      → y ≡ exchange_step f → y ≡ At s → ((r : ℕ) (z : Step) → f ≡ P.Exchange r z → ⊥)
       → left d n u ≡ after_exchange m t p j.pairs j.value s → noted x v ≡ committed_by u j d → left x n v ≡ step_tick m t p j f
   step-commit f {s = s} e1 e2 h e3 e4 = step-committing s f (sym e1 ∙ e2) h _ _ _ _ _ e3 e4

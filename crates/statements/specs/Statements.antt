@@ -1,6 +1,6 @@
 -- One statement of a task: it takes up the command at work, outside or inside a transaction, or goes on inside a command, by the
 -- phase of its job.
-use Rattle.std.specs.Prelude.{ℕ, ◌+◌, Bool, true, false, List, ltb, get_or}
+use Rattle.std.specs.Prelude.{ℕ, Bool, true, false, List, ltb, get_or}
 use Rattle.model.specs.Lists.{at}
 use Rattle.commands.specs.declared.Outside.{Outside}
 use Rattle.commands.specs.declared.Outside.TheVariants as O

@@ -1,7 +1,6 @@
 -- `bit` meets its contract.
 use Rattle.std.proofs.Common.{◌≡◌, ℕ, zero, suc, ◌^◌, ◌<◌, [], ◌∷◌, get_or, refl, arith, rules}
-use Rattle.arrivals.proofs.bit.Statement.{statement}
-use Rattle.arrivals.proofs.bit.Tie as tie
+use Rattle.arrivals.proofs.bit.Goals as goal
 
 -- the powers of two that are the tasks' bits
 power_at : (i : ℕ) → i < 8 → get_or (1 ∷ 2 ∷ 4 ∷ 8 ∷ 16 ∷ 32 ∷ 64 ∷ 128 ∷ []) i 0 ≡ 2 ^ i
@@ -15,14 +14,5 @@ power_at (suc (suc (suc (suc (suc (suc zero)))))) h = refl
 power_at (suc (suc (suc (suc (suc (suc (suc zero))))))) h = refl
 power_at (suc (suc (suc (suc (suc (suc (suc (suc i)))))))) h = absurd (omega arith)
 
-mul-result : tie.Need-overflow-mul-result
-mul-result c = search rules
-
-array-read-result : tie.Need-array-read-result
-array-read-result c = search rules
-
-returns : tie.Need-returns
+pub returns : goal.returns
 returns c = power_at c.args.i (search rules)
-
-pub bit-spec : {M : Type 1} → statement M
-bit-spec = tie.close (tie.spec mul-result array-read-result returns)
