@@ -1,2 +1,4 @@
+#![tactic(auto)]
+
 // The machine: who runs, and the run, which can be paused.
 pub mod run;
