@@ -1,36 +1,48 @@
+#![tactic(auto)]
+
 // Reads a sheet from standard input, runs it with limit 65,535 and prints the report, or `X` with number and place.
 //
 // The longest sheet has 4,857 bytes: 32 * 5 for words, 16 * 37 for blocks, 8 tasks, 512 * 6 for body commands, 256 * 4 for releases, END.
 // So a faulty command starts at 4,856 at the latest; none has more than 37 bytes, and the first 4,893 bytes of any longer input decide
 // its answer. No report has more than 3,925 bytes.
-use libc::{STDIN_FILENO, STDOUT_FILENO};
+ghost use Rattle.std.specs.Prelude.{◌≤◌, IfOk, length};
 
-fn print_report(report: &[u8], filled: usize) {
+use std::io::{self, Read, Write};
+
+fn print_report(rt: &HostRuntime, report: &[u8], filled: usize) -> io::Result<()> {
     if filled <= report.len() {
-        io::write_all(STDOUT_FILENO, &report[..filled]);
+        rt.stdout().write_all(&report[..filled])?;
     }
+    Ok(())
 }
 
-fn print_refusal(number: u8, place: usize) {
-    io::write_all(STDOUT_FILENO, b"X ");
-    io::print_decimal(STDOUT_FILENO, number as u64);
-    io::write_all(STDOUT_FILENO, b" ");
-    io::print_decimal(STDOUT_FILENO, place as u64);
-    io::write_all(STDOUT_FILENO, b"\n");
-}
-
-fn answer(sheet: &[u8]) {
+fn answer(rt: &HostRuntime, sheet: &[u8]) -> io::Result<()> {
     let mut report = [0u8; 3925];
     let a = engine::run(sheet, 65535, &mut report);
     if a.number == 0 {
-        print_report(&report, a.place);
-        return;
+        return print_report(rt, &report, a.place);
     }
-    print_refusal(a.number, a.place);
+    println!(rt; "X {} {}", a.number, a.place)
 }
 
-fn main() {
+// Fills the buffer as far as the input goes; answers how much of it.
+fn read_full(rt: &HostRuntime, buffer: &mut [u8]) -> io::Result<usize>
+    ensures { IfOk result (λ n. n ≤ length buffer.new) }
+{
+    let mut input = rt.stdin();
+    let mut filled = 0;
+    for _ in 0..buffer.len() {
+        let more = input.read(&mut buffer[filled..])?;
+        if more == 0 {
+            break;
+        }
+        filled += more;
+    }
+    Ok(filled)
+}
+
+fn main(rt: HostRuntime) -> io::Result<()> {
     let mut sheet = [0u8; 4893];
-    let n = io::read_full(STDIN_FILENO, &mut sheet);
-    answer(&sheet[..n]);
+    let n = read_full(&rt, &mut sheet)?;
+    answer(&rt, &sheet[..n])
 }
