@@ -16,13 +16,17 @@ fn print_report(rt: &HostRuntime, report: &[u8], filled: usize) -> io::Result<()
     Ok(())
 }
 
+fn print_refusal(rt: &HostRuntime, number: u8, place: usize) -> io::Result<()> {
+    println!(rt; "X {number} {place}")
+}
+
 fn answer(rt: &HostRuntime, sheet: &[u8]) -> io::Result<()> {
     let mut report = [0u8; 3925];
     let a = engine::run(sheet, 65535, &mut report);
     if a.number == 0 {
         return print_report(rt, &report, a.place);
     }
-    println!(rt; "X {} {}", a.number, a.place)
+    print_refusal(rt, a.number, a.place)
 }
 
 // Fills the buffer as far as the input goes; answers how much of it.
