@@ -11,7 +11,7 @@ use report::Totals;
 use sheet::check::Verdict;
 use start::Counts;
 
-mod exports;
+pub mod exports;
 
 // Document 01's number of the refusal, 0 if there is none, and its place; of a run that is not turned down, the report's length.
 #[derive(Clone, Copy)]
