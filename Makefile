@@ -15,7 +15,7 @@ PROGRAM = cli/target/release/hizgrael
 DOCUMENTS = docs/SHEETS.md docs/PROGRAM.md docs/BOARDS.md CHANGELOG.md examples/template.txt
 VERSION := $(shell sed -n 's/^.define HIZGRAEL_VERSION "\(.*\)"$$/\1/p' $(HEADER))
 
-PROVED_FROM := crates.txt $(shell find crates -type f \( -name '*.rt' -o -name '*.antt' \))
+PROVED_FROM := crates.txt $(shell find crates -name out -prune -o -type f \( -name '*.rt' -o -name '*.antt' \) -print)
 PROGRAM_FROM := $(shell find cli tools simulator linked/wrapper -name target -prune -o -type f -print 2> /dev/null)
 
 help:
@@ -37,7 +37,7 @@ $(LIBRARY): $(PROVED) scripts/entries
 	@mkdir -p target/objects
 	cd target/objects && ar x ../staticlib/libengine.a && ar x ../staticlib/libbuilder.a
 	rm -f $@
-	cd target/objects && ar rcsD ../staticlib/libhizgrael.a engine.o builder.o
+	cd target/objects && ar rcsD ../staticlib/libhizgrael.a engine_c.o builder_c.o
 	@scripts/entries $@ || { rm -f $@; exit 1; }
 
 # By file times this may be asked for in vain; scripts/prove looks at what the files hold, and proves nothing twice.
