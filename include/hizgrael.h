@@ -1,5 +1,5 @@
 /* Hizgrael, the exchange engine: the three entries of the proved library (x86-64 Linux). `make install` puts all three in place as
- * libhizgrael.a; `rt staticlib` writes hizgrael_check and hizgrael_run as libengine.a, and hizgrael_compose as libbuilder.a.
+ * libhizgrael.a; `scripts/prove` puts hizgrael_check and hizgrael_run into libengine.a, and hizgrael_compose into libbuilder.a.
  *
  * A run sheet is a string of commands that declares words, blocks of eight words, tasks and their releases (docs/SHEETS.md).
  * hizgrael_compose makes one command by command; the program makes sheets from text (`hizgrael encode`). The engine runs a sheet one

@@ -1,4 +1,4 @@
-//! Tells cargo where `rt staticlib` has put the proved libraries, and the crate its version.
+//! Tells cargo where `scripts/prove` has put the proved libraries, and the crate its version.
 
 use std::fs;
 use std::path::Path;
