@@ -1,3 +1,5 @@
+#![tactic(auto)]
+
 // The two public entries: the sheet check, and the run of a sheet to its report in the caller's buffer. Neither has a precondition.
 ghost use Rattle.std.specs.Prelude.{◌≡◌, ◌≤◌};
 ghost use Rattle.model.specs.Sheet.{verdict, accepted};

@@ -16,9 +16,7 @@ use Rattle.state.specs.State.{Own}
 use Rattle.jobs.specs.Jobs.{counted}
 use Rattle.jobs.specs.Jobs as count
 use Rattle.jobs.specs.declared.Inner.{Inner}
-use Rattle.jobs.specs.declared.Inner.TheVariants as Inner
 use Rattle.jobs.specs.declared.Phase.{Phase}
-use Rattle.jobs.specs.declared.Phase.TheVariants as Phase
 use Rattle.jobs.specs.declared.Job.{Job}
 use Rattle.refinement.proofs.View.{counts_of, waiting_of, inner_of, transaction_of, phase_of, task_of}
 use Rattle.refinement.proofs.Shape.{JobShape}

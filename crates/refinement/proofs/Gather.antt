@@ -5,10 +5,10 @@ use mathlib.Core.Bool.{Bool, true, false}
 use mathlib.Core.List.{List, [], ◌∷◌, ◌++◌}
 use native.Mathlib.Omega.{arith}
 use lib.ListN.{length}
-use Rattle.model.specs.Lists.{at}
+use Rattle.model.specs.Lists.{at, replace}
 use Rattle.model.specs.Exchange.{Entry, entry}
 use Rattle.model.specs.Job.{Touched, untouched, remembered, copied}
-use Rattle.model.specs.Transaction.{bank, bank_value, version_of, touched_count, gather, taken_back}
+use Rattle.model.specs.Transaction.{store_of, bank, bank_value, version_of, touched_count, gather, taken_back}
 use Rattle.model.proofs.Lists.{length-replace}
 use Rattle.state.specs.State.{Own}
 use Rattle.state.specs.Held.{touched_in, touched_of, blocks_from, blocks_of}
@@ -26,7 +26,7 @@ unfolding taken_back
 taken-size copies [] = refl
 taken-size copies (untouched ∷ l) = taken-size copies l
 taken-size copies (remembered v ∷ l) = taken-size copies l
-taken-size copies (copied v k ∷ l) = taken-size _ l ∙ length-replace copies k _
+taken-size copies (copied v k ∷ l) = taken-size (replace copies k (store_of v)) l ∙ length-replace copies k _
 
 -- THE TOUCHED BANK WORDS GATHERED
 pub gathered_sized : (t : Own) (l : List ℕ) (g : Gathering) → EntriesSized g.entries → EntriesSized (gathered_over t l g).entries

@@ -26,7 +26,6 @@ use Rattle.state.specs.Held.{memory_of}
 use Rattle.arrivals.specs.Releases.{unfinished?}
 use Rattle.machine.specs.Flat.{FlatMachine, no_job, waiting_count}
 use Rattle.jobs.specs.declared.Phase.{Phase}
-use Rattle.jobs.specs.declared.Phase.TheVariants as Phase
 use Rattle.jobs.specs.declared.Job.{Job}
 use Rattle.program.specs.Program.{body_in}
 use Rattle.refinement.proofs.Tabulate.{tabulate, at_tabulate, length_tabulate, tabulate_replace}

@@ -11,7 +11,6 @@ use Rattle.state.specs.Sized.{SharedSized, OwnSized}
 use Rattle.state.specs.Held.{memory_of}
 use Rattle.exchanges.specs.Places.{Noted}
 use Rattle.jobs.specs.declared.Phase.{Phase}
-use Rattle.jobs.specs.declared.Phase.TheVariants as Phase
 use Rattle.jobs.specs.declared.Job.{Job}
 use Rattle.refinement.proofs.View.{entries_of, pairs_of, task_of}
 

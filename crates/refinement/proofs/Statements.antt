@@ -15,7 +15,6 @@ use Rattle.state.specs.Held.{memory_of}
 use Rattle.exchanges.specs.Places.{Left}
 use Rattle.jobs.specs.Jobs.{in_phase}
 use Rattle.jobs.specs.declared.Phase.{Phase}
-use Rattle.jobs.specs.declared.Phase.TheVariants as Phase
 use Rattle.jobs.specs.declared.Job.{Job}
 use Rattle.statements.specs.Statements.{begin_tick, other_tick, step_tick, statement}
 use Rattle.machine.specs.Flat.{closed}

@@ -28,8 +28,6 @@ use Rattle.jobs.specs.Jobs.{counted}
 use Rattle.statements.specs.Statements.{statement}
 use Rattle.arrivals.specs.Releases.{unfinished?}
 use Rattle.machine.specs.Flat.{top_of, left_by, ready_by, FlatMachine, job_of, own_of, closed, ticked_with, ticked_for, passed, ticked}
-use Rattle.jobs.specs.declared.Phase.TheVariants as Phase
-use Rattle.jobs.specs.declared.Inner.TheVariants as Inner
 use Rattle.jobs.specs.declared.Job.{Job}
 use Rattle.program.specs.Program.{body_in, Programmed}
 use Rattle.refinement.proofs.View.{task_of}

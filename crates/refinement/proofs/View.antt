@@ -14,15 +14,11 @@ use Rattle.state.specs.Packed.{unpack}
 use Rattle.state.specs.State.{Entries, Own}
 use Rattle.state.specs.Held.{blocks_of}
 use Rattle.exchanges.specs.declared.read.Reading.{Reading}
-use Rattle.exchanges.specs.declared.read.Reading.TheVariants as Reading
 use Rattle.exchanges.specs.declared.read.Read.{Read}
 use Rattle.exchanges.specs.declared.read.Read.TheVariants.{Reads, Gives}
 use Rattle.exchanges.specs.declared.exchange.Step.{Step}
-use Rattle.exchanges.specs.declared.exchange.Step.TheVariants as Step
 use Rattle.jobs.specs.declared.Inner.{Inner}
-use Rattle.jobs.specs.declared.Inner.TheVariants as Inner
 use Rattle.jobs.specs.declared.Phase.{Phase}
-use Rattle.jobs.specs.declared.Phase.TheVariants as Phase
 use Rattle.jobs.specs.declared.Job.{Job}
 use Rattle.program.specs.Program.{commands_in}
 use Rattle.refinement.proofs.Tabulate.{tabulate}

@@ -1,1 +1,3 @@
+#![tactic(auto)]
+
 // Theorems alone: the flat machine is the model's.
