@@ -1,12 +1,12 @@
-// The C entry (include/hizgrael.h): a slice is a pointer and a length; `place` takes the answer's place.
+// What a C caller calls (include/hizgrael.h), by the export of builder_c: a slice is a pointer and a length; `place` takes the answer's
+// place.
 ghost use Rattle.builder.specs.Contract.{ComposesBytes};
 
 use crate::compose_handed;
 use crate::handed::OPERANDS;
 use crate::packed::{ROW, ROWS, pack, unpack};
 
-#[unsafe(no_mangle)]
-pub extern "C" fn hizgrael_compose(
+pub fn hizgrael_compose(
     state: &mut [[u8; ROW]; ROWS],
     buffer: &mut [u8],
     command: u8,

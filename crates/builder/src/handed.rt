@@ -28,6 +28,7 @@ pub fn values(o: &[u32; OPERANDS]) -> [u32; SheetCeilings::BLOCK_VALUES]
 }
 
 // The command of a byte; END where the byte names none.
+#[tactic(auto, unfolding(model::specs::Builder::handed, model::specs::Command::row_by, model::specs::Command::row_of, model::specs::Command::table))]
 pub fn command(b: u8, o: &[u32; OPERANDS]) -> Command
     ensures { view_command (values_of o.now) result ≡ command_or (handed b o.now) }
 {

@@ -1,3 +1,5 @@
+#![tactic(auto)]
+
 // The sheet builder's entry: one more command of a sheet, by value or as a C caller hands it over: by its byte and nine operands, with the
 // state in 64 bytes. A library of its own: in one module with the check, LLVM would take the rules into neither, and the check would take twice
 // its time.
@@ -13,7 +15,7 @@ use commands::table::{Named, entry_of};
 use commands::{Command, Refusal};
 use composing::{BuilderState, Composed, declined};
 
-mod exports;
+pub mod exports;
 pub mod handed;
 pub mod packed;
 

@@ -1,3 +1,5 @@
+#![tactic(auto)]
+
 // The sheet builder: a command is judged as the reader judges it, and its bytes are written behind the filled part of a lent buffer.
 ghost use Rattle.std.specs.Prelude.{◌≡◌, ◌+◌, ltb};
 ghost use Rattle.commands.specs.View.{view_refusal, view_command};

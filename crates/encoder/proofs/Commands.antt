@@ -10,7 +10,7 @@ use Rattle.model.specs.Command.{WORD, BLOCK, TASK, RELEASE, END, body, table, ro
 use Rattle.model.specs.Command as M
 use Rattle.model.specs.Encoding.{byte_of, widths_from, widths_of, bytes_of, operand_bytes, encode}
 use Rattle.model.specs.Builder.{overwrite}
-use Rattle.commands.specs.Table.{entry_from, entries_from, entries, entry_in, entry_of}
+use Rattle.commands.specs.Table.{entries, entry_in, entry_of}
 use Rattle.commands.specs.View.{view_command}
 use Rattle.commands.specs.declared.Command.{Command}
 use Rattle.commands.specs.declared.Command.TheVariants.{Word, Block, Task, Release, End, Body}

@@ -5,7 +5,6 @@ use mathlib.Core.List.{List, [], ◌∷◌, ◌++◌, map, map-append}
 use native.Mathlib.Omega.{arith}
 use lib.ListN.{length, take, drop, set, length-drop}
 use lib.Seq.{take-set-le, drop-set-add, take-suc-set}
-use Rattle.model.specs.Command as M
 use Rattle.commands.specs.View.{view_body_command}
 use Rattle.commands.specs.declared.BodyCommand.{BodyCommand}
 use Rattle.program.specs.Program.{commands_in}

@@ -1,3 +1,5 @@
+#![tactic(auto)]
+
 // The commands of the bodies of an accepted sheet, decoded once, one behind the other, and the line where each body starts.
 ghost use Rattle.std.specs.Prelude.{◌≡◌};
 ghost use Rattle.model.specs.Lists.{replace};

@@ -1,5 +1,6 @@
-// A reader over the lent sheet: it hands out the commands one after another. The borrow checker covers no function over a
-// struct that holds a slice, so `over` and `next` are walked by hand; covered functions do the work.
+#![tactic(auto)]
+
+// A reader over the lent sheet: it hands out the commands one after another.
 ghost use Rattle.std.specs.Prelude.{◌≡◌, []};
 ghost use Rattle.commands.specs.View.{view_decoded};
 ghost use Rattle.reader.specs.Handed.{HandsOut, after, moved};

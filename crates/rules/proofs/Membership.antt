@@ -7,40 +7,22 @@ use native.Mathlib.Omega.{arith}
 use native.Mathlib.Numerals.{add-one}
 use borrow.Author.Tests.{eq-eqb, ne_eqb, eqb-true, eqb-false, lt-ltb, le-ltb, ltb-true, ltb-false}
 use lib.Dec.{eqb, ltb}
-use lib.ListN.{length, get_or, take, drop, set, length-take, drop_of_length-le}
-use lib.Seq.{take_all, drop-cons, get_or-take, take-suc-set}
+use lib.ListN.{length, take, set, length-take}
+use lib.Seq.{take-suc-set}
 use Rattle.model.specs.Ceilings.{max_touched, max_puts}
 use Rattle.model.specs.Fault.{among, none?, room, include, include_by}
-use Rattle.bytes.specs.Bytes.{slice, index_after, index_of}
+use Rattle.std.specs.List.{list_any}
 use Rattle.commands.proofs.Decoding.{cases}
 
-one_less : (k n : ℕ) → ltb (suc k) (suc n) ≡ ltb k n
-one_less k n =
-    cases (ltb k n) (λ e. lt-ltb (suc k) (suc n) (omega (arith, ltb-true k n e)) ∙ sym e)
-    (λ e. le-ltb (suc k) (suc n) (omega (arith, ltb-false k n e)) ∙ sym e)
+-- a slice's test for a number is membership
+turned : (a b : ℕ) → eqb a b ≡ eqb b a
+turned a b =
+    cases (eqb a b) (λ e. e ∙ sym (eq-eqb b a (sym (eqb-true a b e)))) (λ e. e ∙ sym (ne_eqb b a (λ q. eqb-false a b e (sym q))))
 
--- a number is found before the end exactly if it is there
-module _ (x : ℕ) where
-  by_first : (y : ℕ) (b : Bool) → eqb y x ≡ b → (k n : ℕ) (rest : Bool) → ltb k n ≡ rest → ltb (index_after b k) (suc n) ≡ (eqb x y || rest)
-  unfolding index_after
-  by_first y true e k n rest f = rw (eq-eqb x y (sym (eqb-true y x e))) (lt-ltb 0 (suc n) (omega arith))
-  by_first y false e k n rest f = rw (ne_eqb x y (λ q. eqb-false y x e (sym q))) (one_less k n ∙ f)
-
-  pub found_among : (l : List ℕ) → ltb (index_of x l) (length l) ≡ among x l
-  unfolding index_of among
-  found_among [] = refl
-  found_among (y ∷ l) = by_first y (eqb y x) refl (index_of x l) (length l) (among x l) (found_among l)
-
-  pub found_part : (l : List ℕ) (n : ℕ) {r : ℕ} → n ≤ length l → r ≡ 0 + index_of x (slice 0 n l) → ltb r n ≡ among x (take n l)
-  unfolding slice
-  found_part l n h e =
-      let size : length (take n l) ≡ n = rw length-take (omega arith) in
-      let here : 0 + index_of x (take n l) ≡ index_of x (take n l) = omega arith in
-      rw (e, here) (ap (ltb (index_of x (take n l))) (sym size) ∙ found_among (take n l))
-
-  pub found-whole : (l : List ℕ) (n : ℕ) {r : ℕ} → length l < n → r ≡ 0 + index_of x (slice 0 (length l) l) → ltb r (length l) ≡ among x (take n l)
-  found-whole l n h e =
-      found_part l (length l) (omega arith) e ∙ ap (among x) (take_all (length l) l (omega arith) ∙ sym (take_all n l (omega arith)))
+pub any_among : (x : ℕ) (l : List ℕ) → list_any (λ y. eqb y x) l ≡ among x l
+unfolding among
+any_among x [] = refl
+any_among x (y ∷ l) = ap (λ (b : Bool). b || list_any (λ z. eqb z x) l) (turned y x) ∙ ap (λ (b : Bool). eqb x y || b) (any_among x l)
 
 -- THE PART OF AN ARRAY
 pub part_none : (n : ℕ) (l : List ℕ) → length l ≡ max_touched → eqb n 0 ≡ none? (take n l)

@@ -130,6 +130,7 @@ impl Numbers {
     }
 
     // One more, if it is not among them yet.
+    #[tactic(auto, unfolding(model::specs::Fault::include_by))]
     pub fn include(self, x: u8) -> Numbers
         requires { rule.room max_touched x (view_numbers self) ≡ true }
         ensures { view_numbers result ≡ rule.include x (view_numbers self) }
@@ -145,8 +146,5 @@ impl Numbers {
 fn contains(values: &[u8], count: usize, x: u8) -> bool
     ensures { result ≡ rule.among x (take count values.now) }
 {
-    if values.len() < count {
-        return bytes::scan::find(values, 0, values.len(), x) < values.len();
-    }
-    bytes::scan::find(values, 0, count, x) < count
+    values[..count.min(values.len())].contains(&x)
 }

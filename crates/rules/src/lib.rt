@@ -58,6 +58,7 @@ fn room_for_block(b: Task, a: Access) -> bool
 }
 
 // 5
+#[tactic(auto, unfolding(model::specs::Fault::under_ceiling_outside))]
 fn under_ceiling_outside(b: Task, c: Outside) -> bool
     ensures { result ≡ rule.under_ceiling_outside (view_body b) (view_outside c) }
 {
@@ -68,6 +69,7 @@ fn under_ceiling_outside(b: Task, c: Outside) -> bool
     }
 }
 
+#[tactic(auto, unfolding(model::specs::Fault::under_ceiling_inside))]
 fn under_ceiling_inside(b: Task, c: Inside) -> bool
     ensures { result ≡ rule.under_ceiling_inside (view_body b) (view_inside c) }
 {
@@ -77,6 +79,7 @@ fn under_ceiling_inside(b: Task, c: Inside) -> bool
     }
 }
 
+#[tactic(auto, unfolding(model::specs::Fault::under_ceiling_body))]
 fn under_ceiling_body(b: Task, c: BodyCommand) -> bool
     ensures { result ≡ rule.under_ceiling_body (view_body b) (view_body_command c) }
 {
@@ -87,6 +90,7 @@ fn under_ceiling_body(b: Task, c: BodyCommand) -> bool
     }
 }
 
+#[tactic(auto, unfolding(model::specs::Fault::under_ceiling))]
 fn under_ceiling(k: Known, c: Command) -> bool
     ensures { result ≡ rule.under_ceiling (view_known k) (view_command [] c) }
 {
@@ -105,6 +109,7 @@ fn under_ceiling(k: Known, c: Command) -> bool
     }
 }
 
+#[tactic(auto, unfolding(model::specs::Fault::in_range_inside))]
 fn access_in_range(n: SheetCounts, a: Access) -> bool
     ensures { result ≡ rule.in_range_inside (view_counts n) (access (view_access a)) }
 {
@@ -129,6 +134,7 @@ fn access_in_range(n: SheetCounts, a: Access) -> bool
 }
 
 // 6
+#[tactic(auto, unfolding(model::specs::Fault::in_range_outside))]
 fn in_range_outside(n: SheetCounts, c: Outside) -> bool
     ensures { result ≡ rule.in_range_outside (view_counts n) (view_outside c) }
 {
@@ -146,6 +152,7 @@ fn in_range_outside(n: SheetCounts, c: Outside) -> bool
     }
 }
 
+#[tactic(auto, unfolding(model::specs::Fault::in_range_inside))]
 fn in_range_inside(n: SheetCounts, c: Inside) -> bool
     ensures { result ≡ rule.in_range_inside (view_counts n) (view_inside c) }
 {
@@ -155,6 +162,7 @@ fn in_range_inside(n: SheetCounts, c: Inside) -> bool
     }
 }
 
+#[tactic(auto, unfolding(model::specs::Fault::in_range_body))]
 fn in_range_body(n: SheetCounts, c: BodyCommand) -> bool
     ensures { result ≡ rule.in_range_body (view_counts n) (view_body_command c) }
 {
@@ -169,6 +177,7 @@ fn in_range_body(n: SheetCounts, c: BodyCommand) -> bool
     }
 }
 
+#[tactic(auto, unfolding(model::specs::Fault::in_range))]
 fn in_range(n: SheetCounts, c: Command) -> bool
     ensures { result ≡ rule.in_range (view_counts n) (view_command [] c) }
 {
@@ -181,6 +190,7 @@ fn in_range(n: SheetCounts, c: Command) -> bool
 }
 
 // 7
+#[tactic(auto, unfolding(model::specs::Fault::new_word_outside))]
 fn new_word_outside(b: Task, c: Outside) -> bool
     ensures { result ≡ rule.new_word_outside (view_body b) (view_outside c) }
 {
@@ -191,6 +201,7 @@ fn new_word_outside(b: Task, c: Outside) -> bool
     }
 }
 
+#[tactic(auto, unfolding(model::specs::Fault::new_word_body))]
 fn new_word_body(b: Task, c: BodyCommand) -> bool
     ensures { result ≡ rule.new_word_body (view_body b) (view_body_command c) }
 {
@@ -200,6 +211,7 @@ fn new_word_body(b: Task, c: BodyCommand) -> bool
     }
 }
 
+#[tactic(auto, unfolding(model::specs::Fault::new_word))]
 fn new_word(b: Task, c: Command) -> bool
     ensures { result ≡ rule.new_word (view_body b) (view_command [] c) }
 {
@@ -216,6 +228,7 @@ fn before(a: Release, b: Release) -> bool
 }
 
 // 8
+#[tactic(auto, unfolding(model::specs::Fault::rising))]
 fn rising(k: Known, c: Command) -> bool
     ensures { result ≡ rule.rising (view_known k) (view_command [] c) }
 {
@@ -228,6 +241,7 @@ fn rising(k: Known, c: Command) -> bool
 }
 
 // At one command the lowest number wins.
+#[tactic(auto, unfolding(model::specs::Fault::lowest))]
 fn lowest(place: bool, under: bool, range: bool, new: bool, rise: bool) -> Flaw
     ensures { view_flaw result ≡ rule.lowest place under range new rise }
 {
@@ -249,6 +263,7 @@ fn lowest(place: bool, under: bool, range: bool, new: bool, rise: bool) -> Flaw
     Flaw::None
 }
 
+#[tactic(auto, unfolding(model::specs::Fault::fault_of))]
 pub fn fault(k: Known, c: Command) -> Flaw
     ensures { view_flaw result ≡ rule.fault_of (view_known k) (view_command [] c) }
 {

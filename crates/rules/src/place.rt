@@ -88,6 +88,7 @@ fn bodies_over(k: Known) -> bool
 }
 
 // 4. The waiting PAIRs let it come: SWAP needs some, BEGIN none.
+#[tactic(auto, unfolding(model::specs::Fault::in_place_outside))]
 fn in_place_outside(b: Task, c: Outside) -> bool
     ensures { result ≡ rule.in_place_outside (view_body b) (view_outside c) }
 {
@@ -99,6 +100,7 @@ fn in_place_outside(b: Task, c: Outside) -> bool
     }
 }
 
+#[tactic(auto, unfolding(model::specs::Fault::in_place_body))]
 fn in_place_body(k: Known, c: BodyCommand) -> bool
     ensures { result ≡ rule.in_place_body (view_known k) (view_body_command c) }
 {
@@ -111,6 +113,7 @@ fn in_place_body(k: Known, c: BodyCommand) -> bool
     }
 }
 
+#[tactic(auto, unfolding(model::specs::Fault::in_place))]
 pub fn in_place(k: Known, c: Command) -> bool
     ensures { result ≡ rule.in_place (view_known k) (view_command [] c) }
 {

@@ -37,6 +37,7 @@ pub fn is_end(c: Command) -> bool
 }
 
 // A byte may not follow END.
+#[tactic(auto, unfolding(model::specs::Sheet::at_end))]
 fn at_end(next: usize, size: usize) -> Verdict
     ensures { view_verdict result ≡ at_end (ltb next size) next }
 {

@@ -40,6 +40,7 @@ impl Sheet {
 }
 
 // One more command, which stands at a place, the next one after it.
+#[tactic(auto, unfolding(crate::specs::Indexed::counted))]
 fn count(x: Sheet, c: Command, at: usize, next: usize) -> Sheet
     requires { Room x (view_command [] c) }
     ensures { result ≡ counted x (view_command [] c) at next }

@@ -121,6 +121,7 @@ fn named(a: Access, b: Task) -> Task
     }
 }
 
+#[tactic(auto, unfolding(model::specs::Fault::under_ceiling_outside, model::specs::Sheet::after_outside))]
 fn after_outside(b: Task, c: Outside) -> Task
     requires { rule.under_ceiling_outside (view_body b) (view_outside c) ≡ true }
     ensures { view_body result ≡ next.after_outside (view_body b) (view_outside c) }
@@ -134,6 +135,7 @@ fn after_outside(b: Task, c: Outside) -> Task
     }
 }
 
+#[tactic(auto, unfolding(model::specs::Fault::under_ceiling_inside, model::specs::Sheet::after_inside))]
 fn after_inside(b: Task, c: Inside) -> Task
     requires { rule.under_ceiling_inside (view_body b) (view_inside c) ≡ true }
     ensures { view_body result ≡ next.after_inside (view_body b) (view_inside c) }
@@ -145,6 +147,7 @@ fn after_inside(b: Task, c: Inside) -> Task
 }
 
 // The open body after one of its commands.
+#[tactic(auto, unfolding(model::specs::Fault::under_ceiling_body, model::specs::Sheet::after_body))]
 fn after_body(b: Task, c: BodyCommand) -> Task
     requires { rule.under_ceiling_body (view_body b) (view_body_command c) ≡ true }
     ensures { view_body result ≡ next.after_body (view_body b) (view_body_command c) }
@@ -173,6 +176,7 @@ fn in_body(k: Known, body: Task) -> Known
     }
 }
 
+#[tactic(auto, unfolding(model::specs::Fault::under_ceiling, model::specs::Sheet::after))]
 pub fn after(k: Known, c: Command) -> Known
     requires { rule.under_ceiling (view_known k) (view_command [] c) ≡ true }
     ensures { view_known result ≡ next.after (view_known k) (view_command [] c) }

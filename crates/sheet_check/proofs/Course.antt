@@ -3,13 +3,9 @@ use Prim.Native.Nat.{ℕ, suc, ◌-◌, ◌<◌}
 use mathlib.Core.Path.{◌≡◌, refl, sym, subst}
 use mathlib.Core.Bool.{not}
 use mathlib.Core.List.{List, []}
-use mathlib.Core.WellFounded.InvImage
-use mathlib.Core.WellFounded.{WellFounded}
 use native.Mathlib.Omega.{arith}
 use lib.Dec.{T}
 use lib.ListN.{length}
-use lib.WfN.{lt-wf_rel}
-use mir.Val.{Val}
 use Rattle.model.specs.Command.{command_at}
 use Rattle.model.specs.Fault.{Known, nothing_known}
 use Rattle.model.specs.Sheet.{verdict}
@@ -25,13 +21,6 @@ use Rattle.reader.proofs.Places.{after-command}
 use Rattle.sheet_check.specs.Read.{Reached, goes?, Right, RightAt, Further, verdict_of}
 use Rattle.sheet_check.specs.declared.Reading.{Reading}
 use Rattle.sheet_check.proofs.Judging.{gone}
-
--- the reader's offset, the reading with its machine value, and that it is right there
-pub record Course (s : List ℕ) : Type 0 where
-  pub at : ℕ
-  pub reading : Reading
-  pub value : Val
-  pub right : RightAt s at reading
 
 pub begins_right : (s : List ℕ) (r : Reading) → (view_known r.known ≡ nothing_known) × (r.judged ≡ Goes) → RightAt s 0 r
 begins_right s r e = subst (Right s 0 (view_known r.known)) (sym e.1) (gone (start s (view_known r.known) e.0))
@@ -50,30 +39,21 @@ abbrev pub left_of : Judged → ℕ → ℕ → ℕ
 left_of Goes n at = suc (n - at)
 left_of (Stops v) n at = 0
 
-abbrev pub Nearer : (s : List ℕ) → Course s → Course s → Type 0
-Nearer s y x = left_of y.reading.judged (length s) y.at < left_of x.reading.judged (length s) x.at
-
-pub Nearer-wf : (s : List ℕ) → WellFounded (Nearer s)
-Nearer-wf s = InvImage.wf (λ (x : Course s). left_of x.reading.judged (length s) x.at) lt-wf_rel.wf
-
-less : (s : List ℕ) (at next : ℕ) (j i : Judged) → T (goes? j) → Further s at next i → left_of i (length s) next < left_of j (length s) at
+pub less : (s : List ℕ) (at next : ℕ) (j i : Judged) → T (goes? j) → Further s at next i → left_of i (length s) next < left_of j (length s) at
 less s at next Goes Goes t f = omega (arith, f.0, f.1)
 less s at next Goes (Stops v) t f = omega arith
 less s at next (Stops u) i t f = absurd t
 
 -- A COMMAND MORE
-module _ (s : List ℕ) (x : Course s) (d : Decoded) (e : HandsOut s x.at d) (r : Reading) where
-  moves : after x.at (view_decoded [] d) ≡ after x.at (command_at s x.at)
-  moves = after-command s x.at d e (after x.at (view_decoded [] d)) refl
+module _ (s : List ℕ) (at : ℕ) (d : Decoded) (e : HandsOut s at d) (r : Reading) where
+  moves : after at (view_decoded [] d) ≡ after at (command_at s at)
+  moves = after-command s at d e (after at (view_decoded [] d)) refl
 
-  pub right_after : RightAt s (after x.at (view_decoded [] d)) r → RightAt s (after x.at (command_at s x.at)) r
+  pub right_after : RightAt s (after at (view_decoded [] d)) r → RightAt s (after at (command_at s at)) r
   right_after h = subst (λ (p : ℕ). RightAt s p r) moves h
 
-  abbrev pub onward : Val → RightAt s (after x.at (view_decoded [] d)) r → Course s
-  onward w h = record { at = after x.at (command_at s x.at); reading = r; value = w; right = right_after h }
-
-  pub nearer : (w : Val) (h : RightAt s (after x.at (view_decoded [] d)) r) → T (goes? x.reading.judged)
-      → Further s x.at (after x.at (view_decoded [] d)) r.judged → Nearer s (onward w h) x
-  nearer w h t f =
-      subst (λ (p : ℕ). left_of r.judged (length s) p < left_of x.reading.judged (length s) x.at) moves
-      (less s x.at _ x.reading.judged r.judged t f)
+  pub nearer : (j : Judged) → T (goes? j) → Further s at (after at (view_decoded [] d)) r.judged
+      → left_of r.judged (length s) (after at (command_at s at)) < left_of j (length s) at
+  nearer j t f =
+      subst (λ (p : ℕ). left_of r.judged (length s) p < left_of j (length s) at) moves
+      (less s at _ j r.judged t f)

@@ -1,3 +1,5 @@
+#![tactic(auto)]
+
 // The sheet check through the reader: commands are handed out one after another, and the first fault in byte order ends the reading.
 ghost use Rattle.std.specs.Prelude.{◌≡◌, []};
 ghost use Rattle.model.specs.Fault.{nothing_known};

@@ -1,13 +1,9 @@
 -- `put_values` meets its contract. The invariant: the first `i` values are written.
-use Prim.Native.Nat.{ℕ, ◌+◌, ◌*◌, ◌-◌, ◌≤◌}
-use mathlib.Core.Path.{◌≡◌, refl, sym, ap, ◌∙◌}
-use native.Mathlib.Omega.{arith}
-use mathlib.Core.List.{List}
+use Prim.Native.Nat.{◌+◌, ◌*◌, ◌-◌, ◌≤◌}
+use mathlib.Core.Path.{◌≡◌}
 use lib.ListN.{length, take}
-use lib.Seq.{sets, length-sets, take_all}
-use borrow.Author.Rules.{rules}
+use lib.Seq.{sets}
 use Rattle.encoder.specs.Operands.{fours}
-use Rattle.encoder.proofs.Stores.{value_more}
 use Rattle.encoder.proofs.put_values.Given as goal
 
 abbrev pub invariant-loop-i : goal.invariant-loop-i

@@ -1,29 +1,22 @@
--- `size` meets its contract.
-use mathlib.Core.Path.{◌≡◌}
-use mathlib.Core.List.{[]}
-use native.Mathlib.Omega.{arith}
-use lib.ListN.{length}
+-- The table has an entry for the byte of each command, and the command's bytes are as many as that entry says.
+use Rattle.std.proofs.Common.{◌≡◌, [], length, rules, arith}
 use Rattle.model.specs.Command.{total}
 use Rattle.model.specs.Encoding.{byte_of, widths_of}
 use Rattle.commands.specs.Table.{entry_of}
 use Rattle.commands.specs.View.{view_command}
-use Rattle.commands.specs.declared.table.Named.TheVariants.{By, Nothing}
+use Rattle.commands.specs.declared.table.Named.TheVariants.{By}
 use Rattle.encoder.proofs.Commands.{entry-is, encode-size}
-use borrow.Author.Rules.{rules}
 use Rattle.encoder.proofs.size.Goals as goal
 
 pub returns-in_default : goal.returns-in_default
 returns-in_default c =
-    let a = c.args in
-    let none : entry_of (byte_of (view_command [] a.c)) ≡ Nothing = cc in
-    let some = entry-is (view_command [] a.c) in
+    let some = entry-is (view_command [] c.args.c) in
     cc
 
 pub returns : goal.returns
 returns c =
-    let a = c.args in
-    let by : entry_of (byte_of (view_command [] a.c)) ≡ By c.in-By.e = cc in
-    let some = entry-is (view_command [] a.c) in
-    let width : c.in-By.e.width ≡ total (widths_of (view_command [] a.c)) = cc in
-    let eight : length a.t2 ≡ 8 = search rules in
-    omega (arith, width, encode-size a.t2 eight a.c)
+    let some = entry-is (view_command [] c.args.c) in
+    let by : entry_of (byte_of (view_command [] c.args.c)) ≡ By c.in-By.e = cc in
+    let width : c.in-By.e.width ≡ total (widths_of (view_command [] c.args.c)) = cc in
+    let eight : length c.args.values ≡ 8 = search rules in
+    omega (arith, width, encode-size c.args.values eight c.args.c)

@@ -1,0 +1,21 @@
+-- `word` meets its contract: the words stand first, five bytes each.
+use Prim.Native.Nat.{ℕ}
+use Rattle.model.specs.Command.{big_endian}
+use Rattle.sheet.proofs.Declared.{fits, word_of}
+use mathlib.Core.Path.{◌∙◌, ap, sym}
+use native.Mathlib.Omega.{arith}
+use Rattle.sheet.proofs.index.word.Goals as goal
+
+pub overflow_mul-i : goal.overflow_mul-i
+overflow_mul-i c = omega (arith, fits _ c.requires.sound, c.requires.declared)
+
+pub overflow_add-i : goal.overflow_add-i
+overflow_add-i c = omega (arith, fits _ c.requires.sound, c.requires.declared)
+
+pub value4-requires : goal.value4-requires
+value4-requires c = omega (arith, fits _ c.requires.sound, c.requires.declared)
+
+pub returns : goal.returns
+returns c = let s = c.args.sheet.now in
+    c.value4.ensures ∙ ap (λ (p : ℕ). big_endian s p 4) (omega arith)
+    ∙ sym (word_of s c.requires.sound c.args.i c.requires.declared)
