@@ -18,7 +18,8 @@ pub fn hizgrael_compose(
     let s = unpack(*state);
     let a = compose_handed(s, &mut *buffer, command, operands);
     *place = a.place as u64;
-    if a.number == 0 {
+    let taken = a.number == 0;
+    if taken {
         let next = a.state;
         *state = pack(next);
     }

@@ -1,3 +1,5 @@
+#![tactic(auto)]
+
 // The two records at the start of a run of an accepted sheet: what all tasks share, and each task's own. The start is that of a sheet
 // which declares nothing; then the words and the blocks of the sheet are set one after another.
 ghost use Rattle.std.specs.Prelude.{◌≡◌, map, ◌+◌, ◌<◌};
