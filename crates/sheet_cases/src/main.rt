@@ -1,10 +1,12 @@
+#![tactic(auto)]
+
 // Answers sheets from standard input, one a line: its bytes in hexadecimal with single spaces between them. A line that starts with
 // '#' is a title and is copied. A sheet's answer is a line with number and place. After '%' each shorter start of the sheet is
 // answered, from no byte on.
 ghost use Rattle.std.specs.Prelude.{◌≤◌, ◌<◌, length};
 
-use libc::{STDIN_FILENO, STDOUT_FILENO};
 use sheet::check::Verdict;
+use std::io::{self, Read, Write};
 
 fn digit(c: u8) -> u8
     ensures { result < 16 }
@@ -47,61 +49,68 @@ fn parse(line: &[u8], start: usize, bytes: &mut [u8]) -> usize
 }
 
 // Number and place of a sheet's answer, in a line.
-fn answer(sheet: &[u8]) {
+fn answer(rt: &HostRuntime, sheet: &[u8]) -> io::Result<()> {
     match sheet_check::check(sheet) {
-        Verdict::Accepted => {
-            io::write_all(STDOUT_FILENO, b"0 0");
-        }
+        Verdict::Accepted => println!(rt; "0 0"),
         Verdict::TurnedDown(f) => {
-            let refusal = f.refusal;
-            io::print_decimal(STDOUT_FILENO, commands::number(refusal) as u64);
-            io::write_all(STDOUT_FILENO, b" ");
-            io::print_decimal(STDOUT_FILENO, f.place as u64);
+            let number = commands::number(f.refusal);
+            let place = f.place;
+            println!(rt; "{number} {place}")
         }
     }
-    io::write_all(STDOUT_FILENO, b"\n");
 }
 
 // Each shorter start of a sheet.
-fn answer_starts(sheet: &[u8]) {
-    let mut k = 0;
-    while k < sheet.len() {
-        answer(&sheet[..k]);
-        k += 1;
+fn answer_starts(rt: &HostRuntime, sheet: &[u8]) -> io::Result<()> {
+    for k in 0..sheet.len() {
+        answer(rt, &sheet[..k])?;
     }
+    Ok(())
 }
 
-fn answer_line(line: &[u8]) {
+fn answer_line(rt: &HostRuntime, line: &[u8]) -> io::Result<()> {
     let mut bytes = [0u8; 8192];
     if line.len() == 0 {
-        answer(line);
-        return;
+        return answer(rt, line);
     }
     if line[0] == b'#' {
-        io::write_all(STDOUT_FILENO, line);
-        io::write_all(STDOUT_FILENO, b"\n");
-        return;
+        rt.stdout().write_all(line)?;
+        return rt.stdout().write_all(b"\n");
     }
     if line[0] == b'%' {
         let n = parse(line, 1, &mut bytes);
-        answer_starts(&bytes[..n]);
-        return;
+        return answer_starts(rt, &bytes[..n]);
     }
     let n = parse(line, 0, &mut bytes);
-    answer(&bytes[..n]);
+    answer(rt, &bytes[..n])
 }
 
-fn answer_lines(text: &[u8]) {
+// The place of the next line's end: its newline, or the text's end.
+fn line_end(text: &[u8], at: usize) -> usize
+    requires { at < length text.now }
+    ensures from { at ≤ result }
+    ensures within { result ≤ length text.now }
+{
+    for i in at..text.len() {
+        if text[i] == b'\n' {
+            return i;
+        }
+    }
+    text.len()
+}
+
+fn answer_lines(rt: &HostRuntime, text: &[u8]) -> io::Result<()> {
     let mut at = 0;
     while at < text.len() {
-        let end = bytes::scan::find(text, at, text.len(), b'\n');
-        answer_line(&text[at..end]);
+        let end = line_end(text, at);
+        answer_line(rt, &text[at..end])?;
         at = end + 1;
     }
+    Ok(())
 }
 
-fn main() {
-    let mut text = io::large_buffer();
-    let n = io::read_full(STDIN_FILENO, &mut text);
-    answer_lines(&text[..n]);
+fn main(rt: HostRuntime) -> io::Result<()> {
+    let mut text = Vec::new(rt.alloc());
+    rt.stdin().read_to_end(&mut text)?;
+    answer_lines(&rt, &text)
 }
