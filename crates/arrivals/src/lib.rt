@@ -38,7 +38,8 @@ pub fn drop_by(task: &mut Task, waiting: u8, phase: Phase)
     ensures { own task.new ≡ dropped_by (unfinished? phase) waiting (own task.old) }
 {
     if unfinished(phase) {
-        if TaskCeilings::WAITING <= waiting {
+        let full = TaskCeilings::WAITING <= waiting;
+        if full {
             jobs::count(&mut *task, jobs::DROPPED);
         }
     }

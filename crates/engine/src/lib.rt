@@ -88,7 +88,8 @@ pub fn run(sheet: &[u8], limit: u64, buffer: &mut [u8]) -> Answer
     if let Verdict::TurnedDown(f) = v {
         return refused(f);
     }
-    if RunCeilings::LIMIT < limit {
+    let too_high = RunCeilings::LIMIT < limit;
+    if too_high {
         return refused(Fault {
             refusal: Refusal::LimitTooHigh,
             place: 0,

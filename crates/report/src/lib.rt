@@ -155,7 +155,8 @@ pub fn report(memory: &Memory, tasks: &[Task; 8], totals: Totals, buffer: &mut [
     ensures { Reported (report_text (shared memory.now) (map own tasks.now) totals) buffer.old buffer.new result }
 {
     let needed = write(&mut buffer[..0], memory, tasks, totals);
-    if needed <= buffer.len() {
+    let fits = needed <= buffer.len();
+    if fits {
         return write(&mut *buffer, memory, tasks, totals);
     }
     needed

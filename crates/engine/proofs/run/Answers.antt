@@ -11,10 +11,10 @@ returns-in-TurnedDown c = rw c.refused.ensures
     (run-refused _ _ _ c.in-TurnedDown.f
     (rw c.in-TurnedDown.is at c.first_fault-v.ensures))
 
-pub returns-then-limit-gt-LIMIT : goal.returns-then-limit-gt-LIMIT
-returns-then-limit-gt-LIMIT c = rw c.refused-then-limit-gt-LIMIT.ensures
+pub returns-then-too_high : goal.returns-then-too_high
+returns-then-too_high c = rw c.refused-then-too_high.ensures
     (run-too-high _ _ _ (rw c.in_default.is at c.first_fault-v.ensures)
-    c.if-limit-gt-LIMIT.true)
+    c.if-too_high.true)
 
 pub run_accepted-needed-requires : goal.run_accepted-needed-requires
 run_accepted-needed-requires c = sym (rw c.in_default.is at c.first_fault-v.ensures)
@@ -27,7 +27,7 @@ returns-then-room-needed c = let small : (i : ℕ) → get_or
     (run-too-short _ _ _ small
     (rw c.in_default.is at
     c.first_fault-v.ensures)
-    c.if-limit-gt-LIMIT.false c.run_accepted-needed.ensures
+    c.if-too_high.false c.run_accepted-needed.ensures
     c.if-room-needed.true)
 
 pub returns : goal.returns
@@ -37,4 +37,4 @@ returns c = let small : (i : ℕ) → get_or
     run-written _ _ _ small
     (rw c.in_default.is at
     c.first_fault-v.ensures)
-    c.if-limit-gt-LIMIT.false c.run_accepted-needed.ensures c.if-room-needed.false
+    c.if-too_high.false c.run_accepted-needed.ensures c.if-room-needed.false

@@ -2,10 +2,10 @@
 use Rattle.report.proofs.Whole.{long_enough, too_short}
 use Rattle.report.proofs.report.Goals as goal
 
-pub returns-then-needed-buffer : goal.returns-then-needed-buffer
-returns-then-needed-buffer c =
-    long_enough _ c.write-needed.ensures c.if-needed-buffer.true
+pub returns-then-fits : goal.returns-then-fits
+returns-then-fits c =
+    long_enough _ c.write-needed.ensures c.if-fits.true
     c.write.ensures
 
 pub returns : goal.returns
-returns c = too_short _ c.write-needed.ensures c.if-needed-buffer.false
+returns c = too_short _ c.write-needed.ensures c.if-fits.false
