@@ -3,7 +3,7 @@
 // Answers sheets from standard input, one a line: its bytes in hexadecimal with single spaces between them. A line that starts with
 // '#' is a title and is copied. A sheet's answer is a line with number and place. After '%' each shorter start of the sheet is
 // answered, from no byte on.
-ghost use Rattle.std.specs.Prelude.{◌≤◌, ◌<◌, length};
+ghost use Rattle.std.specs.Prelude.{◌≤◌, ◌<◌, IfOk, length};
 
 use sheet::check::Verdict;
 use std::io::{self, Read, Write};
@@ -109,8 +109,24 @@ fn answer_lines(rt: &HostRuntime, text: &[u8]) -> io::Result<()> {
     Ok(())
 }
 
+// Fills the buffer as far as the input goes; answers how much of it.
+fn read_full(rt: &HostRuntime, buffer: &mut [u8]) -> io::Result<usize>
+    ensures { IfOk result (λ n. n ≤ length buffer.new) }
+{
+    let mut input = rt.stdin();
+    let mut filled = 0;
+    for _ in 0..buffer.len() {
+        let more = input.read(&mut buffer[filled..])?;
+        if more == 0 {
+            break;
+        }
+        filled += more;
+    }
+    Ok(filled)
+}
+
 fn main(rt: HostRuntime) -> io::Result<()> {
-    let mut text = Vec::new(rt.alloc());
-    rt.stdin().read_to_end(&mut text)?;
-    answer_lines(&rt, &text)
+    let mut text = [0u8; 65536];
+    let n = read_full(&rt, &mut text)?;
+    answer_lines(&rt, &text[..n])
 }
