@@ -1,8 +1,8 @@
 #![tactic(auto)]
 
 // The sheet builder's entry: one more command of a sheet, by value or as a C caller hands it over: by its byte and nine operands, with the
-// state in 64 bytes. A library of its own: in one module with the check, LLVM would take the rules into neither, and the check would take twice
-// its time.
+// state in 64 bytes. A library of its own: in one module with the check, LLVM would take the rules into neither, and the check would take
+// twice its time.
 ghost use Rattle.model.specs.Builder as builder;
 ghost use Rattle.commands.specs.View.{view_command};
 ghost use Rattle.composing.specs.View.{view_state};

@@ -143,7 +143,8 @@ fn counts_row(section: Section, n: SheetCounts) -> [u8; ROW]
 }
 
 fn body_row(b: Task, task: u8, ended: bool) -> [u8; ROW]
-    ensures { (body_of result b.pairs.values b.touched.values b.puts.values ≡ view_body b) × (get_or result 5 0 ≡ task) × (some? (get_or result 6 0) ≡ ended) }
+    ensures { (body_of result b.pairs.values b.touched.values b.puts.values ≡ view_body b)
+        × (get_or result 5 0 ≡ task) × (some? (get_or result 6 0) ≡ ended) }
 {
     let pairs = b.pairs;
     let touched = b.touched;

@@ -40,7 +40,9 @@ width_of b = width_from (row_of b table)
 -- GET or PUT by its byte, its operands starting at p
 unfoldable pub access_from : List ℕ → ℕ → ℕ → Access
 access_from s p b =
-    pick (eqb b 0x21) (Get (get_or s p 0) (get_or s (p + 1) 0) (get_or s (p + 2) 0)) (Put (get_or s p 0) (get_or s (p + 1) 0) (get_or s (p + 2) 0))
+    pick (eqb b 0x21)
+    (Get (get_or s p 0) (get_or s (p + 1) 0) (get_or s (p + 2) 0))
+    (Put (get_or s p 0) (get_or s (p + 1) 0) (get_or s (p + 2) 0))
 
 -- what a byte at a place says of the command there
 abbrev pub ByteSays : List ℕ → ℕ → ℕ → Type 0

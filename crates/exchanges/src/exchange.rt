@@ -3,7 +3,9 @@
 ghost use Rattle.std.specs.Prelude.{◌≡◌};
 ghost use Rattle.state.specs.State.{shared, own};
 ghost use Rattle.exchanges.specs.Places.{went, noted, left};
-ghost use Rattle.exchanges.specs.Exchange.{after_start, after_test, after_load, after_look, after_fetch, after_save, after_fail, after_mark, after_install, cleaning, after_commit, onward, as_new, marked, installed_at, after_clean, after_clean_mark, after_exchange};
+ghost use Rattle.exchanges.specs.Exchange.{after_start, after_test, after_load, after_look, after_fetch, after_save, after_fail};
+ghost use Rattle.exchanges.specs.Exchange.{after_mark, after_install, cleaning, after_commit, onward, as_new, marked, installed_at};
+ghost use Rattle.exchanges.specs.Exchange.{after_clean, after_clean_mark, after_exchange};
 
 use crate::{places, read};
 use state::{Memory, Task, Word, shared, task};

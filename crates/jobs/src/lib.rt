@@ -4,7 +4,8 @@
 ghost use Rattle.std.specs.Prelude.{◌≡◌};
 ghost use Rattle.state.specs.State.{own};
 ghost use Rattle.exchanges.specs.Places.{noted};
-ghost use Rattle.jobs.specs.Jobs.{job_at, in_phase, with_value, next_line, counted, added, keeping, restoring, entered, after_done, read_by, swap_by};
+ghost use Rattle.jobs.specs.Jobs.{job_at, in_phase, with_value, next_line, counted, added, keeping, restoring, entered, after_done};
+ghost use Rattle.jobs.specs.Jobs.{read_by, swap_by};
 
 use commands::Access;
 use commands::ceilings::TaskCeilings;

@@ -219,7 +219,9 @@ pub fn run(
     limit: u32,
 ) -> Paused
     requires { (length from.jobs ≡ 8) × (length from.waiting ≡ 8) × (length program ≡ 512) }
-    ensures { Ends sheet.now program bounds.now limit (flat_in (shared memory.old) (map own tasks.old) from) (flat_in (shared memory.new) (map own tasks.new) result) × (length result.jobs ≡ 8) × (length result.waiting ≡ 8) }
+    ensures { Ends sheet.now program bounds.now limit
+        (flat_in (shared memory.old) (map own tasks.old) from) (flat_in (shared memory.new) (map own tasks.new) result)
+        × (length result.jobs ≡ 8) × (length result.waiting ≡ 8) }
 {
     let mut jobs = from.jobs;
     // The job of task p, which ran last, is held apart, and goes back when another task runs.

@@ -1,5 +1,6 @@
 -- The sheet builder: commands are handed over one after another, and each is judged as the reader would judge it at that place.
-use Rattle.std.specs.Prelude.{ℕ, zero, suc, ◌+◌, min, ◌<◌, ◌≤◌, ◌≡◌, ◌↔◌, Bool, true, false, List, [], ◌∷◌, ◌++◌, leb, length, get_or, take, drop}
+use Rattle.std.specs.Prelude.{ℕ, zero, suc, ◌+◌, min, ◌<◌, ◌≤◌, ◌≡◌, ◌↔◌, Bool, true, false, leb}
+use Rattle.std.specs.Prelude.{List, [], ◌∷◌, ◌++◌, length, get_or, take, drop}
 use Rattle.std.proofs.Math.Option.{Option, none, some}
 use Rattle.model.specs.Refusal.{Refusal, no_command, byte_after_end, buffer_full, number}
 use Rattle.model.specs.Command.{Command, Row, table, row_of}

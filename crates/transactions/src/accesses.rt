@@ -5,7 +5,8 @@ ghost use Rattle.state.specs.Held.{touched_in};
 ghost use Rattle.exchanges.specs.Places.{went, noted, left};
 ghost use Rattle.jobs.specs.Jobs.{in_phase};
 ghost use Rattle.transactions.specs.Blocks.{bank_of, named_block, touching, clearing};
-ghost use Rattle.transactions.specs.Accesses.{goes_on, first_read, store_for, got_by, after_copy, after_put, access_tick, loses_attempt, checked_by, again_read};
+ghost use Rattle.transactions.specs.Accesses.{goes_on, first_read, store_for, got_by, after_copy, after_put, access_tick};
+ghost use Rattle.transactions.specs.Accesses.{loses_attempt, checked_by, again_read};
 
 use commands::Access;
 use commands::ceilings::SheetCeilings;

@@ -7,17 +7,17 @@ use Rattle.builder.proofs.compose_handed.Goals as goal
 pub returns-in-By : goal.returns-in-By
 returns-in-By c =
     let a = c.args in
-    answers-named a.b a.operands.now (view_state a.state) a.buffer.now c.compose.result c.in-By.field-0 c.command-c.result c.values-values.result _
-    (sym (rw c.in-By.is at c.entry_of.ensures)) c.values-values.ensures c.command-c.ensures c.compose.ensures
+    answers-named a.b a.operands.now (view_state a.state) a.buffer.now c.compose.result c.in-By.field-0 c.command-c.result
+    c.values-values.result _ (sym c.in-By.ensures) c.values-values.ensures c.command-c.ensures c.compose.ensures
 
 pub returns-then-state : goal.returns-then-state
 returns-then-state c =
     let a = c.args in
     answers_unnamed_end a.b a.operands.now (view_state a.state) a.buffer.now c.declined.result
-    (sym (rw c.in_default.is at c.entry_of.ensures)) c.if-state.true c.declined.ensures
+    (sym c.in_default.ensures) c.if-state.true c.declined.ensures
 
 pub returns : goal.returns
 returns c =
     let a = c.args in
     answers_unnamed a.b a.operands.now (view_state a.state) a.buffer.now c.declined-2.result
-    (sym (rw c.in_default.is at c.entry_of.ensures)) c.if-state.false c.declined-2.ensures
+    (sym c.in_default.ensures) c.if-state.false c.declined-2.ensures

@@ -54,7 +54,8 @@ returns-in-35 c = rw (c.in-35.is, commit-command)
 
 pub returns-in_default : goal.returns-in_default
 unfolding row_of table
-returns-in_default c = let b = c.args.b in
+returns-in_default c =
+    let b = c.args.b in
     sym (no-command _ _ b (simp (
       ne_eqb b 1 c.in_default.in_default-own.rest.0.0.0.0.0.0.0.0.0.0.0.0.0.1,
       ne_eqb b 2 c.in_default.in_default-own.rest.0.0.0.0.0.0.0.0.0.0.0.0.1,

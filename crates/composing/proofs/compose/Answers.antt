@@ -16,17 +16,17 @@ pub returns-in-Some : goal.returns-in-Some
 returns-in-Some c =
     let a = c.args in
     answers_fault (view_state a.state) a.buffer.now c.declined-in-Some.result a.values a.c c.if-state.false (view_refusal c.in-Some.refusal)
-    (rw c.in-Some.is at c.fault-f.ensures) c.declined-in-Some.ensures
+    c.in-Some.ensures c.declined-in-Some.ensures
 
 pub returns-then-is_full : goal.returns-then-is_full
 returns-then-is_full c =
     let a = c.args in
     let full = rw c.size-size.ensures at (sym c.if-is_full.true ∙ c.is_full.ensures) in
     answers_full (view_state a.state) a.buffer.now c.declined-then-is_full.result a.values a.c c.if-state.false
-    (rw c.in_default.is at c.fault-f.ensures) full c.declined-then-is_full.ensures
+    c.in_default.ensures full c.declined-then-is_full.ensures
 
 pub after-requires : goal.after-requires
-after-requires c = good_under _ _ (rw c.in_default.is at c.fault-f.ensures)
+after-requires c = good_under _ _ c.in_default.ensures
 
 pub returns : goal.returns
 returns c =
@@ -35,5 +35,5 @@ returns c =
     let next = ap (λ (n : ℕ). a.state.filled + n) size in
     let free = rw size at (sym c.if-is_full.false ∙ c.is_full.ensures) in
     answers-taken (view_state a.state) a.buffer.now _ a.values a.c c.if-state.false
-    (rw c.in_default.is at c.fault-f.ensures) free c.write.ensures
+    c.in_default.ensures free c.write.ensures
     (record { number = refl; place = next; state = same-state c.after.ensures next c.is_end.ensures; buffer = refl })

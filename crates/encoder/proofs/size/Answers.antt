@@ -9,9 +9,7 @@ use Rattle.encoder.proofs.Commands.{entry-is, encode-size}
 use Rattle.encoder.proofs.size.Goals as goal
 
 pub returns-in_default : goal.returns-in_default
-returns-in_default c =
-    let some = entry-is (view_command [] c.args.c) in
-    cc
+returns-in_default c = let some = entry-is (view_command [] c.args.c) in cc
 
 pub returns : goal.returns
 returns c =

@@ -7,34 +7,25 @@ use native.Mathlib.Omega.{arith}
 use Rattle.engine.proofs.run.Goals as goal
 
 pub returns-in-TurnedDown : goal.returns-in-TurnedDown
-returns-in-TurnedDown c = rw c.refused.ensures
-    (run-refused _ _ _ c.in-TurnedDown.f
-    (rw c.in-TurnedDown.is at c.first_fault-v.ensures))
+returns-in-TurnedDown c =
+    rw c.refused.ensures (run-refused _ _ _ c.in-TurnedDown.f c.in-TurnedDown.ensures)
 
 pub returns-then-too_high : goal.returns-then-too_high
-returns-then-too_high c = rw c.refused-then-too_high.ensures
-    (run-too-high _ _ _ (rw c.in_default.is at c.first_fault-v.ensures)
-    c.if-too_high.true)
+returns-then-too_high c =
+    rw c.refused-then-too_high.ensures (run-too-high _ _ _ c.in_default.ensures c.if-too_high.true)
 
 pub run_accepted-needed-requires : goal.run_accepted-needed-requires
-run_accepted-needed-requires c = sym (rw c.in_default.is at c.first_fault-v.ensures)
+run_accepted-needed-requires c = sym c.in_default.ensures
 
 pub returns-then-room-needed : goal.returns-then-room-needed
-returns-then-room-needed c = let small : (i : ℕ) → get_or
-    c.args.sheet.now i 0 < 256 = λ i.
-    omega (arith, c.type_inv.sheet i)
-    in rw c.refused-then-room-needed.ensures
-    (run-too-short _ _ _ small
-    (rw c.in_default.is at
-    c.first_fault-v.ensures)
-    c.if-too_high.false c.run_accepted-needed.ensures
-    c.if-room-needed.true)
+returns-then-room-needed c =
+    let small : (i : ℕ) → get_or c.args.sheet.now i 0 < 256 = λ i. omega (arith, c.type_inv.sheet i) in
+    let accepted = c.in_default.ensures in
+    rw c.refused-then-room-needed.ensures
+    (run-too-short _ _ _ small accepted c.if-too_high.false c.run_accepted-needed.ensures c.if-room-needed.true)
 
 pub returns : goal.returns
-returns c = let small : (i : ℕ) → get_or
-    c.args.sheet.now i 0 < 256 = λ i. omega
-    (arith, c.type_inv.sheet i) in
-    run-written _ _ _ small
-    (rw c.in_default.is at
-    c.first_fault-v.ensures)
-    c.if-too_high.false c.run_accepted-needed.ensures c.if-room-needed.false
+returns c =
+    let small : (i : ℕ) → get_or c.args.sheet.now i 0 < 256 = λ i. omega (arith, c.type_inv.sheet i) in
+    let accepted = c.in_default.ensures in
+    run-written _ _ _ small accepted c.if-too_high.false c.run_accepted-needed.ensures c.if-room-needed.false

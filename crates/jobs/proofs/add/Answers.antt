@@ -4,9 +4,4 @@ use Rattle.jobs.proofs.add.Goals as goal
 
 pub returns : goal.returns
 unfolding added
-returns c = rw (
-  ← c.register.ensures,
-  ← c.register-2.ensures,
-  ← c.wrapping_add_u32-sum.ensures.value,
-  c.set_register.ensures,
-)
+returns c = rw (← c.register.ensures, ← c.register-2.ensures, ← c.wrapping_add_u32-sum.ensures.value, c.set_register.ensures)

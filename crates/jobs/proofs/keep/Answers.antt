@@ -9,11 +9,7 @@ loop-n-init c = (search rules, refl)
 
 pub loop-n-preserved : goal.loop-n-preserved
 unfolding copied
-loop-n-preserved c = (
-  omega arith,
-  rw
-      (add-one, c.set_kept.ensures, c.register-value.ensures, c.loop-n.invariant.1),
-)
+loop-n-preserved c = (omega arith, rw (add-one, c.set_kept.ensures, c.register-value.ensures, c.loop-n.invariant.1))
 
 pub returns : goal.returns
 returns c = let l = c.loop-n in let q : l.n ≡ 8 = omega (arith, c.loop-n-test) in rw q at l.invariant.1

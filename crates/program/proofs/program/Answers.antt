@@ -11,8 +11,7 @@ pub returns-in_default : goal.returns-in_default
 returns-in_default c = not-refused c.loop-command.invariant (refused-is _ _ _ _ c.decode-decoded.ensures c.in_default.is)
 
 pub loop-command-smaller-in-Word : goal.loop-command-smaller-in-Word
-loop-command-smaller-in-Word c =
-    nearer _ _ _ _ c.decode-decoded.ensures c.in-Got.is
+loop-command-smaller-in-Word c = nearer _ _ _ _ c.decode-decoded.ensures c.in-Got.is
 
 pub loop-command-preserved-in-Word : goal.loop-command-preserved-in-Word
 loop-command-preserved-in-Word c =
@@ -20,8 +19,7 @@ loop-command-preserved-in-Word c =
     (found-is _ _ _ _ c.decode-decoded.ensures c.in-Got.is c.in-Word.is)
 
 pub loop-command-smaller-in-Block : goal.loop-command-smaller-in-Block
-loop-command-smaller-in-Block c =
-    nearer _ _ _ _ c.decode-decoded.ensures c.in-Got.is
+loop-command-smaller-in-Block c = nearer _ _ _ _ c.decode-decoded.ensures c.in-Got.is
 
 pub loop-command-preserved-in-Block : goal.loop-command-preserved-in-Block
 loop-command-preserved-in-Block c =
@@ -29,8 +27,7 @@ loop-command-preserved-in-Block c =
     (found-is _ _ _ _ c.decode-decoded.ensures c.in-Got.is c.in-Block.is)
 
 pub loop-command-smaller-in-Task : goal.loop-command-smaller-in-Task
-loop-command-smaller-in-Task c =
-    nearer _ _ _ _ c.decode-decoded.ensures c.in-Got.is
+loop-command-smaller-in-Task c = nearer _ _ _ _ c.decode-decoded.ensures c.in-Got.is
 
 pub loop-command-preserved-in-Task : goal.loop-command-preserved-in-Task
 loop-command-preserved-in-Task c =
@@ -53,8 +50,7 @@ bounds-program-lines c =
     (found-is _ _ _ _ c.decode-decoded.ensures c.in-Got.is c.in-Body.is)
 
 pub loop-command-smaller : goal.loop-command-smaller
-loop-command-smaller c =
-    nearer _ _ _ _ c.decode-decoded.ensures c.in-Got.is
+loop-command-smaller c = nearer _ _ _ _ c.decode-decoded.ensures c.in-Got.is
 
 pub loop-command-preserved : goal.loop-command-preserved
 loop-command-preserved c =

@@ -9,7 +9,8 @@ use Rattle.report.proofs.block_line.Goals as goal
 
 pub returns : goal.returns
 unfolding fields
-returns c = let a = c.args in
+returns c =
+    let a = c.args in
     as_text (block_text (memory_of (shared a.memory.now)) a.block
     c.contents-bank.ensures) (search rules)
     (then c.head-middle.ensures (then

@@ -15,7 +15,8 @@ pub block_line-next-requires : goal.block_line-next-requires
 block_line-next-requires c = omega (arith, c.loop-b.invariant.1.room, c.requires)
 
 pub loop-b-preserved : goal.loop-b-preserved
-loop-b-preserved c = let m = memory_of (shared c.args.memory.now) in
+loop-b-preserved c =
+    let m = memory_of (shared c.args.memory.now) in
     (search rules, line_more (block_line m) refl c.loop-b.invariant.1 c.block_line-next.ensures)
 
 pub returns : goal.returns

@@ -6,6 +6,4 @@ use Rattle.report.proofs.Views.{current-in}
 use Rattle.report.proofs.contents.Goals as goal
 
 pub returns : goal.returns
-returns c =
-    c.current.ensures ∙ current-in (shared-sized c.args.memory.now (search rules)) c.args.cell
-    c.requires
+returns c = c.current.ensures ∙ current-in (shared-sized c.args.memory.now (search rules)) c.args.cell c.requires

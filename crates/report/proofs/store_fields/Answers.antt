@@ -19,5 +19,4 @@ returns-then-store-lt-STORES c =
 
 pub returns : goal.returns
 unfolding fields
-returns c =
-    as_text (ap fields (sym (past-rows 8 48 _ _ c.if-store-lt-STORES.false))) (search rules) c.put.ensures
+returns c = as_text (ap fields (sym (past-rows 8 48 _ _ c.if-store-lt-STORES.false))) (search rules) c.put.ensures

@@ -15,7 +15,8 @@ pub task_line-next-requires : goal.task_line-next-requires
 task_line-next-requires c = omega (arith, c.loop-p.invariant.1.room, c.requires)
 
 pub loop-p-preserved : goal.loop-p-preserved
-loop-p-preserved c = let ts = map own c.args.tasks.now in
+loop-p-preserved c =
+    let ts = map own c.args.tasks.now in
     (search rules, line_more (task_lines_of ts) refl c.loop-p.invariant.1 c.task_line-next.ensures)
 
 pub returns : goal.returns

@@ -9,9 +9,7 @@ pub loop-c-init : goal.loop-c-init
 loop-c-init c = (omega arith, shared_zeros_lem)
 
 pub loop-c-preserved : goal.loop-c-preserved
-loop-c-preserved c =
-    let less = c.loop-c-test.true in
-    (omega arith, c.set_cell.ensures ∙ next_blanked _ _ c.loop-c.invariant.1 less)
+loop-c-preserved c = let less = c.loop-c-test.true in (omega arith, c.set_cell.ensures ∙ next_blanked _ _ c.loop-c.invariant.1 less)
 
 pub returns : goal.returns
 returns c =

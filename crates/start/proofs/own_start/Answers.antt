@@ -9,6 +9,4 @@ pub loop-k-init : goal.loop-k-init
 loop-k-init c = (omega arith, own-zeros)
 
 pub loop-k-preserved : goal.loop-k-preserved
-loop-k-preserved c =
-    let less = c.loop-k-test.true in
-    (omega arith, c.set_copy.ensures ∙ next-copied _ _ c.loop-k.invariant.1 less)
+loop-k-preserved c = let less = c.loop-k-test.true in (omega arith, c.set_copy.ensures ∙ next-copied _ _ c.loop-k.invariant.1 less)

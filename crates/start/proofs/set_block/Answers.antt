@@ -24,9 +24,7 @@ pub overflow_add-b : goal.overflow_add-b
 overflow_add-b c = record { fits = omega (arith, block_range c.requires) }
 
 pub set_store-requires : goal.set_store-requires
-set_store-requires c =
-    let pre = c.requires in
-    store-ready pre _ c.set_cell.ensures c.block_values-values.ensures
+set_store-requires c = let pre = c.requires in store-ready pre _ c.set_cell.ensures c.block_values-values.ensures
 
 pub returns : goal.returns
 returns c =

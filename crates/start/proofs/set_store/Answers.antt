@@ -16,6 +16,4 @@ loop-k-preserved c =
     (omega arith, rw c.set_value.ensures (one-stored c.requires _ _ l.invariant.1 less refl))
 
 pub returns : goal.returns
-returns c =
-    let l = c.loop-k in
-    let q : l.k ≡ 8 = omega (arith, c.loop-k-test) in all-stored c.requires (rw q at l.invariant.1)
+returns c = let l = c.loop-k in let q : l.k ≡ 8 = omega (arith, c.loop-k-test) in all-stored c.requires (rw q at l.invariant.1)

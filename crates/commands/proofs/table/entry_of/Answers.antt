@@ -18,8 +18,10 @@ returns-in-1-to-15 c = search rules
 
 pub returns-in-16-to-47 : goal.returns-in-16-to-47
 unfolding entry_of between?
-returns-in-16-to-47 c = let b = c.args.b in
-    c.find-in-16-to-47.ensures ∙ sym (skipped b (take 5 entries) (drop 5 entries) (outside b 0x01 0x0F (take 5 entries) refl (inr (omega arith))))
+returns-in-16-to-47 c =
+    let b = c.args.b in
+    c.find-in-16-to-47.ensures
+    ∙ sym (skipped b (take 5 entries) (drop 5 entries) (outside b 0x01 0x0F (take 5 entries) refl (inr (omega arith))))
 
 pub returns-in_default : goal.returns-in_default
 unfolding entry_of between?

@@ -16,8 +16,7 @@ bounds-i-i c = search rules
 
 pub returns-then-entry-b : goal.returns-then-entry-b
 unfolding entries
-returns-then-entry-b c = let l = c.loop-i in
-    sym (l.invariant.1 ∙ here _ entries l.i (omega arith) (sym c.if-entry-b.true))
+returns-then-entry-b c = let l = c.loop-i in sym (l.invariant.1 ∙ here _ entries l.i (omega arith) (sym c.if-entry-b.true))
 
 pub overflow_add-i : goal.overflow_add-i
 unfolding entries
@@ -29,10 +28,10 @@ loop-i-smaller c = search rules
 
 pub loop-i-preserved : goal.loop-i-preserved
 unfolding entries
-loop-i-preserved c = let l = c.loop-i in
+loop-i-preserved c =
+    let l = c.loop-i in
     (omega arith, l.invariant.1 ∙ next _ entries l.i (omega arith) (λ e. c.if-entry-b.false (sym e)))
 
 pub returns : goal.returns
 unfolding entries
-returns c = let l = c.loop-i in
-    sym (l.invariant.1 ∙ past _ entries l.i (omega arith))
+returns c = let l = c.loop-i in sym (l.invariant.1 ∙ past _ entries l.i (omega arith))

@@ -11,8 +11,7 @@ returns-then-mine c = rw (
   ← c.cell.ensures,
   ← c.new-new.ensures,
   ← c.old.ensures,
-  sym
-      c.as_new.ensures ∙ c.if-as_new.true,
+  sym c.as_new.ensures ∙ c.if-as_new.true,
   eq-eqb _ _ c.if-mine.true,
   c.set_cell.ensures,
   c.pack-word.ensures,
@@ -40,8 +39,7 @@ returns-then-mine-2 c = rw (
   ← c.cell.ensures,
   ← c.new-new.ensures,
   ← c.old.ensures,
-  sym
-      c.as_new.ensures ∙ c.if-as_new.false,
+  sym c.as_new.ensures ∙ c.if-as_new.false,
   eq-eqb _ _ c.if-mine-2.true,
   ← c.init-word.ensures,
   c.set_cell-then-mine-2.ensures,
@@ -56,8 +54,7 @@ returns-then-overlapped-eq0 c = rw (
   ← c.cell.ensures,
   ← c.new-new.ensures,
   ← c.old.ensures,
-  sym c.as_new.ensures
-      ∙ c.if-as_new.false,
+  sym c.as_new.ensures ∙ c.if-as_new.false,
   ne_eqb _ _ c.if-mine-2.false,
   ← c.overlapped.ensures,
   eq-eqb _ _ c.if-overlapped-eq0.true,
@@ -72,8 +69,7 @@ returns c = rw (
   ← c.cell.ensures,
   ← c.new-new.ensures,
   ← c.old.ensures,
-  sym c.as_new.ensures
-      ∙ c.if-as_new.false,
+  sym c.as_new.ensures ∙ c.if-as_new.false,
   ne_eqb _ _ c.if-mine-2.false,
   ← c.overlapped.ensures,
   ne_eqb _ _ c.if-overlapped-eq0.false,

@@ -5,12 +5,7 @@ use Rattle.exchanges.proofs.exchange.commit.Goals as goal
 
 pub returns-then-status-eq0 : goal.returns-then-status-eq0
 unfolding after_commit
-returns-then-status-eq0 c = rw (
-  ← c.status.ensures,
-  eq-eqb _ _ c.if-status-eq0.true,
-  c.set_status.ensures,
-  c.to_clean.ensures,
-)
+returns-then-status-eq0 c = rw (← c.status.ensures, eq-eqb _ _ c.if-status-eq0.true, c.set_status.ensures, c.to_clean.ensures)
 
 pub returns : goal.returns
 unfolding after_commit

@@ -5,12 +5,7 @@ use Rattle.exchanges.proofs.exchange.save.Goals as goal
 
 pub returns-then-value-old : goal.returns-then-value-old
 unfolding after_save
-returns-then-value-old c = rw (
-  ← c.slot.ensures,
-  ← c.old-old.ensures,
-  ne_eqb _ _ c.if-value-old.true,
-  c.set_save.ensures,
-)
+returns-then-value-old c = rw (← c.slot.ensures, ← c.old-old.ensures, ne_eqb _ _ c.if-value-old.true, c.set_save.ensures)
 
 pub returns-then-overlapped-eq0 : goal.returns-then-overlapped-eq0
 unfolding after_save

@@ -5,8 +5,7 @@ use Rattle.machine.proofs.run.close.Goals as goal
 
 pub returns-then-job-end : goal.returns-then-job-end
 returns-then-job-end c = rw (
-  sym c.is_plain.ensures
-      ∙ c.if-is_plain.true,
+  sym c.is_plain.ensures ∙ c.if-is_plain.true,
   eq-eqb _ _ c.if-job-end.true,
   c.count.ensures,
   c.in_phase.ensures,

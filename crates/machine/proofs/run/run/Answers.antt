@@ -16,20 +16,13 @@ use Rattle.machine.proofs.run.run.Goals as goal
 use Rattle.machine.proofs.run.run.Goals.{then-starting, else-starting}
 
 pub loop-tick-init : goal.loop-tick-init
-loop-tick-init c = (
-  omega arith,
-  c.requires.0,
-  c.requires.1,
-  c.pending_at-next.ensures,
-  λ u e. e,
-)
+loop-tick-init c = (omega arith, c.requires.0, c.requires.1, c.pending_at-next.ensures, λ u e. e)
 
 pub offset_bounds-jobs-p : goal.offset_bounds-jobs-p
 offset_bounds-jobs-p c = omega (arith, c.loop-tick.invariant.0)
 
 pub bounds-jobs-p : goal.bounds-jobs-p
-bounds-jobs-p c = omega
-    (arith, c.loop-tick.invariant.0, c.loop-tick.invariant.1)
+bounds-jobs-p c = omega (arith, c.loop-tick.invariant.0, c.loop-tick.invariant.1)
 
 pub offset_bounds-jobs-i : goal.offset_bounds-jobs-i
 offset_bounds-jobs-i c = omega (arith, c.task_number-p.ensures.1)
@@ -47,8 +40,7 @@ pub bounds-tasks-i : goal.bounds-tasks-i
 bounds-tasks-i c = omega (arith, c.task_number-p.ensures.1)
 
 pub bounds-waiting-i-in-Due : goal.bounds-waiting-i-in-Due
-bounds-waiting-i-in-Due c = omega
-    (arith, c.task_number-p.ensures.1, c.loop-tick.invariant.2)
+bounds-waiting-i-in-Due c = omega (arith, c.task_number-p.ensures.1, c.loop-tick.invariant.2)
 
 pub offset_bounds-tasks-i-in-Due : goal.offset_bounds-tasks-i-in-Due
 offset_bounds-tasks-i-in-Due c = omega (arith, c.task_number-p.ensures.1)
@@ -83,8 +75,7 @@ pub offset_bounds-jobs-p-then-stops : goal.offset_bounds-jobs-p-then-stops
 offset_bounds-jobs-p-then-stops c = omega (arith, c.loop-tick.invariant.0)
 
 pub bounds-jobs-p-then-stops : goal.bounds-jobs-p-then-stops
-bounds-jobs-p-then-stops c = omega
-    (arith, c.loop-tick.invariant.0, c.loop-tick.invariant.1)
+bounds-jobs-p-then-stops c = omega (arith, c.loop-tick.invariant.0, c.loop-tick.invariant.1)
 
 pub returns-then-stops : goal.returns-then-stops
 returns-then-stops c = let l = c.loop-tick in (
@@ -96,8 +87,9 @@ returns-then-stops c = let l = c.loop-tick in (
 )
 
 pub loop-tick-smaller-then-mask-eq0 : goal.loop-tick-smaller-then-mask-eq0
-loop-tick-smaller-then-mask-eq0 c = let l = c.loop-tick in omega
-    (arith, idled_later l.next l.tick _ c.idled-tick.ensures, c.loop-tick-test)
+loop-tick-smaller-then-mask-eq0 c =
+    let l = c.loop-tick in
+    omega (arith, idled_later l.next l.tick _ c.idled-tick.ensures, c.loop-tick-test)
 
 pub loop-tick-preserved-then-mask-eq0 : goal.loop-tick-preserved-then-mask-eq0
 loop-tick-preserved-then-mask-eq0 c = let l = c.loop-tick in (
@@ -116,11 +108,7 @@ pub offset_bounds-jobs-p-then-highest-p : goal.offset_bounds-jobs-p-then-highest
 offset_bounds-jobs-p-then-highest-p c = omega (arith, c.loop-tick.invariant.0)
 
 pub bounds-jobs-p-then-highest-p : goal.bounds-jobs-p-then-highest-p
-bounds-jobs-p-then-highest-p c = omega (
-  arith,
-  c.loop-tick.invariant.0,
-  c.loop-tick.invariant.1,
-)
+bounds-jobs-p-then-highest-p c = omega (arith, c.loop-tick.invariant.0, c.loop-tick.invariant.1)
 
 pub offset_bounds-jobs-p-then-highest-p-2 : goal.offset_bounds-jobs-p-then-highest-p-2
 offset_bounds-jobs-p-then-highest-p-2 c = omega (arith, c.top-highest.ensures.1)
@@ -129,8 +117,10 @@ pub bounds-jobs-p-then-highest-p-2 : goal.bounds-jobs-p-then-highest-p-2
 bounds-jobs-p-then-highest-p-2 c = omega (arith, c.top-highest.ensures.1)
 
 pub loop-tick-smaller-then-highest-p : goal.loop-tick-smaller-then-highest-p
-loop-tick-smaller-then-highest-p c = let away = ne_eqb _ _ (λ q. c.if-highest-p.true (c.top-highest.ensures.0 ∙ q)) in let here = eq-eqb _ _
-    (sym c.top-highest.ensures.0) in rw (away, here) (omega arith)
+loop-tick-smaller-then-highest-p c =
+    let away = ne_eqb _ _ (λ q. c.if-highest-p.true (c.top-highest.ensures.0 ∙ q)) in
+    let here = eq-eqb _ _ (sym c.top-highest.ensures.0) in
+    rw (away, here) (omega arith)
 
 pub loop-tick-preserved-then-highest-p : goal.loop-tick-preserved-then-highest-p
 loop-tick-preserved-then-highest-p c = let l = c.loop-tick in (
@@ -144,8 +134,7 @@ loop-tick-preserved-then-highest-p c = let l = c.loop-tick in (
 pub loop-busy-init : goal.loop-busy-init
 loop-busy-init c = let l = c.loop-tick in (
   λ h. c.loop-tick-test.true,
-  λ h task next e. c.in_default.not-Due task next
-      (c.coming_at-release.ensures ∙ e),
+  λ h task next e. c.in_default.not-Due task next (c.coming_at-release.ensures ∙ e),
   omega arith,
   λ h. absurd (true≢false h),
   λ u e. e,
@@ -158,43 +147,31 @@ pub bounds-program-at : goal.bounds-program-at
 bounds-program-at c = omega (arith, c.line-at.ensures.1)
 
 pub offset_bounds-tasks-i-then-starting : goal.offset_bounds-tasks-i-then-starting
-offset_bounds-tasks-i-then-starting c = let l =
-    c.loop-tick in
-    omega (arith, l.invariant.0)
+offset_bounds-tasks-i-then-starting c = let l = c.loop-tick in omega (arith, l.invariant.0)
 
 pub bounds-tasks-i-then-starting : goal.bounds-tasks-i-then-starting
-bounds-tasks-i-then-starting c = let l =
-    c.loop-tick in
-    omega (arith, l.invariant.0)
+bounds-tasks-i-then-starting c = let l = c.loop-tick in omega (arith, l.invariant.0)
 
 pub offset_bounds-tasks-i-else-starting : goal.offset_bounds-tasks-i-else-starting
-offset_bounds-tasks-i-else-starting c = let l =
-    c.loop-tick in
-    omega (arith, l.invariant.0)
+offset_bounds-tasks-i-else-starting c = let l = c.loop-tick in omega (arith, l.invariant.0)
 
 pub bounds-tasks-i-else-starting : goal.bounds-tasks-i-else-starting
-bounds-tasks-i-else-starting c = let l =
-    c.loop-tick in
-    omega (arith, l.invariant.0)
+bounds-tasks-i-else-starting c = let l = c.loop-tick in omega (arith, l.invariant.0)
 
 pub overflow_add-tick : goal.overflow_add-tick
-overflow_add-tick c = omega (
-  arith,
-  c.loop-busy.invariant.0 c.loop-busy-test.true,
-  c.ranges,
-)
+overflow_add-tick c = omega (arith, c.loop-busy.invariant.0 c.loop-busy-test.true, c.ranges)
 
 pub loop-busy-smaller : goal.loop-busy-smaller
 loop-busy-smaller c = omega (arith, c.loop-busy.invariant.0 c.loop-busy-test.true)
 
 pub loop-busy-preserved : goal.loop-busy-preserved
-loop-busy-preserved c = let l =
-    c.loop-tick in
-    let g = c.loop-busy in let v = c.if-starting in let on = rw
-    c.loop-busy-test.true at g.invariant.4 in
+loop-busy-preserved c =
+    let l = c.loop-tick in
+    let g = c.loop-busy in
+    let on = rw c.loop-busy-test.true at g.invariant.4 in
     let none = none-ready l.ready l.place l.next g.tick (g.invariant.1 c.loop-busy-test.true) in
-    let before : c.goes_on-busy.result ≡ true → g.tick + 1 < c.until-until.result = λ h.
-    goes_before v.job.phase _ _ c.goes_on-busy.ensures h in (
+    let before : c.goes_on-busy.result ≡ true → g.tick + 1 < c.until-until.result =
+    λ h. goes_before c.if-starting.job.phase _ _ c.goes_on-busy.ensures h in (
       λ h. until_limit l.next _ _ (rw c.until-until.ensures at (before h)),
       λ h. until_due l.next _ _ l.ready l.place none (rw c.until-until.ensures at (before h)),
       omega (arith, g.invariant.2),
@@ -205,22 +182,22 @@ loop-busy-preserved c = let l =
             c.until-until.result c.if-mask-eq0.false (sym c.if-highest-p.false ∙ c.top-highest.ensures.0)
             (omega (arith, l.invariant.0, l.invariant.1)) c.bound-end.ensures (g.invariant.0 c.loop-busy-test.true) l.invariant.3
             (g.invariant.1 c.loop-busy-test.true) w.tasks-is
-            (came _ w.begin_tick-job.new.task w.job-is w.memory-is w.begin_tick-job.ensures (begin-statement _ _ _ _ g.job (sym c.starting.ensures ∙ w.if-starting.true) w.line-at.ensures.0 refl)) c.goes_on-busy.ensures u e)
+            (came _ w.begin_tick-job.new.task w.job-is w.memory-is w.begin_tick-job.ensures
+            (begin-statement _ _ _ _ g.job (sym c.starting.ensures ∙ w.if-starting.true) w.line-at.ensures.0 refl))
+            c.goes_on-busy.ensures u e)
         | else-starting w ↦
             on u (stretch _ _ _ _ _ g.tasks l.jobs g.job _ l.waiting l.ready _ _ l.p l.next w.step_tick-job.new.task
             c.until-until.result c.if-mask-eq0.false (sym c.if-highest-p.false ∙ c.top-highest.ensures.0)
             (omega (arith, l.invariant.0, l.invariant.1)) c.bound-end.ensures (g.invariant.0 c.loop-busy-test.true) l.invariant.3
             (g.invariant.1 c.loop-busy-test.true) w.tasks-is
-            (came _ w.step_tick-job.new.task w.job-is w.memory-is w.step_tick-job.ensures (step-statement _ _ _ _ g.job (sym c.starting.ensures ∙ w.if-starting.false))) c.goes_on-busy.ensures u e)
+            (came _ w.step_tick-job.new.task w.job-is w.memory-is w.step_tick-job.ensures
+            (step-statement _ _ _ _ g.job (sym c.starting.ensures ∙ w.if-starting.false)))
+            c.goes_on-busy.ensures u e)
       ],
     )
 
 pub bounds-waiting-i-in-loop-tick : goal.bounds-waiting-i-in-loop-tick
-bounds-waiting-i-in-loop-tick c = omega (
-  arith,
-  c.loop-tick.invariant.0,
-  c.loop-tick.invariant.2,
-)
+bounds-waiting-i-in-loop-tick c = omega (arith, c.loop-tick.invariant.0, c.loop-tick.invariant.2)
 
 pub loop-tick-smaller : goal.loop-tick-smaller
 loop-tick-smaller c = omega (
@@ -228,14 +205,16 @@ loop-tick-smaller c = omega (
   c.loop-busy.invariant.3 c.loop-busy-test.false,
   c.loop-tick-test,
   waits-most (ltb c.ready_by-ready.result nobody),
-  apart_most (eqb (top_of 8 c.leaving-mask.result)
-      c.loop-tick.p),
+  apart_most (eqb (top_of 8 c.leaving-mask.result) c.loop-tick.p),
 )
 
 pub loop-tick-preserved : goal.loop-tick-preserved
-loop-tick-preserved c = let l = c.loop-tick in
-    let g = c.loop-busy in let off = rw c.loop-busy-test.false at g.invariant.4 in
-    let ready : c.ready_by-ready.result ≡ ready_by (unfinished? g.job.phase) (get_or l.waiting l.p 0) l.p l.ready = c.ready_by-ready.ensures in
+loop-tick-preserved c =
+    let l = c.loop-tick in
+    let g = c.loop-busy in
+    let off = rw c.loop-busy-test.false at g.invariant.4 in
+    let ready : c.ready_by-ready.result ≡ ready_by (unfinished? g.job.phase) (get_or l.waiting l.p 0) l.p l.ready =
+    c.ready_by-ready.ensures in
     (l.invariant.0, l.invariant.1, l.invariant.2, l.invariant.3, λ u e. l.invariant.4 u (off u (rw (c.leaving-mask.ensures, ready) at e)))
 
 pub offset_bounds-jobs-p-2 : goal.offset_bounds-jobs-p-2

@@ -11,11 +11,7 @@ pub put-next-requires : goal.put-next-requires
 put-next-requires c = omega (arith, c.loop-i.invariant.1.room)
 
 pub loop-i-preserved : goal.loop-i-preserved
-loop-i-preserved c = (
-  search rules,
-  byte_more _ _ c.loop-i-test.true c.loop-i.invariant.1
-      c.put-next.ensures,
-)
+loop-i-preserved c = (search rules, byte_more _ _ c.loop-i-test.true c.loop-i.invariant.1 c.put-next.ensures)
 
 pub returns : goal.returns
 returns c = all-bytes _ _ c.loop-i.invariant.0 c.loop-i-test.false c.loop-i.invariant.1

@@ -23,7 +23,4 @@ pub put-requires : goal.put-requires
 put-requires c = omega (arith, c.loop-i.invariant.1.room, c.requires)
 
 pub returns : goal.returns
-returns c =
-    all-fields _ _ _ _ c.loop-i.invariant.0 c.loop-i-test.false
-    c.requires.0 c.loop-i.invariant.1
-    c.put.ensures
+returns c = all-fields _ _ _ _ c.loop-i.invariant.0 c.loop-i-test.false c.requires.0 c.loop-i.invariant.1 c.put.ensures

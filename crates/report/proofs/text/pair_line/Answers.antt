@@ -5,6 +5,4 @@ use Rattle.report.proofs.text.pair_line.Goals as goal
 
 pub returns : goal.returns
 unfolding fields
-returns c =
-    then c.head-middle.ensures
-    (then c.field-end.ensures c.put.ensures)
+returns c = then c.head-middle.ensures (then c.field-end.ensures c.put.ensures)

@@ -7,5 +7,4 @@ use Rattle.report.proofs.text.row_line.Goals as goal
 
 pub returns : goal.returns
 unfolding fields
-returns c =
-    as_text refl (search rules) (then c.head-next.ensures c.fields.ensures)
+returns c = as_text refl (search rules) (then c.head-next.ensures c.fields.ensures)

@@ -23,7 +23,8 @@ pub values-requires : goal.values-requires
 values-requires c = omega (arith, fits _ c.requires.sound, c.requires, c.requires.declared)
 
 pub returns : goal.returns
-returns c = let s = c.args.sheet.now in
+returns c =
+    let s = c.args.sheet.now in
     c.values.ensures ∙ ap (λ (p : ℕ). values_from s p) (omega (arith, c.requires))
     ∙ sym (ap (λ (b : Block). b.values)
     (block_of s c.requires.sound c.args.i no_block c.requires.declared))

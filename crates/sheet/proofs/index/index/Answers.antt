@@ -14,7 +14,8 @@ pub loop-at-init : goal.loop-at-init
 loop-at-init c = begin _ _ c.empty-x.ensures c.requires
 
 pub returns-in_default : goal.returns-in_default
-returns-in_default c = let e : c.decode-d.result ≡ Refused c.in_default.field-0 = c.in_default.is in
+returns-in_default c =
+    let e : c.decode-d.result ≡ Refused c.in_default.field-0 = c.in_default.is in
     not-refused (here c.loop-at.invariant c.loop-at-test.true)
     (sym (rw e at c.decode-d.ensures))
 
@@ -24,14 +25,14 @@ count-x-requires c =
     (suc c.loop-at.at) in
     room-values vs c.loop-at.x c.in-Got.c
     (is_found (here c.loop-at.invariant c.loop-at-test.true)
-    (sym (rw c.in-Got.is at c.decode-d.ensures))).0
+    (sym c.in-Got.ensures)).0
 
 pub loop-at-smaller : goal.loop-at-smaller
 loop-at-smaller c =
     let e : command_at c.args.sheet.now
     c.loop-at.at
     ≡ found _ c.in-Got.next = sym
-    (rw c.in-Got.is at c.decode-d.ensures) in
+    c.in-Got.ensures in
     omega (arith, (next-after _ _ e).0, (next-after _ _ e).1)
 
 pub loop-at-preserved : goal.loop-at-preserved
@@ -44,7 +45,7 @@ loop-at-preserved c =
           c.loop-at.at c.in-Got.next,
     )
     (is_found (here c.loop-at.invariant c.loop-at-test.true)
-    (sym (rw c.in-Got.is at c.decode-d.ensures))).1
+    (sym c.in-Got.ensures)).1
 
 pub returns : goal.returns
 returns c = finished c.loop-at.invariant c.loop-at-test.false

@@ -16,6 +16,7 @@ pub value4-requires : goal.value4-requires
 value4-requires c = omega (arith, fits _ c.requires.sound, c.requires.declared)
 
 pub returns : goal.returns
-returns c = let s = c.args.sheet.now in
+returns c =
+    let s = c.args.sheet.now in
     c.value4.ensures ∙ ap (λ (p : ℕ). big_endian s p 4) (omega arith)
     ∙ sym (word_of s c.requires.sound c.args.i c.requires.declared)

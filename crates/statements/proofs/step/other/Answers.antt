@@ -14,8 +14,7 @@ returns-in-Plain c = search rules
 
 pub returns-in-Read : goal.returns-in-Read
 unfolding other_tick
-returns-in-Read c = other-read _ _ _ c.in-Read.is c.read_tick-read.ensures
-    c.read_by.ensures
+returns-in-Read c = other-read _ _ _ c.in-Read.is c.read_tick-read.ensures c.read_by.ensures
 
 pub returns-in-Exchange : goal.returns-in-Exchange
 unfolding other_tick

@@ -15,5 +15,4 @@ returns-in-At c = step-commit _ _ _ _ _ c.exchange_step-at.ensures
     c.exchange_tick-exchanged.ensures c.committed_by.ensures
 
 pub returns : goal.returns
-returns c = c.other.ensures ∙ step_other _ _ _ _ _ c.exchange_step-at.ensures
-    c.in_default.is
+returns c = c.other.ensures ∙ step_other _ _ _ _ _ c.exchange_step-at.ensures c.in_default.is

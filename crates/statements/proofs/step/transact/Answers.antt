@@ -8,13 +8,7 @@ returns-in-Between c = rw c.in-Between.is
 
 pub returns-in-First : goal.returns-in-First
 unfolding transact_tick
-returns-in-First c = rw (
-  c.in-First.is,
-  ← c.block.ensures,
-  ← c.bank.ensures,
-  ← c.read_tick-read.ensures,
-  ← c.first_read.ensures,
-)
+returns-in-First c = rw (c.in-First.is, ← c.block.ensures, ← c.bank.ensures, ← c.read_tick-read.ensures, ← c.first_read.ensures)
 
 pub returns-in-Copying : goal.returns-in-Copying
 unfolding transact_tick

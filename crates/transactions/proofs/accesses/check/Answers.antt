@@ -8,9 +8,4 @@ returns-in-Get c = rw (c.in-Get.is, ← c.goes_on.ensures, c.set_register.ensure
 
 pub returns-in-Put : goal.returns-in-Put
 unfolding checked_by
-returns-in-Put c = rw (
-  c.in-Put.is,
-  c.struct_known-1.given.1,
-  ← c.next.ensures,
-  c.set_slot.ensures,
-)
+returns-in-Put c = rw (c.in-Put.is, c.struct_known-1.given.1, ← c.next.ensures, c.set_slot.ensures)

@@ -8,9 +8,4 @@ returns-in-Reads c = rw (c.in-Reads.is, ← c.inner.ensures)
 
 pub returns-in-Gives : goal.returns-in-Gives
 unfolding first_read
-returns-in-Gives c = rw (
-  c.in-Gives.is,
-  ← c.block.ensures,
-  ← c.inner-in-Gives.ensures,
-  c.touch.ensures,
-)
+returns-in-Gives c = rw (c.in-Gives.is, ← c.block.ensures, ← c.inner-in-Gives.ensures, c.touch.ensures)

@@ -8,12 +8,7 @@ returns-in-Goes c = rw (c.in-Goes.is, ← c.inner.ensures)
 
 pub returns-then-yes : goal.returns-then-yes
 unfolding committed_by
-returns-then-yes c = rw (
-  c.in-Ends.is,
-  c.if-yes.true,
-  ← c.done.ensures,
-  c.take_back.ensures,
-)
+returns-then-yes c = rw (c.in-Ends.is, c.if-yes.true, ← c.done.ensures, c.take_back.ensures)
 
 pub returns-in-Ends : goal.returns-in-Ends
 unfolding committed_by

@@ -7,7 +7,8 @@ use Rattle.transactions.proofs.Gathers.{Passed, mask_below, passed_none, passed-
 use Rattle.transactions.proofs.commits.gather.Goals as goal
 
 pub loop-rest-init : goal.loop-rest-init
-loop-rest-init c = let t = own c.args.task.now in
+loop-rest-init c =
+    let t = own c.args.task.now in
     subst (λ (rest : ℕ). Passed t t rest 0 false) (sym c.touched-rest.ensures) (passed_none t (mask_below _))
 
 pub overflow_cast-b : goal.overflow_cast-b
@@ -23,7 +24,8 @@ pub loop-rest-smaller : goal.loop-rest-smaller
 loop-rest-smaller c = rw c.others-rest.ensures (fewer _ (omega (arith, c.loop-rest-test)))
 
 pub loop-rest-preserved : goal.loop-rest-preserved
-loop-rest-preserved c = let g = rw c.lowest-b.ensures at c.gather_one-spends.ensures in
+loop-rest-preserved c =
+    let g = rw c.lowest-b.ensures at c.gather_one-spends.ensures in
     rw (c.either-spent.ensures, c.others-rest.ensures)
     (passed_more c.loop-rest.invariant (omega (arith, c.loop-rest-test)) _ _ g.0 g.1)
 

@@ -9,9 +9,4 @@ returns-then-slot-eq0 c = rw (← c.slot-slot.ensures, eq-eqb _ _ c.if-slot-eq0.
 
 pub returns : goal.returns
 unfolding taken_one
-returns c = rw (
-  ← c.slot-slot.ensures,
-  ne_eqb _ _ c.if-slot-eq0.false,
-  ← c.remembered-store.ensures,
-  c.set_copy.ensures,
-)
+returns c = rw (← c.slot-slot.ensures, ne_eqb _ _ c.if-slot-eq0.false, ← c.remembered-store.ensures, c.set_copy.ensures)
