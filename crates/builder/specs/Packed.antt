@@ -18,13 +18,7 @@ some? (suc n) = true
 unfoldable pub counts_of : List ℕ → SheetCounts
 unfolding big_endian
 counts_of r =
-    record {
-      words = get_or r 1 0;
-      blocks = get_or r 2 0;
-      tasks = get_or r 3 0;
-      commands = big_endian r 4 2;
-      releases = big_endian r 6 2;
-    }
+    record { words = get_or r 1 0; blocks = get_or r 2 0; tasks = get_or r 3 0; commands = big_endian r 4 2; releases = big_endian r 6 2 }
 
 -- row 1: whether the body has commands, whether a transaction is open, how many of each list; rows 4, 5 and 6: the lists
 unfoldable pub body_of : List ℕ → List ℕ → List ℕ → List ℕ → Body
