@@ -5,7 +5,7 @@ use Rattle.std.specs.Prelude.{List, [], get_or, set, replicate}
 use Rattle.model.specs.Lists.{at}
 use Rattle.model.specs.Command.{command_at}
 use Rattle.commands.specs.declared.BodyCommand.{BodyCommand}
-use Rattle.state.specs.State.{Shared, Own, own}
+use Rattle.state.specs.State.{Shared, Own, own, no_own}
 use Rattle.exchanges.specs.Places.{if, Noted, noted, Left, left}
 use Rattle.jobs.specs.Jobs.{job, in_phase, ticks, counted}
 use Rattle.jobs.specs.Jobs as count
@@ -43,7 +43,7 @@ abbrev pub job_of : FlatMachine → ℕ → Job
 job_of w p = get_or w.jobs p no_job
 
 abbrev pub own_of : FlatMachine → ℕ → Own
-own_of w p = get_or w.tasks p (own [])
+own_of w p = get_or w.tasks p no_own
 
 -- how many releases wait behind the job of task p
 abbrev pub waiting_count : FlatMachine → ℕ → ℕ
