@@ -44,7 +44,7 @@ unfolding replace
 record_set ts i t = map-replace own ts i t
 
 record_at : (ts : List Task) (i : ℕ) → get_or (map own ts) i no_own ≡ own (get_or ts i no_task)
-unfolding at own
+unfolding at
 record_at ts i = at_map own no_task ts i
 
 -- and replaced again, by what was made of it

@@ -1,11 +1,11 @@
 -- THE FLAT MACHINE, the code's: what all tasks share, each task's own record and job, the mask of unfinished jobs, how many releases wait
 -- behind each job, the task whose job has ended with one waiting, the place of the next release in the sheet and the ticks done.
 use Rattle.std.specs.Prelude.{ℕ, zero, suc, ◌+◌, ◌-◌, ◌/◌, ◌%◌, ◌^◌, ◌<◌, ◌≤◌, ◌≡◌, Bool, true, false, ◌&&◌, eqb}
-use Rattle.std.specs.Prelude.{List, [], get_or, set, replicate}
+use Rattle.std.specs.Prelude.{List, get_or, set, replicate}
 use Rattle.model.specs.Lists.{at}
 use Rattle.model.specs.Command.{command_at}
 use Rattle.commands.specs.declared.BodyCommand.{BodyCommand}
-use Rattle.state.specs.State.{Shared, Own, own, no_own}
+use Rattle.state.specs.State.{Shared, Own, no_own}
 use Rattle.exchanges.specs.Places.{if, Noted, noted, Left, left}
 use Rattle.jobs.specs.Jobs.{job, in_phase, ticks, counted}
 use Rattle.jobs.specs.Jobs as count

@@ -6,7 +6,7 @@ use Rattle.model.specs.Job.{count_list}
 use Rattle.model.specs.Machine.{Machine, task_at}
 use Rattle.model.specs.Report.{line, lines, word_line, block_line}
 use Rattle.model.specs.Answer.{written}
-use Rattle.state.specs.State.{Shared, Own, own, no_own}
+use Rattle.state.specs.State.{Shared, Own, no_own}
 use Rattle.state.specs.Held.{memory_of}
 use Rattle.report.specs.declared.Totals.{Totals}
 

@@ -48,8 +48,8 @@ fn contents(memory: &Memory, cell: usize) -> u32
     requires { cell < 48 }
     ensures { result ≡ current_of (memory_of (shared memory.now)) cell }
 {
-    // The proof learns an array's length from its slice.
-    let _whole: &[u32] = memory;
+    // For the proof: a cell that there is, is in the array.
+    memory.sized();
     read::current(memory, cell)
 }
 

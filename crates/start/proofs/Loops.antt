@@ -1,13 +1,12 @@
 -- What is filled at the start: the cells of a sheet that declares nothing, a task's copies, and the tasks one after another.
-use Prim.Native.Nat.{ℕ, zero, suc, ◌+◌, ◌*◌, ◌<◌, ◌≤◌}
-use mathlib.Core.Path.{◌≡◌, refl, sym, ap, ◌∙◌, subst}
-use mathlib.Core.List.{List, [], map}
+use Prim.Native.Nat.{ℕ, ◌+◌, ◌<◌, ◌≤◌}
+use mathlib.Core.Path.{◌≡◌, refl, sym, ◌∙◌, subst}
+use mathlib.Core.List.{List, map}
 use native.Mathlib.Omega.{arith}
 use lib.ListN.{length, get_or, set, replicate, length-map, length-set, get_or-map}
 use lib.Seq.{get_or-set_same, get_or-set_other}
-use Rattle.model.specs.Lists.{at}
 use Rattle.model.specs.Word.{fresh_word}
-use Rattle.model.specs.Start.{filled, banks_from, zeros, copies_of, start_memory}
+use Rattle.model.specs.Start.{filled, banks_from, copies_of, start_memory}
 use Rattle.model.proofs.Lists.{same?}
 use Rattle.state.specs.Packed.{unpack}
 use Rattle.state.specs.Rows.{row, rows_from, rows}

@@ -1,5 +1,5 @@
 -- What the two records hold at the start of a run.
-use Rattle.std.specs.Prelude.{ℕ, ◌<◌, ◌≡◌, List, [], length, get_or}
+use Rattle.std.specs.Prelude.{ℕ, ◌<◌, ◌≡◌, List, length, get_or}
 use Rattle.model.specs.Sheet.{Sheet}
 use Rattle.model.specs.Start.{zeros, copies_of, start_memory}
 use Rattle.state.specs.State.{Shared, Own, no_own}

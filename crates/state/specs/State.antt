@@ -182,12 +182,4 @@ no_task =
     }
 
 abbrev pub no_own : Own
-no_own =
-    record {
-      registers = [];
-      kept = [];
-      copies = [];
-      entries = record { targets = []; olds = []; news = []; inits = []; overlapped = [] };
-      blocks = record { touched = 0; slots = []; remembered = [] };
-      counts = [];
-    }
+no_own = own no_task

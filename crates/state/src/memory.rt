@@ -2,9 +2,13 @@
 ghost use Rattle.std.specs.Prelude.{◌≡◌, length};
 ghost use Rattle.model.specs.Lists.{at};
 ghost use Rattle.state.specs.State.{shared, filled_with, set_cell, set_status, set_save, set_value};
+ghost use Rattle.state.specs.Sized.{SharedSized};
 
+const CELLS: usize = 48;
+
+#[derive(Drop)]
 pub struct Memory {
-    cells: [u64; 48],
+    cells: [u64; CELLS],
     status: [u32; 8],
     saves: [u32; 64],
     stores: [u32; 384],
@@ -17,11 +21,21 @@ impl Memory {
         ensures { shared result ≡ filled_with word }
     {
         Memory {
-            cells: [word; 48],
+            cells: [word; CELLS],
             status: [0; 8],
             saves: [0; 64],
             stores: [0; 384],
         }
+    }
+
+    // For proofs: an array's length is learnt from its slice.
+    pub fn sized(&self)
+        ensures { SharedSized (shared self.now) }
+    {
+        let _cells: &[u64] = &self.cells;
+        let _status: &[u32] = &self.status;
+        let _saves: &[u32] = &self.saves;
+        let _stores: &[u32] = &self.stores;
     }
 
     pub fn cell(&self, i: usize) -> u64
