@@ -1,7 +1,7 @@
 // One task's own record.
 ghost use Rattle.std.specs.Prelude.{◌≡◌, ◌∷◌, [], length};
 ghost use Rattle.model.specs.Lists.{at};
-ghost use Rattle.state.specs.State.{own, with_copies, own_zeros, set_register, set_kept, set_copy, set_target, set_old, set_new};
+ghost use Rattle.state.specs.State.{own, with_registers, with_kept, with_copies, own_zeros, set_register, set_kept, set_copy, set_target, set_old, set_new};
 ghost use Rattle.state.specs.State.{set_init, set_overlapped, set_slot, set_remembered, set_count, set_touched};
 
 // 8 registers, 8 that BEGIN kept, 4 copy stores; 8 entries of an exchange, each a target cell, old and new value, the word loaded and
@@ -72,6 +72,20 @@ impl Task {
         ensures { own self.new ≡ set_kept (own self.old) i v }
     {
         crate::store(&mut self.kept, i as usize, v);
+    }
+
+    pub fn keep(&mut self)
+        ensures kept { own self.new ≡ with_kept (own self.old) (own self.old).registers }
+        ensures sized { (length (own self.old).kept ≡ 8) × (length (own self.old).registers ≡ 8) }
+    {
+        self.kept.copy_from_slice(&self.registers);
+    }
+
+    pub fn restore(&mut self)
+        ensures registers { own self.new ≡ with_registers (own self.old) (own self.old).kept }
+        ensures sized { (length (own self.old).kept ≡ 8) × (length (own self.old).registers ≡ 8) }
+    {
+        self.registers.copy_from_slice(&self.kept);
     }
 
     pub fn copy(&self, i: usize) -> u32

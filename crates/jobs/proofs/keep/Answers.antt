@@ -1,15 +1,8 @@
 -- `keep` meets its contract.
-use Rattle.std.proofs.Common.{◌≡◌, refl, add-one, arith, rules}
-use Rattle.jobs.specs.Jobs.{copied}
+use Rattle.std.proofs.Common.{sym, ap, ◌∙◌}
+use Rattle.state.specs.State.{own, with_kept}
+use Rattle.jobs.proofs.Copied.{copied_all}
 use Rattle.jobs.proofs.keep.Goals as goal
 
-pub loop-n-init : goal.loop-n-init
-unfolding copied
-loop-n-init c = (search rules, refl)
-
-pub loop-n-preserved : goal.loop-n-preserved
-unfolding copied
-loop-n-preserved c = (omega arith, rw (add-one, c.set_kept.ensures, c.register-value.ensures, c.loop-n.invariant.1))
-
 pub returns : goal.returns
-returns c = let l = c.loop-n in let q : l.n ≡ 8 = omega (arith, c.loop-n-test) in rw q at l.invariant.1
+returns c = let size = c.keep.ensures.sized in c.keep.ensures.kept ∙ ap (with_kept (own c.args.task.now)) (sym (copied_all 8 _ _ size.0 size.1))
