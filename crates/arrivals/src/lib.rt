@@ -6,7 +6,7 @@ ghost use Rattle.state.specs.State.{own};
 ghost use Rattle.arrivals.specs.Releases.{unfinished?, dropped_by, waiting_by, begun_by, zeroing, zeroed_by, started_by};
 
 use commands::ceilings::TaskCeilings;
-use jobs::{Job, Phase};
+use jobs::{Counter, Job, Phase};
 use state::Task;
 
 pub mod releases;
@@ -40,7 +40,7 @@ pub fn drop_by(task: &mut Task, waiting: u8, phase: Phase)
     if unfinished(phase) {
         let full = TaskCeilings::WAITING <= waiting;
         if full {
-            jobs::count(&mut *task, jobs::DROPPED);
+            jobs::count(&mut *task, Counter::Dropped);
         }
     }
 }
@@ -98,5 +98,5 @@ pub fn started(job: Job, line: usize) -> Job
     if unfinished(phase) {
         return job;
     }
-    jobs::job_at(Phase::Plain, line, 0)
+    Job::new(Phase::Plain, line, 0)
 }

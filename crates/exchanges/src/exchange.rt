@@ -33,6 +33,7 @@ pub struct Found {
     pub value: u32,
 }
 
+// Three ways, so no ControlFlow: a value found is kept beside the step.
 #[derive(Clone, Copy)]
 pub enum Exchanged {
     Goes(Step),
@@ -41,6 +42,7 @@ pub enum Exchanged {
 }
 
 // SWAP begins.
+#[tactic(auto, unfolding(crate::specs::Exchange::after_start))]
 pub fn start(memory: &mut Memory, p: u8) -> Step
     ensures { went result (shared memory.new) ≡ after_start (shared memory.old) p }
 {
@@ -48,28 +50,28 @@ pub fn start(memory: &mut Memory, p: u8) -> Step
     Step::Test(0)
 }
 
+#[tactic(auto, unfolding(crate::specs::Exchange::after_test))]
 fn test(memory: &Memory, p: u8, k: u8, i: u8) -> Step
     ensures { result ≡ after_test (shared memory.now) p k i }
 {
-    if i == k {
-        return Step::Commit(i);
+    if i == k || memory.status(p as usize) == 1 {
+        Step::Commit(i)
+    } else {
+        Step::Load(i)
     }
-    if memory.status(p as usize) == 1 {
-        return Step::Commit(i);
-    }
-    Step::Load(i)
 }
 
+#[tactic(auto, unfolding(crate::specs::Exchange::after_load))]
 fn load(memory: &Memory, task: &mut Task, i: u8) -> Step
     ensures { noted result (own task.new) ≡ after_load (shared memory.now) (own task.old) i }
 {
     let cell = task.target(i) as usize;
-    let word = memory.cell(cell);
-    task.set_init(i, word);
+    task.set_init(i, memory.cell(cell));
     task.set_overlapped(i, 0);
     Step::Look(i)
 }
 
+#[tactic(auto, unfolding(crate::specs::Exchange::after_look))]
 fn look(memory: &Memory, task: &mut Task, i: u8) -> Exchanged
     ensures { noted result (own task.new) ≡ after_look (shared memory.now) (own task.old) i }
 {
@@ -77,12 +79,14 @@ fn look(memory: &Memory, task: &mut Task, i: u8) -> Exchanged
     if read::own(memory, word) {
         task.set_overlapped(i, 0);
         let value = state::value_of(word);
-        return Exchanged::Finds(Found { i, value });
+        Exchanged::Finds(Found { i, value })
+    } else {
+        task.set_overlapped(i, 1);
+        Exchanged::Goes(Step::Fetch(i))
     }
-    task.set_overlapped(i, 1);
-    Exchanged::Goes(Step::Fetch(i))
 }
 
+#[tactic(auto, unfolding(crate::specs::Exchange::after_fetch))]
 fn fetch(memory: &Memory, task: &Task, i: u8) -> Exchanged
     ensures { result ≡ after_fetch (shared memory.now) (own task.now) i }
 {
@@ -90,23 +94,22 @@ fn fetch(memory: &Memory, task: &Task, i: u8) -> Exchanged
     Exchanged::Finds(Found { i, value })
 }
 
+#[tactic(auto, unfolding(crate::specs::Exchange::after_save))]
 fn save(memory: &mut Memory, task: &Task, p: u8, i: u8, value: u32) -> Step
     ensures { went result (shared memory.new) ≡ after_save (shared memory.old) (own task.now) p i value }
 {
     memory.set_save(places::slot(p as u32, i), value);
     let old = task.old(i);
     if value != old {
-        return Step::Fail(i);
+        Step::Fail(i)
+    } else if task.overlapped(i) == 0 || old == task.new(i) {
+        Step::Install(i)
+    } else {
+        Step::Mark(i)
     }
-    if task.overlapped(i) == 0 {
-        return Step::Install(i);
-    }
-    if old == task.new(i) {
-        return Step::Install(i);
-    }
-    Step::Mark(i)
 }
 
+#[tactic(auto, unfolding(crate::specs::Exchange::after_fail))]
 fn fail(memory: &mut Memory, p: u8, i: u8) -> Step
     ensures { went result (shared memory.new) ≡ after_fail (shared memory.old) p i }
 {
@@ -115,17 +118,18 @@ fn fail(memory: &mut Memory, p: u8, i: u8) -> Step
 }
 
 // The task of the word loaded for entry i gets status 1.
+#[tactic(auto, unfolding(crate::specs::Exchange::marked))]
 fn mark_task(memory: &mut Memory, task: &Task, i: u8)
     ensures { shared memory.new ≡ marked (shared memory.old) (own task.now) i }
 {
-    let marked = state::task_of(task.init(i)) as usize;
-    memory.set_status(marked, 1);
+    memory.set_status(state::task_of(task.init(i)) as usize, 1);
 }
 
+#[tactic(auto, unfolding(crate::specs::Exchange::after_mark))]
 fn mark(memory: &mut Memory, task: &Task, i: u8) -> Step
     ensures { went result (shared memory.new) ≡ after_mark (shared memory.old) (own task.now) i }
 {
-    mark_task(&mut *memory, task, i);
+    mark_task(memory, task, i);
     Step::Install(i)
 }
 
@@ -142,16 +146,18 @@ fn installed(task: &Task, p: u8, i: u8) -> u64
     .pack()
 }
 
+#[tactic(auto, unfolding(crate::specs::Exchange::after_install))]
 fn install(memory: &mut Memory, task: &Task, p: u8, i: u8) -> Step
     ensures { went result (shared memory.new) ≡ after_install (shared memory.old) (own task.now) p i }
 {
     let cell = task.target(i) as usize;
+    let next = places::next(i);
     if memory.cell(cell) == task.init(i) {
-        let word = installed(task, p, i);
-        memory.set_cell(cell, word);
-        return Step::Test(places::next(i));
+        memory.set_cell(cell, installed(task, p, i));
+        Step::Test(next)
+    } else {
+        Step::Fail(next)
     }
-    Step::Fail(places::next(i))
 }
 
 // Clean begins, unless there is nothing to clean.
@@ -159,20 +165,22 @@ fn to_clean(i: u8, yes: bool) -> Exchanged
     ensures { result ≡ cleaning i yes }
 {
     if i == 0 {
-        return Exchanged::Ends(yes);
+        Exchanged::Ends(yes)
+    } else {
+        Exchanged::Goes(Step::Clean(i, 0, yes))
     }
-    Exchanged::Goes(Step::Clean(i, 0, yes))
 }
 
+#[tactic(auto, unfolding(crate::specs::Exchange::after_commit))]
 fn commit(memory: &mut Memory, p: u8, i: u8) -> Exchanged
     ensures { went result (shared memory.new) ≡ after_commit (shared memory.old) p i }
 {
     let task = p as usize;
-    if memory.status(task) == 0 {
+    let yes = memory.status(task) == 0;
+    if yes {
         memory.set_status(task, 2);
-        return to_clean(i, true);
     }
-    to_clean(i, false)
+    to_clean(i, yes)
 }
 
 // Clean goes to the next j, or was the last.
@@ -181,60 +189,58 @@ fn to_next(i: u8, j: u8, yes: bool) -> Exchanged
 {
     let n = places::next(j);
     if n == i {
-        return Exchanged::Ends(yes);
+        Exchanged::Ends(yes)
+    } else {
+        Exchanged::Goes(Step::Clean(i, n, yes))
     }
-    Exchanged::Goes(Step::Clean(i, n, yes))
 }
 
 // Whether Clean makes the word new.
 fn as_new(old: u32, new: u32, yes: bool) -> bool
     ensures { result ≡ as_new old new yes }
 {
-    if old == new {
-        return false;
-    }
-    yes
+    old != new && yes
 }
 
+#[tactic(auto, unfolding(crate::specs::Exchange::after_clean))]
 fn clean(memory: &mut Memory, task: &Task, p: u8, i: u8, j: u8, yes: bool) -> Exchanged
     ensures { went result (shared memory.new) ≡ after_clean (shared memory.old) (own task.now) p i j yes }
 {
     let cell = task.target(j) as usize;
     let new = task.new(j);
+    let renewed = as_new(task.old(j), new, yes);
     let mine = memory.cell(cell) == installed(task, p, j);
-    if as_new(task.old(j), new, yes) {
-        if mine {
-            let word = Word {
+    if mine {
+        let word = if renewed {
+            Word {
                 value: new,
                 count: 0,
                 valid: true,
                 task: p,
             }
-            .pack();
-            memory.set_cell(cell, word);
-            return to_next(i, j, yes);
-        }
-        return to_next(i, j, yes);
-    }
-    if mine {
-        let word = task.init(j);
+            .pack()
+        } else {
+            task.init(j)
+        };
         memory.set_cell(cell, word);
-        return to_next(i, j, yes);
+        to_next(i, j, yes)
+    } else if renewed || task.overlapped(j) == 0 {
+        to_next(i, j, yes)
+    } else {
+        Exchanged::Goes(Step::CleanMark(i, j, yes))
     }
-    if task.overlapped(j) == 0 {
-        return to_next(i, j, yes);
-    }
-    Exchanged::Goes(Step::CleanMark(i, j, yes))
 }
 
+#[tactic(auto, unfolding(crate::specs::Exchange::after_clean_mark))]
 fn clean_mark(memory: &mut Memory, task: &Task, i: u8, j: u8, yes: bool) -> Exchanged
     ensures { went result (shared memory.new) ≡ after_clean_mark (shared memory.old) (own task.now) i j yes }
 {
-    mark_task(&mut *memory, task, j);
+    mark_task(memory, task, j);
     to_next(i, j, yes)
 }
 
 // One statement of the exchange of k words by task p; the value is what was found last.
+#[tactic(auto, unfolding(crate::specs::Exchange::after_exchange))]
 pub fn exchange_tick(
     memory: &mut Memory,
     task: &mut Task,
@@ -246,41 +252,17 @@ pub fn exchange_tick(
     ensures { left result (shared memory.new) (own task.new) ≡ after_exchange (shared memory.old) (own task.old) p k value step }
 {
     match step {
-        Step::Start => {
-            return Exchanged::Goes(start(&mut *memory, p));
-        }
-        Step::Test(i) => {
-            return Exchanged::Goes(test(&*memory, p, k, i));
-        }
-        Step::Load(i) => {
-            return Exchanged::Goes(load(&*memory, &mut *task, i));
-        }
-        Step::Look(i) => {
-            return look(&*memory, &mut *task, i);
-        }
-        Step::Fetch(i) => {
-            return fetch(&*memory, &*task, i);
-        }
-        Step::Save(i) => {
-            return Exchanged::Goes(save(&mut *memory, &*task, p, i, value));
-        }
-        Step::Fail(i) => {
-            return Exchanged::Goes(fail(&mut *memory, p, i));
-        }
-        Step::Mark(i) => {
-            return Exchanged::Goes(mark(&mut *memory, &*task, i));
-        }
-        Step::Install(i) => {
-            return Exchanged::Goes(install(&mut *memory, &*task, p, i));
-        }
-        Step::Commit(i) => {
-            return commit(&mut *memory, p, i);
-        }
-        Step::Clean(i, j, yes) => {
-            return clean(&mut *memory, &*task, p, i, j, yes);
-        }
-        Step::CleanMark(i, j, yes) => {
-            return clean_mark(&mut *memory, &*task, i, j, yes);
-        }
+        Step::Start => Exchanged::Goes(start(memory, p)),
+        Step::Test(i) => Exchanged::Goes(test(memory, p, k, i)),
+        Step::Load(i) => Exchanged::Goes(load(memory, task, i)),
+        Step::Look(i) => look(memory, task, i),
+        Step::Fetch(i) => fetch(memory, task, i),
+        Step::Save(i) => Exchanged::Goes(save(memory, task, p, i, value)),
+        Step::Fail(i) => Exchanged::Goes(fail(memory, p, i)),
+        Step::Mark(i) => Exchanged::Goes(mark(memory, task, i)),
+        Step::Install(i) => Exchanged::Goes(install(memory, task, p, i)),
+        Step::Commit(i) => commit(memory, p, i),
+        Step::Clean(i, j, yes) => clean(memory, task, p, i, j, yes),
+        Step::CleanMark(i, j, yes) => clean_mark(memory, task, i, j, yes),
     }
 }

@@ -13,6 +13,7 @@ pub enum Reading {
     Fetch(u64),
 }
 
+// Not ControlFlow: these names say what a tick of READ did, as Exchanged's do.
 #[derive(Clone, Copy)]
 pub enum Read {
     Reads(Reading),
@@ -20,13 +21,11 @@ pub enum Read {
 }
 
 // The word's own value counts: it is valid, or its task's status is 2.
+#[tactic(auto, unfolding(crate::specs::Reading::owned))]
 pub fn own(memory: &Memory, word: u64) -> bool
     ensures { result ≡ owned (shared memory.now) word }
 {
-    if state::valid_of(word) {
-        return true;
-    }
-    memory.status(state::task_of(word) as usize) == 2
+    state::valid_of(word) || memory.status(state::task_of(word) as usize) == 2
 }
 
 // The save place of a word's task and count.
@@ -37,37 +36,36 @@ pub fn saved(memory: &Memory, word: u64) -> u32
 }
 
 // The current value of a cell: its word's own value if that counts, else the save place.
+#[tactic(auto, unfolding(crate::specs::Reading::current_in))]
 pub fn current(memory: &Memory, cell: usize) -> u32
     ensures { result ≡ current_in (shared memory.now) cell }
 {
     let word = memory.cell(cell);
     if own(memory, word) {
-        return state::value_of(word);
+        state::value_of(word)
+    } else {
+        saved(memory, word)
     }
-    saved(memory, word)
 }
 
+#[tactic(auto, unfolding(crate::specs::Reading::after_look))]
 fn look(memory: &Memory, word: u64) -> Read
     ensures { result ≡ after_look (shared memory.now) word }
 {
     if own(memory, word) {
-        return Read::Gives(state::value_of(word));
+        Read::Gives(state::value_of(word))
+    } else {
+        Read::Reads(Reading::Fetch(word))
     }
-    Read::Reads(Reading::Fetch(word))
 }
 
+#[tactic(auto, unfolding(crate::specs::Reading::after_reading))]
 pub fn read_tick(memory: &Memory, cell: usize, step: Reading) -> Read
     ensures { result ≡ after_reading (shared memory.now) cell step }
 {
     match step {
-        Reading::Load => {
-            return Read::Reads(Reading::Look(memory.cell(cell)));
-        }
-        Reading::Look(word) => {
-            return look(memory, word);
-        }
-        Reading::Fetch(word) => {
-            return Read::Gives(saved(memory, word));
-        }
+        Reading::Load => Read::Reads(Reading::Look(memory.cell(cell))),
+        Reading::Look(word) => look(memory, word),
+        Reading::Fetch(word) => Read::Gives(saved(memory, word)),
     }
 }

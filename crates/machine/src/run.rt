@@ -11,7 +11,7 @@ use arrivals::releases;
 use arrivals::releases::Coming;
 use commands::BodyCommand;
 use commands::ceilings::SheetCeilings;
-use jobs::{Inner, Job, Phase};
+use jobs::{Counter, Inner, Job, Phase};
 use state::{Memory, Task};
 use statements::{begin, step};
 
@@ -126,8 +126,8 @@ fn close(task: &mut Task, job: Job, end: usize) -> Job
     let phase = job.phase;
     if begin::is_plain(phase) {
         if job.at == end {
-            jobs::count(&mut *task, jobs::FINISHED);
-            return jobs::in_phase(job, Phase::Idle);
+            jobs::count(&mut *task, Counter::Finished);
+            return job.in_phase(Phase::Idle);
         }
         return job;
     }
@@ -139,7 +139,7 @@ fn finish(task: &mut Task, job: Job, end: usize) -> Job
     ensures { noted result (own task.new) ≡ finished end (own task.old) job }
 {
     let after = close(&mut *task, job, end);
-    jobs::count(&mut *task, jobs::TICKS);
+    jobs::count(&mut *task, Counter::Ticks);
     after
 }
 

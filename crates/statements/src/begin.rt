@@ -24,16 +24,16 @@ fn outside(memory: &mut Memory, task: &mut Task, p: u8, job: Job, command: Outsi
             let o = task.register(old);
             let n = task.register(new);
             jobs::enter(&mut *task, job.pairs, word as u32, o, n);
-            return jobs::done(job, places::next(job.pairs));
+            return job.done(places::next(job.pairs));
         }
         Outside::Swap(register) => {
             let step = exchange::start(&mut *memory, p);
-            return jobs::in_phase(job, Phase::Exchange(register, step));
+            return job.in_phase(Phase::Exchange(register, step));
         }
         Outside::Begin => {
             jobs::keep(&mut *task);
             accesses::clear(&mut *task);
-            return jobs::job_at(Phase::Transaction(Inner::Between), jobs::next_line(job), 0);
+            return Job::new(Phase::Transaction(Inner::Between), job.next_line(), 0);
         }
     }
 }
@@ -45,11 +45,11 @@ fn plain_command(memory: &mut Memory, task: &mut Task, p: u8, job: Job, command:
     match command {
         BodyCommand::Load { register, value } => {
             task.set_register(register, value);
-            return jobs::done(job, job.pairs);
+            return job.done(job.pairs);
         }
         BodyCommand::Add { register, other } => {
             jobs::add(&mut *task, register, other);
-            return jobs::done(job, job.pairs);
+            return job.done(job.pairs);
         }
         BodyCommand::Outside(c) => {
             return outside(&mut *memory, &mut *task, p, job, c);

@@ -12,7 +12,7 @@ use commands::Access;
 use commands::ceilings::SheetCeilings;
 use exchanges::read::{Read, Reading};
 use exchanges::{places, read};
-use jobs::{Inner, Job, Phase};
+use jobs::{Counter, Inner, Job, Phase};
 use state::{Memory, Task};
 
 const VALUES: u8 = SheetCeilings::BLOCK_VALUES as u8;
@@ -45,7 +45,7 @@ pub fn block(access: Access) -> u8
 pub fn inner(job: Job, step: Inner) -> Job
     ensures { result ≡ in_phase job (Phase.Transaction step) }
 {
-    jobs::in_phase(job, Phase::Transaction(step))
+    job.in_phase(Phase::Transaction(step))
 }
 
 // The next command of the transaction.
@@ -55,7 +55,7 @@ pub fn goes_on(job: Job) -> Job
     Job {
         phase: Phase::Transaction(Inner::Between),
         value: job.value,
-        at: jobs::next_line(job),
+        at: job.next_line(),
         begin: job.begin,
         pairs: 0,
         used: job.used,
@@ -185,10 +185,10 @@ pub fn access(memory: &mut Memory, task: &mut Task, job: Job, access: Access) ->
 pub fn lose_attempt(task: &mut Task, job: Job) -> Job
     ensures { noted result (own task.new) ≡ loses_attempt (own task.old) job }
 {
-    jobs::count(&mut *task, jobs::LOST);
+    jobs::count(&mut *task, Counter::Lost);
     jobs::restore(&mut *task);
     clear(&mut *task);
-    jobs::job_at(Phase::Transaction(Inner::Between), job.begin, 0)
+    Job::new(Phase::Transaction(Inner::Between), job.begin, 0)
 }
 
 // The version read again is the remembered one.

@@ -9,7 +9,7 @@ ghost use Rattle.transactions.specs.Commits.{Gathers, commit_by, committed_by};
 use crate::accesses;
 use commands::ceilings::SheetCeilings;
 use exchanges::exchange::{Exchanged, Step};
-use jobs::{Inner, Job, Phase};
+use jobs::{Counter, Inner, Job, Phase};
 use state::Task;
 
 // A PUT block at the last version.
@@ -101,12 +101,12 @@ pub fn commit(task: &mut Task, job: Job) -> Job
     ensures { noted result (own task.new) ≡ commit_by (own task.old) job }
 {
     if task.touched() == 0 {
-        return jobs::done(job, 0);
+        return job.done(0);
     }
     let gathered = gather(&mut *task);
     if gathered.spent {
-        jobs::count(&mut *task, jobs::SPENT);
-        return jobs::job_at(Phase::Idle, job.at, 0);
+        jobs::count(&mut *task, Counter::Spent);
+        return Job::new(Phase::Idle, job.at, 0);
     }
     Job {
         phase: Phase::Transaction(Inner::Committing(Step::Start)),
@@ -151,14 +151,12 @@ pub fn committed_by(task: &mut Task, job: Job, exchanged: Exchanged) -> Job
         Exchanged::Ends(yes) => {
             if yes {
                 take_back(&mut *task);
-                return jobs::done(job, 0);
+                return job.done(0);
             }
             return accesses::lose_attempt(&mut *task, job);
         }
         Exchanged::Finds(found) => {
-            return jobs::with_value(
-                job,
-                Phase::Transaction(Inner::Committing(Step::Save(found.i))),
+            return job.with_value(Phase::Transaction(Inner::Committing(Step::Save(found.i))),
                 found.value,
             );
         }

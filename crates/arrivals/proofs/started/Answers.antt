@@ -3,4 +3,4 @@ use Rattle.std.proofs.Common.{sym, ◌∙◌}
 use Rattle.arrivals.proofs.started.Goals as goal
 
 pub returns : goal.returns
-returns c = rw (sym c.unfinished.ensures ∙ c.if-unfinished.false, c.job_at.ensures)
+returns c = rw (sym c.unfinished.ensures ∙ c.if-unfinished.false, c.new.ensures)

@@ -23,4 +23,4 @@ returns-in-Swap c = rw (c.in-Swap.is, ← c.start-step.ensures, ← c.in_phase.e
 
 pub returns-in-Begin : goal.returns-in-Begin
 unfolding outside_tick
-returns-in-Begin c = rw (c.in-Begin.is, c.job_at.ensures, c.next_line.ensures, c.clear.ensures, c.keep.ensures)
+returns-in-Begin c = rw (c.in-Begin.is, c.new.ensures, c.next_line.ensures, c.clear.ensures, c.keep.ensures)

@@ -23,7 +23,7 @@ returns-then-gathered c = let t = own c.args.task.now in let g = c.gather-gather
   something_touched t.blocks (omega (arith, c.touched.ensures, c.if-touched-eq0.false)) (rw c.touched.ensures at c.touched.type_inv),
   ← g.spent,
   c.if-gathered.true,
-  ← c.job_at.ensures,
+  ← c.new.ensures,
   c.count.ensures,
   ap (λ (w : Noted ℕ). w.task) g.entries,
 )

@@ -1,9 +1,0 @@
--- `to_clean` meets its contract.
-use Rattle.std.proofs.Common.{eq-eqb, ne_eqb}
-use Rattle.exchanges.proofs.exchange.to_clean.Goals as goal
-
-pub returns-then-i-eq0 : goal.returns-then-i-eq0
-returns-then-i-eq0 c = simp (eq-eqb _ _ c.if-i-eq0.true)
-
-pub returns : goal.returns
-returns c = simp (ne_eqb _ _ c.if-i-eq0.false)
