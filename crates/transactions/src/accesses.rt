@@ -28,16 +28,8 @@ pub fn block(access: Access) -> u8
     ensures { result ≡ named_block access }
 {
     match access {
-        Access::Get {
-            register: _,
-            block,
-            offset: _,
-        } => block,
-        Access::Put {
-            block,
-            offset: _,
-            register: _,
-        } => block,
+        Access::Get { block, .. } => block,
+        Access::Put { block, .. } => block,
     }
 }
 
@@ -54,11 +46,9 @@ pub fn goes_on(job: Job) -> Job
 {
     Job {
         phase: Phase::Transaction(Inner::Between),
-        value: job.value,
         at: job.next_line(),
-        begin: job.begin,
         pairs: 0,
-        used: job.used,
+        ..job
     }
 }
 
@@ -81,8 +71,7 @@ fn touch(task: &mut Task, b: u8, bank: u32)
 {
     task.set_slot(b, 0);
     task.set_remembered(b, bank);
-    let mask = task.touched() | bit(b);
-    task.set_touched(mask);
+    task.set_touched(task.touched() | bit(b));
 }
 
 // No block is touched.
@@ -92,16 +81,15 @@ pub fn clear(task: &mut Task)
     task.set_touched(0);
 }
 
+#[tactic(auto, unfolding(crate::specs::Accesses::first_read))]
 pub fn first_read(task: &mut Task, job: Job, access: Access, read: Read) -> Job
     ensures { noted result (own task.new) ≡ first_read (own task.old) job access read }
 {
     match read {
-        Read::Reads(step) => {
-            return inner(job, Inner::First(access, step));
-        }
+        Read::Reads(step) => inner(job, Inner::First(access, step)),
         Read::Gives(value) => {
-            touch(&mut *task, block(access), value);
-            return inner(job, Inner::Between);
+            touch(task, block(access), value);
+            inner(job, Inner::Between)
         }
     }
 }
@@ -112,11 +100,13 @@ fn store_for(task: &Task, block: u8) -> u32
 {
     let slot = task.slot(block);
     if slot == 0 {
-        return task.remembered(block) % 256;
+        task.remembered(block) % 256
+    } else {
+        task.copy((slot - 1) as usize)
     }
-    task.copy((slot - 1) as usize)
 }
 
+#[tactic(auto, unfolding(crate::specs::Accesses::got_by))]
 fn get(memory: &Memory, task: &Task, job: Job, access: Access, block: u8, offset: u8) -> Job
     ensures { result ≡ got_by (shared memory.now) (own task.now) job access block offset }
 {
@@ -128,112 +118,100 @@ fn get(memory: &Memory, task: &Task, job: Job, access: Access, block: u8, offset
 }
 
 // Value n goes into the next copy store.
+#[tactic(auto, unfolding(crate::specs::Accesses::after_copy))]
 pub fn copy(memory: &mut Memory, task: &Task, job: Job, access: Access, n: u8) -> Job
     ensures { went result (shared memory.new) ≡ after_copy (shared memory.old) (own task.now) job access n }
 {
     let from = places::slot(task.remembered(block(access)) % 256, n);
     let to = places::slot(task.copy(job.used as usize), n);
-    let value = memory.value(from);
-    memory.set_value(to, value);
+    memory.set_value(to, memory.value(from));
     let done = places::next(n);
     if done == VALUES {
-        return inner(job, Inner::Again(access, 0, Reading::Load));
+        inner(job, Inner::Again(access, 0, Reading::Load))
+    } else {
+        inner(job, Inner::Copying(access, done))
     }
-    inner(job, Inner::Copying(access, done))
 }
 
+#[tactic(auto, unfolding(crate::specs::Accesses::after_put))]
 fn put(memory: &mut Memory, task: &Task, job: Job, block: u8, offset: u8, register: u8) -> Job
     ensures { went result (shared memory.new) ≡ after_put (shared memory.old) (own task.now) job block offset register }
 {
     let place = places::slot(store_for(task, block), offset);
-    let value = task.register(register);
-    memory.set_value(place, value);
+    memory.set_value(place, task.register(register));
     goes_on(job)
 }
 
 // The command at work is a GET or a PUT.
+#[tactic(auto, unfolding(crate::specs::Accesses::access_tick))]
 pub fn access(memory: &mut Memory, task: &mut Task, job: Job, access: Access) -> Job
     ensures { left result (shared memory.new) (own task.new) ≡ access_tick (shared memory.old) (own task.old) job access }
 {
     let b = block(access);
-    if is_touched(task.touched(), b) {
-        match access {
-            Access::Get {
-                register: _,
-                block,
-                offset,
-            } => {
-                return get(&*memory, &*task, job, access, block, offset);
-            }
-            Access::Put {
-                block,
-                offset,
-                register,
-            } => {
-                if task.slot(block) == 0 {
-                    return copy(&mut *memory, &*task, job, access, 0);
-                }
-                return put(&mut *memory, &*task, job, block, offset, register);
+    if !is_touched(task.touched(), b) {
+        let read = read::read_tick(memory, bank(b), Reading::Load);
+        return first_read(task, job, access, read);
+    }
+    match access {
+        Access::Get { block, offset, .. } => get(memory, task, job, access, block, offset),
+        Access::Put {
+            block,
+            offset,
+            register,
+        } => {
+            if task.slot(block) == 0 {
+                copy(memory, task, job, access, 0)
+            } else {
+                put(memory, task, job, block, offset, register)
             }
         }
     }
-    let read = read::read_tick(&*memory, bank(b), Reading::Load);
-    first_read(&mut *task, job, access, read)
 }
 
 // An attempt is lost and counted: registers as kept, nothing touched, next the command after BEGIN.
+#[tactic(auto, unfolding(crate::specs::Accesses::loses_attempt))]
 pub fn lose_attempt(task: &mut Task, job: Job) -> Job
     ensures { noted result (own task.new) ≡ loses_attempt (own task.old) job }
 {
-    jobs::count(&mut *task, Counter::Lost);
-    jobs::restore(&mut *task);
-    clear(&mut *task);
+    jobs::count(task, Counter::Lost);
+    jobs::restore(task);
+    clear(task);
     Job::new(Phase::Transaction(Inner::Between), job.begin, 0)
 }
 
 // The version read again is the remembered one.
+#[tactic(auto, unfolding(crate::specs::Accesses::checked_by))]
 fn check(task: &mut Task, job: Job, access: Access, value: u32) -> Job
     ensures { noted result (own task.new) ≡ checked_by (own task.old) job access value }
 {
     match access {
-        Access::Get {
-            register,
-            block: _,
-            offset: _,
-        } => {
+        Access::Get { register, .. } => {
             task.set_register(register, value);
-            return goes_on(job);
+            goes_on(job)
         }
-        Access::Put {
-            block,
-            offset: _,
-            register: _,
-        } => {
+        Access::Put { block, .. } => {
             task.set_slot(block, (job.used as u32) + 1);
-            return Job {
+            Job {
                 phase: Phase::Transaction(Inner::Between),
-                value: job.value,
-                at: job.at,
-                begin: job.begin,
-                pairs: job.pairs,
                 used: places::next(job.used),
-            };
+                ..job
+            }
         }
     }
 }
 
+#[tactic(auto, unfolding(crate::specs::Accesses::again_read))]
 pub fn again_read(task: &mut Task, job: Job, access: Access, value: u32, read: Read) -> Job
     ensures { noted result (own task.new) ≡ again_read (own task.old) job access value read }
 {
     match read {
-        Read::Reads(step) => {
-            return inner(job, Inner::Again(access, value, step));
-        }
+        Read::Reads(step) => inner(job, Inner::Again(access, value, step)),
         Read::Gives(bank) => {
             if bank / 256 == task.remembered(block(access)) / 256 {
-                return check(&mut *task, job, access, value);
+                check(task, job, access, value)
+            } else {
+                lose_attempt(task, job)
             }
-            return lose_attempt(&mut *task, job);
         }
     }
 }

@@ -16,10 +16,7 @@ use state::Task;
 fn is_spent(slot: u32, bank: u32) -> bool
     ensures { result ≡ is_spent slot bank }
 {
-    if slot == 0 {
-        return false;
-    }
-    bank / 256 == SheetCeilings::LAST_VERSION
+    slot != 0 && bank / 256 == SheetCeilings::LAST_VERSION
 }
 
 // What the bank word of a touched block becomes: itself where only read, new store and version + 1 where PUT.
@@ -27,10 +24,11 @@ fn new_bank(task: &Task, slot: u32, bank: u32) -> u32
     ensures { result ≡ new_bank (own task.now) slot bank }
 {
     if slot == 0 {
-        return bank;
+        bank
+    } else {
+        let store = task.copy((slot - 1) as usize);
+        (bank / 256 * 256).wrapping_add(256).wrapping_add(store)
     }
-    let store = task.copy((slot - 1) as usize);
-    std::num::wrapping_add_u32(std::num::wrapping_add_u32((bank / 256) * 256, 256), store)
 }
 
 // Entry n is the bank word of block b; whether that block is spent.
@@ -41,22 +39,13 @@ fn gather_one(task: &mut Task, b: u8, n: u8) -> bool
     let bank = task.remembered(b);
     let new = new_bank(&*task, slot, bank);
     jobs::enter(
-        &mut *task,
+        task,
         n,
         (SheetCeilings::WORDS as u32) + (b as u32),
         bank,
         new,
     );
     is_spent(slot, bank)
-}
-
-fn either(a: bool, b: bool) -> bool
-    ensures { result ≡ (a || b) }
-{
-    if a {
-        return true;
-    }
-    b
 }
 
 // How many passes gathered the entries, one each; whether a PUT block is at the last version.
@@ -90,44 +79,40 @@ fn gather(task: &mut Task) -> Gathered
     while rest != 0 {
         let b = lowest(rest) as u8;
         rest = others(rest);
-        let spends = gather_one(&mut *task, b, passes);
-        spent = either(spent, spends);
+        spent |= gather_one(task, b, passes);
         passes += 1;
     }
     Gathered { passes, spent }
 }
 
+#[tactic(auto, unfolding(crate::specs::Commits::commit_by))]
 pub fn commit(task: &mut Task, job: Job) -> Job
     ensures { noted result (own task.new) ≡ commit_by (own task.old) job }
 {
     if task.touched() == 0 {
         return job.done(0);
     }
-    let gathered = gather(&mut *task);
+    let gathered = gather(task);
     if gathered.spent {
-        jobs::count(&mut *task, Counter::Spent);
+        jobs::count(task, Counter::Spent);
         return Job::new(Phase::Idle, job.at, 0);
     }
     Job {
         phase: Phase::Transaction(Inner::Committing(Step::Start)),
-        value: job.value,
-        at: job.at,
-        begin: job.begin,
         pairs: gathered.passes,
-        used: job.used,
+        ..job
     }
 }
 
 // The copy slot of block b, if PUT, takes the block's old store.
+#[tactic(auto, unfolding(crate::specs::Blocks::taken_one))]
 fn take_one(task: &mut Task, b: u8)
     ensures { own task.new ≡ taking_one b (own task.old) }
 {
     let slot = task.slot(b);
-    if slot == 0 {
-        return;
+    if slot != 0 {
+        task.set_copy((slot - 1) as usize, task.remembered(b) % 256);
     }
-    let store = task.remembered(b) % 256;
-    task.set_copy((slot - 1) as usize, store);
 }
 
 // The k-th used copy slot takes the replaced block's old store.
@@ -136,29 +121,25 @@ fn take_back(task: &mut Task)
 {
     let mut left = task.touched() as u32;
     while left != 0 {
-        take_one(&mut *task, lowest(left) as u8);
+        take_one(task, lowest(left) as u8);
         left = others(left);
     }
 }
 
+#[tactic(auto, unfolding(crate::specs::Commits::committed_by))]
 pub fn committed_by(task: &mut Task, job: Job, exchanged: Exchanged) -> Job
     ensures { noted result (own task.new) ≡ committed_by (own task.old) job exchanged }
 {
     match exchanged {
-        Exchanged::Goes(step) => {
-            return accesses::inner(job, Inner::Committing(step));
+        Exchanged::Goes(step) => accesses::inner(job, Inner::Committing(step)),
+        Exchanged::Ends(true) => {
+            take_back(task);
+            job.done(0)
         }
-        Exchanged::Ends(yes) => {
-            if yes {
-                take_back(&mut *task);
-                return job.done(0);
-            }
-            return accesses::lose_attempt(&mut *task, job);
-        }
-        Exchanged::Finds(found) => {
-            return job.with_value(Phase::Transaction(Inner::Committing(Step::Save(found.i))),
-                found.value,
-            );
-        }
+        Exchanged::Ends(false) => accesses::lose_attempt(task, job),
+        Exchanged::Finds(found) => job.with_value(
+            Phase::Transaction(Inner::Committing(Step::Save(found.i))),
+            found.value,
+        ),
     }
 }

@@ -25,8 +25,8 @@ loop-rest-smaller c = rw c.others-rest.ensures (fewer _ (omega (arith, c.loop-re
 
 pub loop-rest-preserved : goal.loop-rest-preserved
 loop-rest-preserved c =
-    let g = rw c.lowest-b.ensures at c.gather_one-spends.ensures in
-    rw (c.either-spent.ensures, c.others-rest.ensures)
+    let g = rw c.lowest-b.ensures at c.gather_one-spent.ensures in
+    rw c.others-rest.ensures
     (passed_more c.loop-rest.invariant (omega (arith, c.loop-rest-test)) _ _ g.0 g.1)
 
 pub returns : goal.returns
