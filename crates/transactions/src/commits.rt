@@ -1,12 +1,12 @@
 // COMMIT: the touched bank words gathered, spent, and what its exchange's answer leaves: old stores taken back, or a lost attempt.
-ghost use Rattle.std.specs.Prelude.{◌≡◌, ◌-◌, ◌<◌, ◌||◌, bit_and};
-ghost use Rattle.std.specs.Int.Count.{count_trailing_zeros};
+ghost use Rattle.std.specs.Prelude.{◌≡◌};
 ghost use Rattle.state.specs.State.{own};
 ghost use Rattle.exchanges.specs.Places.{noted};
 ghost use Rattle.transactions.specs.Blocks.{is_spent, spent_at, new_bank, entering, taking_one, taking_back};
 ghost use Rattle.transactions.specs.Commits.{Gathers, commit_by, committed_by};
 
 use crate::accesses;
+use crate::bits::Bits;
 use commands::ceilings::SheetCeilings;
 use exchanges::exchange::{Exchanged, Step};
 use jobs::{Counter, Inner, Job, Phase};
@@ -55,30 +55,14 @@ pub struct Gathered {
     pub spent: bool,
 }
 
-// The lowest block of a mask, and the mask of the others.
-fn lowest(mask: u32) -> u32
-    ensures { result ≡ count_trailing_zeros 32 mask }
-{
-    u32::trailing_zeros(mask)
-}
-
-fn others(mask: u32) -> u32
-    requires { 0 < mask }
-    ensures { result ≡ bit_and mask (mask - 1) }
-{
-    mask & (mask - 1)
-}
-
 // The touched bank words by rising number, straight from one touched block to the next.
 fn gather(task: &mut Task) -> Gathered
     ensures { Gathers (own task.old) result (own task.new) }
 {
-    let mut rest = task.touched() as u32;
+    let mask = task.touched();
     let mut passes: u8 = 0;
     let mut spent = false;
-    while rest != 0 {
-        let b = lowest(rest) as u8;
-        rest = others(rest);
+    for b in Bits(mask as u32) {
         spent |= gather_one(task, b, passes);
         passes += 1;
     }
@@ -119,10 +103,8 @@ fn take_one(task: &mut Task, b: u8)
 fn take_back(task: &mut Task)
     ensures { own task.new ≡ taking_back (own task.old) }
 {
-    let mut left = task.touched() as u32;
-    while left != 0 {
-        take_one(task, lowest(left) as u8);
-        left = others(left);
+    for b in Bits(task.touched() as u32) {
+        take_one(task, b);
     }
 }
 

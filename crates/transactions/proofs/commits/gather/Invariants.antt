@@ -3,8 +3,5 @@ use Rattle.state.specs.State.{own}
 use Rattle.transactions.proofs.Gathers.{Passed}
 use Rattle.transactions.proofs.commits.gather.Given as goal
 
-abbrev pub invariant-loop-rest : goal.invariant-loop-rest
-invariant-loop-rest l = Passed (own l.initial.task) (own l.task) l.rest l.passes l.spent
-
-abbrev pub decreases-loop-rest : goal.decreases-loop-rest
-decreases-loop-rest l = l.rest
+abbrev pub invariant-loop-b : goal.invariant-loop-b
+invariant-loop-b l = Passed (own l.initial.task) (own l.task) l.b-iterator.0 l.passes l.spent
