@@ -1,10 +1,8 @@
 -- The stages of the decoding, each a part of the model's: the command and the width of a byte, what the byte at a place says.
-use Rattle.std.specs.Prelude.{ℕ, suc, ◌+◌, ◌≤◌, ◌≡◌, Bool, true, false, List, [], ◌∷◌, eqb, length, get_or, Result, Ok, Err}
+use Rattle.std.specs.Prelude.{ℕ, suc, ◌+◌, ◌≤◌, ◌≡◌, Bool, true, false, List, [], ◌∷◌, length, Result, Ok, Err}
 use Rattle.std.proofs.Math.Option.{Option, none, some}
 use Rattle.model.specs.Command.{Command, END, block_from, Row, table, row_of, total, operand, found, refused, command_at}
 use Rattle.commands.specs.View.{view_refusal}
-use Rattle.commands.specs.declared.Access.{Access}
-use Rattle.commands.specs.declared.Access.TheVariants.{Get, Put}
 use Rattle.commands.specs.declared.Fault.{Fault}
 use Rattle.commands.specs.declared.table.Entry.{Entry}
 
@@ -36,13 +34,6 @@ command_of s p b = command_from s p (row_of b table)
 unfoldable pub width_of : ℕ → ℕ
 unfolding width_from row_of table
 width_of b = width_from (row_of b table)
-
--- GET or PUT by its byte, its operands starting at p
-unfoldable pub access_from : List ℕ → ℕ → ℕ → Access
-access_from s p b =
-    pick (eqb b 0x21)
-    (Get (get_or s p 0) (get_or s (p + 1) 0) (get_or s (p + 2) 0))
-    (Put (get_or s p 0) (get_or s (p + 1) 0) (get_or s (p + 2) 0))
 
 -- what a byte at a place says of the command there
 abbrev pub ByteSays : List ℕ → ℕ → ℕ → Type 0

@@ -4,7 +4,7 @@
 ghost use Rattle.std.specs.Prelude.{◌≡◌, suc, ◌+◌, ◌≤◌, length, get_or};
 ghost use Rattle.model.specs.Command.{big_endian, command_at};
 ghost use Rattle.commands.specs.View.{view_command, view_decoded};
-ghost use Rattle.commands.specs.Stages.{command_of, access_from, EntrySays, values_from};
+ghost use Rattle.commands.specs.Stages.{command_of, EntrySays, values_from};
 
 use crate::ceilings::SheetCeilings;
 use crate::table::{Entry, entry_of};
@@ -127,7 +127,7 @@ pub fn value<const N: usize>(s: &[u8], at: usize) -> u32
     v
 }
 
-// The eight values of a BLOCK whose operands start at p.
+// The eight values of a BLOCK whose operands start at p. Written out: `array::from_fn` would be no plainer, and its proof longer.
 pub fn values(s: &[u8], p: usize) -> [u32; SheetCeilings::BLOCK_VALUES]
     requires { p ≤ length s.now }
     ensures { result ≡ values_from s.now p }
@@ -165,25 +165,6 @@ fn entry_at(s: &[u8], at: usize) -> Result<Entry, Fault>
     Ok(e)
 }
 
-// GET or PUT by its byte, its operands starting at p.
-fn access_of(s: &[u8], p: usize, b: u8) -> Access
-    requires { p ≤ length s.now }
-    ensures { result ≡ access_from s.now p b }
-{
-    if b == 0x21 {
-        return Access::Get {
-            register: byte(s, p),
-            block: byte(s, p + 1),
-            offset: byte(s, p + 2),
-        };
-    }
-    Access::Put {
-        block: byte(s, p),
-        offset: byte(s, p + 1),
-        register: byte(s, p + 2),
-    }
-}
-
 // The command of a byte, its operands starting at p; END where the byte names none.
 fn command_of(s: &[u8], p: usize, b: u8) -> Command
     requires { p ≤ length s.now }
@@ -217,8 +198,16 @@ fn command_of(s: &[u8], p: usize, b: u8) -> Command
         })),
         0x14 => Command::Body(BodyCommand::Outside(Outside::Swap(byte(s, p)))),
         0x20 => Command::Body(BodyCommand::Outside(Outside::Begin)),
-        0x21 => Command::Body(BodyCommand::Inside(Inside::Access(access_of(s, p, b)))),
-        0x22 => Command::Body(BodyCommand::Inside(Inside::Access(access_of(s, p, b)))),
+        0x21 => Command::Body(BodyCommand::Inside(Inside::Access(Access::Get {
+            register: byte(s, p),
+            block: byte(s, p + 1),
+            offset: byte(s, p + 2),
+        }))),
+        0x22 => Command::Body(BodyCommand::Inside(Inside::Access(Access::Put {
+            block: byte(s, p),
+            offset: byte(s, p + 1),
+            register: byte(s, p + 2),
+        }))),
         0x23 => Command::Body(BodyCommand::Inside(Inside::Commit)),
         _ => Command::End,
     }
