@@ -6,8 +6,8 @@ ghost use Rattle.commands.specs.View.{view_command};
 ghost use Rattle.model.specs.Command.{no_block};
 ghost use Rattle.sheet.specs.Indexed.{Indexed, Room, counted, place_or, empty_index, IsWord, IsBlock};
 
-use commands::ceilings::SheetCeilings;
 use commands::Command;
+use commands::ceilings::SheetCeilings;
 
 #[derive(Clone, Copy)]
 pub struct Sheet {

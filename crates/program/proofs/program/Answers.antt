@@ -16,7 +16,7 @@ pub loop-command-preserved-in-Word : goal.loop-command-preserved-in-Word
 loop-command-preserved-in-Word c =
     let l = c.loop-command.invariant in
     elim c.in-Word.is [
-      inl word ↦ one_word l (found-is _ _ _ _ c.decode.ensures c.in-Ok.is word.1)
+      | inl word ↦ one_word l (found-is _ _ _ _ c.decode.ensures c.in-Ok.is word.1)
       | inr block ↦ one_block l (found-is _ _ _ _ c.decode.ensures c.in-Ok.is block.1)
     ]
 
@@ -33,7 +33,7 @@ unfolding replace
 returns-in-Release c =
     let l = c.loop-command.invariant in
     elim c.in-Release.is [
-      inl release ↦ at-release l _ (found-is _ _ _ _ c.decode.ensures c.in-Ok.is release.1)
+      | inl release ↦ at-release l _ (found-is _ _ _ _ c.decode.ensures c.in-Ok.is release.1)
       | inr end ↦ at-end l (found-is _ _ _ _ c.decode.ensures c.in-Ok.is end)
     ]
 
