@@ -1,10 +1,11 @@
 -- The bytes of a command are its byte and its operands' bytes, as many as the table's entry says.
-use Prim.Native.Nat.{ℕ, zero, suc, ◌+◌, ◌≤◌}
+use Prim.Native.Nat.{ℕ, zero, suc, ◌-◌}
 use mathlib.Core.Path.{◌≡◌, refl, sym, ap, ◌∙◌}
 use mathlib.Core.List.{List, [], ◌∷◌, ◌++◌}
 use native.Mathlib.Omega.{arith}
 use lib.ListN.{length, replicate}
-use lib.Seq.{sets, sets-eq}
+use Rattle.std.specs.Prelude.{Some}
+use borrow.Rule.Slice.PartMut.{mid_of, put_mid}
 use Rattle.model.specs.Command.{GET, PUT, READ, PAIR, SWAP, BEGIN, access, COMMIT, LOAD, ADD, outside, inside}
 use Rattle.model.specs.Command.{WORD, BLOCK, TASK, RELEASE, END, body, table, row_by, row_of, total}
 use Rattle.model.specs.Command as M
@@ -15,15 +16,14 @@ use Rattle.commands.specs.View.{view_command}
 use Rattle.commands.specs.declared.Command.{Command}
 use Rattle.commands.specs.declared.Command.TheVariants.{Word, Block, Task, Release, End, Body}
 use Rattle.commands.specs.declared.table.Entry.{Entry}
-use Rattle.commands.specs.declared.table.Named.TheVariants.{By}
-use Rattle.encoder.specs.Operands.{size_of, one, four, fours, command_operands}
-use Rattle.encoder.proofs.Stores.{fours-length, both-written}
+use Rattle.encoder.specs.Operands.{size_of, four, fours, command_operands, started}
+use Rattle.encoder.proofs.Stores.{fours-length, behind, placed}
 
 -- THE TABLE'S ENTRY
 abbrev entry : M.Command → Entry
 entry c = record { byte = byte_of c; width = total (widths_of c) }
 
-pub entry-is : (c : M.Command) → entry_of (byte_of c) ≡ By (entry c)
+pub entry-is : (c : M.Command) → entry_of (byte_of c) ≡ Some (entry c)
 unfolding entry_of entry_in entries table row_of row_by total widths_of
 entry-is (WORD v) = refl
 entry-is (BLOCK b) = refl
@@ -57,10 +57,10 @@ Eight (RELEASE r) = Unit {0}
 Eight END = Unit {0}
 Eight (body c) = Unit {0}
 
-encode-is : (c : M.Command) → Eight c → encode c ≡ one (byte_of c) ++ command_operands c
+encode-is : (c : M.Command) → Eight c → encode c ≡ byte_of c ∷ command_operands c
 unfolding encode operand_bytes bytes_of widths_of row_by
 encode-is (WORD v) e = refl
-encode-is (BLOCK b) e = ap (λ (l : List ℕ). one 0x02 ++ (four b.version ++ l)) (values-bytes 8 b.values e)
+encode-is (BLOCK b) e = ap (λ (l : List ℕ). 0x02 ∷ (four b.version ++ l)) (values-bytes 8 b.values e)
 encode-is TASK e = refl
 encode-is (RELEASE r) e = refl
 encode-is END e = refl
@@ -123,15 +123,13 @@ module _ (vs : List ℕ) (eight : length vs ≡ 8) where
   pub encode-size : (c : Command) → length (encode (viewed c)) ≡ size_of (view_command [] c)
   encode-size c = ap length (encode-is (viewed c) (has_eight c)) ∙ size_is (viewed c) (has_eight c) ∙ sym (same_size c)
 
-  -- the byte and the operands behind it
-  pub all-written : (c : Command) (b x y : List ℕ) (at : ℕ) → at + length (encode (viewed c)) ≤ length b
-      → x ≡ sets b at (one (byte_of (view_command [] c))) → y ≡ sets x (at + 1) (command_operands (viewed c))
-      → y ≡ overwrite b at (encode (viewed c))
-  unfolding overwrite
-  all-written c b x y at h e f =
-      let text = encode-is (viewed c) (has_eight c) in
-      let whole : y ≡ sets b at (one (byte_of (view_command [] c)) ++ command_operands (viewed c)) =
-      both-written (one (byte_of (view_command [] c))) (command_operands (viewed c)) b x y at e f in
-      let same : one (byte_of (view_command [] c)) ++ command_operands (viewed c) ≡ encode (viewed c) =
-      ap (λ (z : ℕ). one z ++ command_operands (viewed c)) (same_byte c) ∙ sym text in
-      whole ∙ ap (λ (z : List ℕ). sets b at z) same ∙ sets-eq (encode (viewed c)) b at h
+  -- the byte, and the operands behind it
+  pub all-written : (c : Command) (b x y : List ℕ) (at : ℕ) → x ≡ started (byte_of (view_command [] c) ∷ []) (mid_of at (length b - at) b)
+      → y ≡ started (command_operands (viewed c)) (mid_of 1 (length x - 1) x)
+      → put_mid at (length b - at) b (put_mid 1 (length x - 1) x y) ≡ overwrite b at (encode (viewed c))
+  all-written c b x y at e f =
+      let rest = mid_of at (length b - at) b in
+      let same : byte_of (view_command [] c) ∷ command_operands (viewed c) ≡ encode (viewed c) =
+      ap (λ (z : ℕ). z ∷ command_operands (viewed c)) (same_byte c) ∙ sym (encode-is (viewed c) (has_eight c)) in
+      placed (encode (viewed c)) b (put_mid 1 (length x - 1) x y) at
+      (behind (byte_of (view_command [] c) ∷ []) (command_operands (viewed c)) rest x y 1 refl e f ∙ ap (λ (z : List ℕ). started z rest) same)

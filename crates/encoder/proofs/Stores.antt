@@ -1,36 +1,14 @@
--- Bytes stored one after another, and texts written one behind the other.
-use Prim.Native.Nat.{ℕ, suc, ◌+◌, ◌*◌, ◌<◌, ◌≤◌}
+-- Bytes written at a buffer's start, others behind them, and a part of a buffer put back.
+use Prim.Native.Nat.{ℕ, suc, ◌+◌, ◌*◌, ◌-◌, ◌<◌, ◌≤◌}
 use mathlib.Core.Path.{◌≡◌, refl, sym, ap, ◌∙◌}
-use mathlib.Core.List.{List, [], ◌∷◌, ◌++◌}
-use native.Mathlib.Nat.{add-zero}
+use mathlib.Core.List.{List, [], ◌∷◌, ◌++◌, append-nil, append_assoc}
 use native.Mathlib.Omega.{arith}
-use lib.ListN.{length, get_or, set, take}
-use lib.Seq.{sets, length-sets, take-suc, length-take-le}
-use Rattle.encoder.specs.Operands.{four, fours}
-
-module _ (l : List ℕ) (i : ℕ) (a b : ℕ) where
-  abbrev one : ℕ → List ℕ
-  one j = set (set l i a) j b
-
-  pub stored-two : set (set l i a) (i + 1) b ≡ sets l i (a ∷ b ∷ [])
-  stored-two = let e : i + 1 ≡ suc i = omega arith in ap one e
-
-  pub stored_three : (c : ℕ) → set (set (set l i a) (i + 1) b) (i + 2) c ≡ sets l i (a ∷ b ∷ c ∷ [])
-  stored_three c =
-      let e : i + 1 ≡ suc i = omega arith in
-      let f : i + 2 ≡ suc (suc i) = omega arith in
-      ap (λ (x : List ℕ). set x (i + 2) c) (ap one e) ∙ ap (λ (j : ℕ). set (one (suc i)) j c) f
-
-  pub stored-four : (c d : ℕ) → set (set (set (set l i a) (i + 1) b) (i + 2) c) (i + 3) d ≡ sets l i (a ∷ b ∷ c ∷ d ∷ [])
-  stored-four c d =
-      let f : i + 3 ≡ suc (suc (suc i)) = omega arith in
-      ap (λ (x : List ℕ). set x (i + 3) d) (stored_three c) ∙ ap (λ (j : ℕ). set (sets l i (a ∷ b ∷ c ∷ [])) j d) f
-
-pub sets_append : (x y b : List ℕ) (i : ℕ) → sets b i (x ++ y) ≡ sets (sets b i x) (i + length x) y
-sets_append [] y b i = ap (λ (k : ℕ). sets b k y) (sym (add-zero i))
-sets_append (a ∷ x) y b i =
-    let e : suc i + length x ≡ i + suc (length x) = omega arith in
-    sets_append x y (set b i a) (suc i) ∙ ap (λ (k : ℕ). sets (sets (set b i a) (suc i) x) k y) e
+use lib.ListN.{length, get_or, take, drop, length-append, length-drop, drop_of_length-le}
+use lib.Seq.{take-suc, length-take-le, take-length, drop-length, take-append_seam, drop-append_seam, drop-drop}
+use Rattle.std.specs.Int.{to_be_bytes, w32}
+use borrow.Rule.Slice.PartMut.{mid_of, put_mid}
+use Rattle.model.specs.Builder.{overwrite}
+use Rattle.encoder.specs.Operands.{four, fours, started}
 
 -- NUMBERS IN FOUR BYTES
 pub fours_append : (x y : List ℕ) → fours (x ++ y) ≡ fours x ++ fours y
@@ -41,18 +19,35 @@ pub fours-length : (x : List ℕ) → length (fours x) ≡ 4 * length x
 fours-length [] = refl
 fours-length (v ∷ x) = omega (arith, fours-length x)
 
+-- as the library writes them
+pub be_four : (v : ℕ) → to_be_bytes w32 v ≡ four v
+be_four v = grind arith
+
 -- one more of them
-pub value_more : (b l : List ℕ) (at i : ℕ) → i < length l → (c d : List ℕ) → c ≡ sets b at (fours (take i l)) → d ≡ sets c (at + 4 * i) (four (get_or l i 0))
-    → d ≡ sets b at (fours (take (i + 1) l))
-value_more b l at i h c d e f =
-    let size : length (fours (take i l)) ≡ 4 * i = fours-length (take i l) ∙ ap (λ (n : ℕ). 4 * n) (length-take-le i l (omega arith)) in
-    let text : fours (take (suc i) l) ≡ fours (take i l) ++ four (get_or l i 0) = ap fours (take-suc l i 0 h) ∙ fours_append (take i l) (get_or l i 0 ∷ []) in
+pub fours_more : (l : List ℕ) (i : ℕ) → i < length l → fours (take (i + 1) l) ≡ fours (take i l) ++ four (get_or l i 0)
+fours_more l i h =
     let next : i + 1 ≡ suc i = omega arith in
-    rw (f, e, next, text, ← size) (sym (sets_append (fours (take i l)) (four (get_or l i 0)) b at))
+    rw next (ap fours (take-suc l i 0 h) ∙ fours_append (take i l) (get_or l i 0 ∷ []))
 
--- TWO TEXTS, one behind the other
-pub both-written : (x y b c d : List ℕ) (at : ℕ) → c ≡ sets b at x → d ≡ sets c (at + length x) y → d ≡ sets b at (x ++ y)
-both-written x y b c d at e f = f ∙ ap (λ (z : List ℕ). sets z (at + length x) y) e ∙ sym (sets_append x y b at)
+pub fours_take : (l : List ℕ) (i : ℕ) → i ≤ length l → length (fours (take i l)) ≡ 4 * i
+fours_take l i h = fours-length (take i l) ∙ ap (λ (n : ℕ). 4 * n) (length-take-le i l h)
 
-pub still_room : (x b c : List ℕ) (at : ℕ) {n : ℕ} → c ≡ sets b at x → n ≤ length b → n ≤ length c
-still_room x b c at e h = omega (arith, ap length e, length-sets b at x)
+-- A PART PUT BACK
+rest_written : (x y q : List ℕ)
+    → put_mid (length x) (length (x ++ q) - length x) (x ++ q) (started y (mid_of (length x) (length (x ++ q) - length x) (x ++ q)))
+    ≡ x ++ started y q
+rest_written x y q =
+    let size : length (x ++ q) - length x ≡ length q = omega (arith, length-append x q) in
+    simp (size, take-append_seam, drop-append_seam, take-length, drop-length, append-nil)
+
+-- bytes behind those that the buffer starts with
+pub behind : (x y b c d : List ℕ) (n : ℕ) → n ≡ length x → c ≡ started x b → d ≡ started y (mid_of n (length c - n) c)
+    → put_mid n (length c - n) c d ≡ started (x ++ y) b
+behind x y b c d n e f g = rw (g, e, f) (rest_written x y (drop (length x) b) ∙ simp (append_assoc, length-append, drop-drop))
+
+-- bytes at a place
+pub placed : (x b d : List ℕ) (at : ℕ) → d ≡ started x (mid_of at (length b - at) b) → put_mid at (length b - at) b d ≡ overwrite b at x
+unfolding overwrite
+placed x b d at e =
+    let size : length (drop at b) ≡ length b - at = length-drop at b in
+    rw (e, ← size) (simp (take-length, drop-length, append-nil, drop-drop) (sym (append_assoc (take at b) x (drop (at + length x) b))))

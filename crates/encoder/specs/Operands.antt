@@ -1,5 +1,5 @@
 -- How many bytes a command has, and the bytes of its operands.
-use Rattle.std.specs.Prelude.{ℕ, suc, ◌/◌, ◌%◌, List, [], ◌∷◌, ◌++◌}
+use Rattle.std.specs.Prelude.{ℕ, suc, ◌/◌, ◌%◌, List, [], ◌∷◌, ◌++◌, length, drop}
 use Rattle.model.specs.Command.{Access, GET, PUT, Outside, READ, PAIR, SWAP, BEGIN, Inside, access, COMMIT}
 use Rattle.model.specs.Command.{BodyCommand, LOAD, ADD, outside, inside}
 use Rattle.model.specs.Command.{Command, WORD, BLOCK, TASK, RELEASE, END, body, total}
@@ -50,3 +50,7 @@ command_operands TASK = []
 command_operands (RELEASE r) = two r.tick ++ one r.task
 command_operands END = []
 command_operands (body c) = body_operands c
+
+-- a buffer that starts with these bytes, and goes on as before
+abbrev pub started : List ℕ → List ℕ → List ℕ
+started bytes b = bytes ++ drop (length bytes) b

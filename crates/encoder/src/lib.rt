@@ -1,17 +1,16 @@
 #![tactic(auto)]
 
 // The bytes of a command, written at a place of a buffer that has room for them: its byte, and its operands as wide as the table says.
-ghost use Rattle.std.specs.Prelude.{◌≡◌, [], ◌++◌, ◌+◌, ◌*◌, ◌≤◌, length};
-ghost use Rattle.std.proofs.lemmas.List.Edits.{sets};
+ghost use Rattle.std.specs.Prelude.{◌≡◌, [], ◌+◌, ◌*◌, ◌≤◌, length};
 ghost use Rattle.model.specs.Command.{access, outside, inside, body};
 ghost use Rattle.model.specs.Encoding.{byte_of, encode};
 ghost use Rattle.model.specs.Builder.{overwrite};
 ghost use Rattle.commands.specs.View.{view_access, view_outside, view_inside, view_body_command, view_command};
-ghost use Rattle.encoder.specs.Operands.{one, two, four, fours};
+ghost use Rattle.encoder.specs.Operands.{started, fours};
 ghost use Rattle.encoder.specs.Operands.{outside_operands, access_operands, inside_operands, body_operands, command_operands};
 
 use commands::ceilings::SheetCeilings;
-use commands::table::{Named, entry_of};
+use commands::table::entry_of;
 use commands::{Access, BodyCommand, Command, Inside, Outside};
 
 fn byte_of_outside(c: Outside) -> u8
@@ -71,7 +70,7 @@ fn byte_of(c: Command) -> u8
 pub fn size(c: Command, values: [u32; SheetCeilings::BLOCK_VALUES]) -> usize
     ensures { result ≡ length (encode (view_command values c)) }
 {
-    let Named::By(e) = entry_of(byte_of(c)) else {
+    let Some(e) = entry_of(byte_of(c)) else {
         return 1;
     };
     // The proof learns an array's length from its slice.
@@ -79,136 +78,97 @@ pub fn size(c: Command, values: [u32; SheetCeilings::BLOCK_VALUES]) -> usize
     1 + e.width as usize
 }
 
-// One, two and three operands of one byte.
-fn put(buffer: &mut [u8], at: usize, first: u8)
-    requires { at + 1 ≤ length buffer.old }
-    ensures { buffer.new ≡ sets buffer.old at (one first) }
+// Writes the bytes at the start of the buffer.
+fn put(buffer: &mut [u8], bytes: &[u8])
+    requires { length bytes.now ≤ length buffer.old }
+    ensures { buffer.new ≡ started bytes.now buffer.old }
 {
-    buffer[at] = first;
+    buffer[..bytes.len()].copy_from_slice(bytes);
 }
 
-fn put_two(buffer: &mut [u8], at: usize, first: u8, second: u8)
-    requires { at + 2 ≤ length buffer.old }
-    ensures { buffer.new ≡ sets buffer.old at (one first ++ one second) }
+fn put_values(buffer: &mut [u8], values: &[u32])
+    requires { 4 * length values.now ≤ length buffer.old }
+    ensures { buffer.new ≡ started (fours values.now) buffer.old }
 {
-    buffer[at] = first;
-    buffer[at + 1] = second;
-}
-
-fn put_three(buffer: &mut [u8], at: usize, first: u8, second: u8, third: u8)
-    requires { at + 3 ≤ length buffer.old }
-    ensures { buffer.new ≡ sets buffer.old at (one first ++ one second ++ one third) }
-{
-    buffer[at] = first;
-    buffer[at + 1] = second;
-    buffer[at + 2] = third;
-}
-
-// A number in two bytes, and in four, the high byte first.
-fn put2(buffer: &mut [u8], at: usize, value: u32)
-    requires { at + 2 ≤ length buffer.old }
-    ensures { buffer.new ≡ sets buffer.old at (two value) }
-{
-    buffer[at] = (value / 256 % 256) as u8;
-    buffer[at + 1] = (value % 256) as u8;
-}
-
-fn put4(buffer: &mut [u8], at: usize, value: u32)
-    requires { at + 4 ≤ length buffer.old }
-    ensures { buffer.new ≡ sets buffer.old at (four value) }
-{
-    buffer[at] = (value / 256 / 256 / 256 % 256) as u8;
-    buffer[at + 1] = (value / 256 / 256 % 256) as u8;
-    buffer[at + 2] = (value / 256 % 256) as u8;
-    buffer[at + 3] = (value % 256) as u8;
-}
-
-fn put_values(buffer: &mut [u8], at: usize, values: &[u32])
-    requires { at + 4 * length values.now ≤ length buffer.old }
-    ensures { buffer.new ≡ sets buffer.old at (fours values.now) }
-{
-    let mut next = at;
-    let mut i = 0;
-    while i < values.len() {
-        put4(&mut *buffer, next, values[i]);
-        next += 4;
-        i += 1;
+    for (i, value) in values.iter().enumerate() {
+        put(&mut buffer[4 * i..], &value.to_be_bytes());
     }
 }
 
-fn operands_outside(buffer: &mut [u8], at: usize, c: Outside)
-    requires { at + length (outside_operands (view_outside c)) ≤ length buffer.old }
-    ensures { buffer.new ≡ sets buffer.old at (outside_operands (view_outside c)) }
+fn operands_outside(buffer: &mut [u8], c: Outside)
+    requires { length (outside_operands (view_outside c)) ≤ length buffer.old }
+    ensures { buffer.new ≡ started (outside_operands (view_outside c)) buffer.old }
 {
     match c {
-        Outside::Read { register, word } => put_two(&mut *buffer, at, register, word),
-        Outside::Pair { word, old, new } => put_three(&mut *buffer, at, word, old, new),
-        Outside::Swap(register) => put(&mut *buffer, at, register),
+        Outside::Read { register, word } => put(buffer, &[register, word]),
+        Outside::Pair { word, old, new } => put(buffer, &[word, old, new]),
+        Outside::Swap(register) => put(buffer, &[register]),
         Outside::Begin => {}
     }
 }
 
-fn operands_access(buffer: &mut [u8], at: usize, a: Access)
-    requires { at + length (access_operands (view_access a)) ≤ length buffer.old }
-    ensures { buffer.new ≡ sets buffer.old at (access_operands (view_access a)) }
+fn operands_access(buffer: &mut [u8], a: Access)
+    requires { length (access_operands (view_access a)) ≤ length buffer.old }
+    ensures { buffer.new ≡ started (access_operands (view_access a)) buffer.old }
 {
     match a {
         Access::Get {
             register,
             block,
             offset,
-        } => put_three(&mut *buffer, at, register, block, offset),
+        } => put(buffer, &[register, block, offset]),
         Access::Put {
             block,
             offset,
             register,
-        } => put_three(&mut *buffer, at, block, offset, register),
+        } => put(buffer, &[block, offset, register]),
     }
 }
 
-fn operands_inside(buffer: &mut [u8], at: usize, c: Inside)
-    requires { at + length (inside_operands (view_inside c)) ≤ length buffer.old }
-    ensures { buffer.new ≡ sets buffer.old at (inside_operands (view_inside c)) }
+fn operands_inside(buffer: &mut [u8], c: Inside)
+    requires { length (inside_operands (view_inside c)) ≤ length buffer.old }
+    ensures { buffer.new ≡ started (inside_operands (view_inside c)) buffer.old }
 {
     match c {
-        Inside::Access(a) => operands_access(&mut *buffer, at, a),
+        Inside::Access(a) => operands_access(buffer, a),
         Inside::Commit => {}
     }
 }
 
-fn operands_body(buffer: &mut [u8], at: usize, c: BodyCommand)
-    requires { at + length (body_operands (view_body_command c)) ≤ length buffer.old }
-    ensures { buffer.new ≡ sets buffer.old at (body_operands (view_body_command c)) }
+fn operands_body(buffer: &mut [u8], c: BodyCommand)
+    requires { length (body_operands (view_body_command c)) ≤ length buffer.old }
+    ensures { buffer.new ≡ started (body_operands (view_body_command c)) buffer.old }
 {
     match c {
         BodyCommand::Load { register, value } => {
-            put(&mut *buffer, at, register);
-            put4(&mut *buffer, at + 1, value)
+            put(buffer, &[register]);
+            put(&mut buffer[1..], &value.to_be_bytes());
         }
-        BodyCommand::Add { register, other } => put_two(&mut *buffer, at, register, other),
-        BodyCommand::Outside(o) => operands_outside(&mut *buffer, at, o),
-        BodyCommand::Inside(i) => operands_inside(&mut *buffer, at, i),
+        BodyCommand::Add { register, other } => put(buffer, &[register, other]),
+        BodyCommand::Outside(o) => operands_outside(buffer, o),
+        BodyCommand::Inside(i) => operands_inside(buffer, i),
     }
 }
 
 // The operands of a command, a BLOCK's values after its version.
-fn operands(buffer: &mut [u8], at: usize, c: Command, values: &[u32])
-    requires { at + length (command_operands (view_command values.now c)) ≤ length buffer.old }
-    ensures { buffer.new ≡ sets buffer.old at (command_operands (view_command values.now c)) }
+fn operands(buffer: &mut [u8], c: Command, values: &[u32])
+    requires { length (command_operands (view_command values.now c)) ≤ length buffer.old }
+    ensures { buffer.new ≡ started (command_operands (view_command values.now c)) buffer.old }
 {
     match c {
-        Command::Word(value) => put4(&mut *buffer, at, value),
+        Command::Word(value) => put(buffer, &value.to_be_bytes()),
         Command::Block(version) => {
-            put4(&mut *buffer, at, version);
-            put_values(&mut *buffer, at + 4, values)
+            put(buffer, &version.to_be_bytes());
+            put_values(&mut buffer[4..], values);
         }
         Command::Task => {}
         Command::Release(r) => {
-            put2(&mut *buffer, at, r.tick);
-            put(&mut *buffer, at + 2, r.task)
+            // Two bytes hold the tick.
+            let [_, _, high, low] = r.tick.to_be_bytes();
+            put(buffer, &[high, low, r.task]);
         }
         Command::End => {}
-        Command::Body(b) => operands_body(&mut *buffer, at, b),
+        Command::Body(b) => operands_body(buffer, b),
     }
 }
 
@@ -217,6 +177,7 @@ pub fn write(buffer: &mut [u8], at: usize, c: Command, values: [u32; SheetCeilin
     requires { at + length (encode (view_command values c)) ≤ length buffer.old }
     ensures { buffer.new ≡ overwrite buffer.old at (encode (view_command values c)) }
 {
-    put(&mut *buffer, at, byte_of(c));
-    operands(&mut *buffer, at + 1, c, &values)
+    let rest = &mut buffer[at..];
+    put(rest, &[byte_of(c)]);
+    operands(&mut rest[1..], c, &values);
 }

@@ -1,16 +1,10 @@
 -- The values have room behind the version.
 use Rattle.std.proofs.Common.{arith}
-use Rattle.encoder.specs.Operands.{four}
-use Rattle.encoder.proofs.Stores.{still_room, fours-length}
+use Rattle.encoder.proofs.Stores.{fours-length}
 use Rattle.encoder.proofs.operands.Goals as goal
 
 pub put_values-requires : goal.put_values-requires
 put_values-requires c =
     let a = c.args in
     let room = rw c.in-Block.is at c.requires in
-    omega (
-      arith,
-      room,
-      fours-length a.values.now,
-      still_room (four c.in-Block.version) a.buffer.now c.put4-in-Block.new.buffer a.at c.put4-in-Block.ensures room,
-    )
+    omega (arith, room, fours-length a.values.now)
