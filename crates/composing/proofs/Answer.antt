@@ -1,11 +1,10 @@
 -- The model's answer, case by case.
-use Prim.Native.Nat.{ℕ, ◌+◌, ◌-◌, ◌<◌, ◌≤◌}
-use mathlib.Core.Path.{◌≡◌, refl, sym, ap, ◌∙◌}
+use Prim.Native.Nat.{ℕ, ◌+◌}
+use mathlib.Core.Path.{◌≡◌, refl, sym, ◌∙◌}
 use mathlib.Core.Bool.{Bool, true, false}
 use mathlib.Core.List.{List, []}
 use mathlib.Core.Option.{Option, none, some}
-use native.Mathlib.Omega.{arith}
-use borrow.Author.Tests.{ltb-true, ltb-false, lt-ltb, le-ltb, le-leb, lt-leb}
+use borrow.Author.Tests.{ltb-true, ltb-false, le-leb, lt-leb}
 use lib.Dec.{ltb, leb}
 use lib.ListN.{length}
 use Rattle.model.specs.Refusal.{byte_after_end, buffer_full}
@@ -19,17 +18,6 @@ use Rattle.model.proofs.Fit.Body.{passed_of}
 use Rattle.commands.specs.View.{view_command}
 use Rattle.commands.specs.declared.Command.{Command}
 use Rattle.sheet.proofs.Values.{fault_values, after-values, end_values}
-
--- FREE BYTES
-pub none_free : (length filled size : ℕ) → length < filled → true ≡ ltb length (filled + size)
-none_free length filled size h = sym (lt-ltb length (filled + size) (omega arith))
-
-pub some_free : (length filled size : ℕ) → filled ≤ length → ltb (length - filled) size ≡ ltb length (filled + size)
-some_free length filled size h = go (ltb (length - filled) size) refl
-  where
-    go : (b : Bool) → ltb (length - filled) size ≡ b → ltb (length - filled) size ≡ ltb length (filled + size)
-    go true e = e ∙ sym (lt-ltb length (filled + size) (omega (arith, ltb-true (length - filled) size e)))
-    go false e = e ∙ sym (le-ltb length (filled + size) (omega (arith, ltb-false (length - filled) size e)))
 
 -- THE ANSWER
 module _ (s : BuilderState) (b : List ℕ) where

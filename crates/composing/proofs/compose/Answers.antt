@@ -1,5 +1,5 @@
 -- `compose` meets its contract.
-use Rattle.std.proofs.Common.{ℕ, ◌+◌, refl, sym, ap, ◌∙◌}
+use Rattle.std.proofs.Common.{ℕ, ◌+◌, sym, ap, ◌∙◌}
 use Rattle.commands.specs.View.{view_refusal, view_command}
 use Rattle.composing.specs.View.{view_state}
 use Rattle.composing.proofs.Answer.{at-end, at-fault, when-full, when_taken, good_under}
