@@ -1,64 +1,69 @@
 -- What each `return` of the builder's entries gives: the model's answer, and the story.
 use Prim.Native.Nat.{ℕ}
-use mathlib.Core.Path.{◌≡◌, refl, sym, ◌∙◌, subst}
-use mathlib.Core.Bool.{Bool, true, false}
+use mathlib.Core.Path.{◌≡◌, refl, ap, ◌∙◌}
 use mathlib.Core.List.{List}
-use mathlib.Core.Option.{Option, none, some}
 use native.Mathlib.Omega.{arith}
-use Rattle.model.specs.Command.{Command}
+use Rattle.std.specs.Prelude.{Result, Ok, Err}
+use Rattle.model.specs.Refusal as R
+use Rattle.commands.specs.View.{view_refusal}
 use Rattle.model.specs.Builder as B
-use Rattle.model.proofs.Builder.Calls.{Outcome, after_end, faulty, full, takes_it, outcome}
 use Rattle.model.proofs.Builder.Story.{story}
 use Rattle.composing.specs.View.{view_state}
-use Rattle.composing.specs.Composes as composing
+use Rattle.commands.specs.declared.Fault.{Fault}
+use Rattle.composing.specs.Composes.{answered}
 use Rattle.composing.specs.declared.BuilderState.{BuilderState}
-use Rattle.composing.specs.declared.Composed.{Composed}
 use Rattle.builder.specs.Handed.{ComposesHanded}
 use Rattle.builder.specs.Packed.{state_of}
 use Rattle.builder.specs.Contract.{ComposesFor, ComposesBytes}
 use Rattle.builder.proofs.StateBytes.{start_is}
 
-pub composes : (a : B.Composed) (r : Composed) (after : List ℕ) → composing.Answers a r after
-    → ComposesFor a r.number r.place (view_state r.state) after
-composes a r after w = record { number = w.number; place = w.place; state = w.state; buffer = w.buffer; story = story }
+pub composes : (s : B.BuilderState) (r : Result BuilderState Fault) (after : List ℕ) (a : B.Composed) → answered s r after ≡ a
+    → ComposesFor a (answered s r after).number (answered s r after).place (answered s r after).state after
+composes s (Ok next) after a e =
+    record {
+      number = ap (λ (x : B.Composed). x.number) e;
+      place = ap (λ (x : B.Composed). x.place) e;
+      state = ap (λ (x : B.Composed). x.state) e;
+      buffer = ap (λ (x : B.Composed). x.buffer) e;
+      story = story;
+    }
+composes s (Err f) after a e =
+    record {
+      number = ap (λ (x : B.Composed). x.number) e;
+      place = ap (λ (x : B.Composed). x.place) e;
+      state = ap (λ (x : B.Composed). x.state) e;
+      buffer = ap (λ (x : B.Composed). x.buffer) e;
+      story = story;
+    }
 
--- a refusal leaves the state
-by_outcome : {s : B.BuilderState} {b : List ℕ} {c : Command} (a : B.Composed) → Outcome s b c a → (a.number ≡ 0 → ⊥) → a.state ≡ s
-unfolding B.taken
-by_outcome a (after_end e) n = refl
-by_outcome a (faulty f e g) n = refl
-by_outcome a (full e g r) n = refl
-by_outcome a (takes_it e g r) n = absurd (n refl)
+module _ (bytes : List (List ℕ)) (before after : List ℕ) (byte : ℕ) (operands : List ℕ) (s : BuilderState)
+    (unpacked : view_state s ≡ state_of bytes) where
+  abbrev answer : B.Composed
+  answer = B.compose_handed (state_of bytes) before (B.handed byte operands)
 
-unnamed_state : (t : Bool) (s : B.BuilderState) (b : List ℕ) → (B.compose_unnamed t s b).state ≡ s
-unfolding B.compose_unnamed
-unnamed_state true s b = refl
-unnamed_state false s b = refl
+  -- the same at the state in the bytes
+  abbrev Answers : Result BuilderState Fault → Type 0
+  Answers r = ComposesHanded (view_state s) before (B.handed byte operands) r after
 
-refused-state : (s : B.BuilderState) (b : List ℕ) (o : Option Command) → ((B.compose_handed s b o).number ≡ 0 → ⊥) → (B.compose_handed s b o).state ≡ s
-unfolding B.compose_handed
-refused-state s b none n = unnamed_state s.ended s b
-refused-state s b (some c) n = by_outcome (B.compose s b c) (outcome s b c) n
+  composed : (r : Result BuilderState Fault) → Answers r → answered (state_of bytes) r after ≡ answer
+  composed r a = rw unpacked at a
 
-module _ (bytes : List (List ℕ)) (before after : List ℕ) (byte : ℕ) (operands : List ℕ) (s : BuilderState) (r : Composed)
-    (unpacked : view_state s ≡ state_of bytes) (answers : ComposesHanded (view_state s) before (B.handed byte operands) r after) where
-  abbrev handed_over : B.BuilderState → B.Composed
-  handed_over x = B.compose_handed x before (B.handed byte operands)
+  pub composes_taken : (next : BuilderState) (bytes' : List (List ℕ)) → Answers (Ok next) → state_of bytes' ≡ view_state next
+      → ComposesBytes bytes before byte operands 0 next.filled bytes' after
+  composes_taken next bytes' a e =
+      let w = composes (state_of bytes) (Ok next) after answer (composed (Ok next) a) in
+      record {
+        answer = record { number = w.number; place = w.place; state = e ∙ w.state; buffer = w.buffer; story = story };
+        start = start_is;
+        kept = λ h. absurd (omega arith);
+      }
 
-  same : ComposesFor (handed_over (state_of bytes)) r.number r.place (view_state r.state) after
-  same = subst (λ (x : B.BuilderState). ComposesFor (handed_over x) r.number r.place (view_state r.state) after) unpacked
-      (composes (handed_over (view_state s)) r after answers)
-
-  with_state : {x : B.BuilderState} → x ≡ (handed_over (state_of bytes)).state
-      → ComposesFor (handed_over (state_of bytes)) r.number r.place x after
-  with_state e = record { number = same.number; place = same.place; state = e; buffer = same.buffer; story = story }
-
-  pub composes_taken : (next : List (List ℕ)) → state_of next ≡ view_state r.state → r.number ≡ 0
-      → ComposesBytes bytes before byte operands r.number r.place next after
-  composes_taken next e z =
-      record { answer = with_state (e ∙ same.state); start = start_is; kept = λ h. absurd (omega (arith, z)) }
-
-  pub composes_refused : (r.number ≡ 0 → ⊥) → ComposesBytes bytes before byte operands r.number r.place bytes after
-  composes_refused n =
-      let keeps = refused-state (state_of bytes) before (B.handed byte operands) (λ z. n (same.number ∙ z)) in
-      record { answer = with_state (sym keeps); start = start_is; kept = λ h. refl }
+  pub composes_refused : (f : Fault) {n : ℕ} → n ≡ R.number (view_refusal f.refusal) → Answers (Err f)
+      → ComposesBytes bytes before byte operands n f.place bytes after
+  composes_refused f is a =
+      let w = composes (state_of bytes) (Err f) after answer (composed (Err f) a) in
+      record {
+        answer = record { number = is ∙ w.number; place = w.place; state = w.state; buffer = w.buffer; story = story };
+        start = start_is;
+        kept = λ h. refl;
+      }

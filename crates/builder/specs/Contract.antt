@@ -1,10 +1,11 @@
 -- The contracts of the sheet builder: number, place, state and buffer, each by an equation with the model's answer, and the
 -- story of all calls.
-use Rattle.std.specs.Prelude.{ℕ, ◌≤◌, ◌≡◌, List, replicate}
+use Rattle.std.specs.Prelude.{ℕ, ◌≤◌, ◌≡◌, List, replicate, Result}
 use Rattle.model.specs.Command.{Command}
 use Rattle.model.specs.Builder as M
-use Rattle.composing.specs.View.{view_state}
-use Rattle.composing.specs.declared.Composed.{Composed}
+use Rattle.commands.specs.declared.Fault.{Fault}
+use Rattle.composing.specs.Composes.{answered}
+use Rattle.composing.specs.declared.BuilderState.{BuilderState}
 use Rattle.builder.specs.Packed.{state_of}
 
 -- ONE CALL; `a` is the model's answer
@@ -16,8 +17,10 @@ pub record ComposesFor (a : M.Composed) (n p : ℕ) (s : M.BuilderState) (after 
   -- what holds of every list of calls from nothing filled
   pub story : M.Story
 
-abbrev pub Composes : M.BuilderState → List ℕ → Command → Composed → List ℕ → Type 0
-Composes s before c r after = ComposesFor (M.compose s before c) r.number r.place (view_state r.state) after
+-- the number, place and state that an outcome stands for
+abbrev pub Composes : M.BuilderState → List ℕ → Command → Result BuilderState Fault → List ℕ → Type 0
+Composes s before c r after =
+    ComposesFor (M.compose s before c) (answered s r after).number (answered s r after).place (answered s r after).state after
 
 -- the same by a byte and nine operands, the state in 64 bytes: any bytes are some state, all zero is nothing filled, a refusal
 -- changes none

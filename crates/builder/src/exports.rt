@@ -15,13 +15,15 @@ pub fn hizgrael_compose(
 ) -> u8
     ensures { ComposesBytes state.old buffer.old command operands.now result place.new state.new buffer.new }
 {
-    let s = unpack(*state);
-    let a = compose_handed(s, &mut *buffer, command, operands);
-    *place = a.place as u64;
-    let taken = a.number == 0;
-    if taken {
-        let next = a.state;
-        *state = pack(next);
+    match compose_handed(unpack(*state), &mut *buffer, command, operands) {
+        Ok(next) => {
+            *place = next.filled as u64;
+            *state = pack(next);
+            0
+        }
+        Err(f) => {
+            *place = f.place as u64;
+            f.refusal.into()
+        }
     }
-    a.number
 }

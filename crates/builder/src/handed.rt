@@ -1,8 +1,7 @@
 // A command handed over by its byte and nine operands, as a C caller has them.
 ghost use Rattle.std.specs.Prelude.{◌≡◌, min};
-ghost use Rattle.commands.specs.View.{view_command};
 ghost use Rattle.model.specs.Builder.{handed};
-ghost use Rattle.builder.specs.Handed.{values_of, command_or};
+ghost use Rattle.builder.specs.Handed.{values_of, view_handed};
 
 use commands::ceilings::SheetCeilings;
 use commands::{Access, BodyCommand, Command, Inside, Outside, Release};
@@ -14,25 +13,22 @@ pub const OPERANDS: usize = 9;
 fn narrowed(v: u32) -> u8
     ensures { result ≡ min v 255 }
 {
-    if 255 < v {
-        return 255;
-    }
-    v as u8
+    v.min(255) as u8
 }
 
-// BLOCK's values.
+// BLOCK's values. One by one, as the check does not cover a pattern `[_, values @ ..]` on a lent array yet.
 pub fn values(o: &[u32; OPERANDS]) -> [u32; SheetCeilings::BLOCK_VALUES]
     ensures { result ≡ values_of o.now }
 {
     [o[1], o[2], o[3], o[4], o[5], o[6], o[7], o[8]]
 }
 
-// The command of a byte; END where the byte names none.
+// The command of a byte, if it names one.
 #[tactic(auto, unfolding(model::specs::Builder::handed, model::specs::Command::row_by, model::specs::Command::row_of, model::specs::Command::table))]
-pub fn command(b: u8, o: &[u32; OPERANDS]) -> Command
-    ensures { view_command (values_of o.now) result ≡ command_or (handed b o.now) }
+pub fn command(b: u8, o: &[u32; OPERANDS]) -> Option<Command>
+    ensures { view_handed (values_of o.now) result ≡ handed b o.now }
 {
-    match b {
+    Some(match b {
         0x01 => Command::Word(o[0]),
         0x02 => Command::Block(o[0]),
         0x03 => Command::Task,
@@ -71,6 +67,6 @@ pub fn command(b: u8, o: &[u32; OPERANDS]) -> Command
             register: narrowed(o[2]),
         }))),
         0x23 => Command::Body(BodyCommand::Inside(Inside::Commit)),
-        _ => Command::End,
-    }
+        _ => return None,
+    })
 }

@@ -11,21 +11,21 @@ ghost use Rattle.builder.specs.Contract.{Composes};
 
 use crate::handed::OPERANDS;
 use commands::ceilings::SheetCeilings;
-use commands::table::entry_of;
-use commands::{Command, Refusal};
-use composing::{BuilderState, Composed, declined};
+use commands::{Command, Fault, Refusal};
+use composing::BuilderState;
 
 pub mod exports;
 pub mod handed;
 pub mod packed;
 
-// One more command: its bytes behind the filled part of the buffer, or a refusal that changes nothing. A BLOCK's values lie beside it.
+// One more command: its bytes behind the filled part of the buffer, and the state for the next call; or a refusal that changes nothing.
+// A BLOCK's values lie beside it.
 pub fn compose(
     state: BuilderState,
     buffer: &mut [u8],
     c: Command,
     values: [u32; SheetCeilings::BLOCK_VALUES],
-) -> Composed
+) -> Result<BuilderState, Fault>
     ensures { Composes (view_state state) buffer.old (view_command values c) result buffer.new }
 {
     composing::compose(state, &mut *buffer, c, values)
@@ -37,16 +37,14 @@ pub fn compose_handed(
     buffer: &mut [u8],
     b: u8,
     operands: &[u32; OPERANDS],
-) -> Composed
+) -> Result<BuilderState, Fault>
     ensures { ComposesHanded (view_state state) buffer.old (builder.handed b operands.now) result buffer.new }
 {
-    if let Some(_) = entry_of(b) {
-        let c = handed::command(b, operands);
-        let values = handed::values(operands);
-        return composing::compose(state, &mut *buffer, c, values);
+    if let Some(c) = handed::command(b, operands) {
+        return composing::compose(state, &mut *buffer, c, handed::values(operands));
     }
     if state.ended {
-        return declined(state, Refusal::ByteAfterEnd);
+        return Err(state.refused(Refusal::ByteAfterEnd));
     }
-    declined(state, Refusal::NoCommand)
+    Err(state.refused(Refusal::NoCommand))
 }

@@ -1,21 +1,23 @@
--- What a call answers and leaves, each by an equation with the model's answer.
-use Rattle.std.specs.Prelude.{ℕ, ◌≡◌, List}
+-- What a call answers and leaves, by an equation with the model's answer.
+use Rattle.std.specs.Prelude.{◌≡◌, List, ℕ, Result, Ok, Err}
 use Rattle.model.specs.Refusal as R
 use Rattle.model.specs.Command.{Command}
 use Rattle.model.specs.Builder as M
+use Rattle.commands.specs.View.{view_refusal}
+use Rattle.commands.specs.declared.Fault.{Fault}
+use Rattle.commands.specs.declared.Refusal.{Refusal}
 use Rattle.composing.specs.View.{view_state}
-use Rattle.composing.specs.declared.Composed.{Composed}
+use Rattle.composing.specs.declared.BuilderState.{BuilderState}
 
--- the answer and the buffer after the call
-pub record Answers (a : M.Composed) (r : Composed) (after : List ℕ) : Type 0 where
-  pub number : r.number ≡ a.number
-  pub place : r.place ≡ a.place
-  pub state : view_state r.state ≡ a.state
-  pub buffer : after ≡ a.buffer
+-- a refusal lies at the filled length
+abbrev pub refused_at : BuilderState → Refusal → Fault
+refused_at s f = record { refusal = f; place = s.filled }
 
-abbrev pub Composes : M.BuilderState → List ℕ → Command → Composed → List ℕ → Type 0
-Composes s before c r after = Answers (M.compose s before c) r after
+-- The model's answer that a call's outcome at a state stands for, with the buffer after it: the place of a command that is taken is
+-- the length that is then filled, and a refusal leaves the state.
+abbrev pub answered : M.BuilderState → Result BuilderState Fault → List ℕ → M.Composed
+answered s (Ok next) after = record { number = 0; place = next.filled; state = view_state next; buffer = after }
+answered s (Err f) after = record { number = R.number (view_refusal f.refusal); place = f.place; state = s; buffer = after }
 
--- a refusal, whatever the buffer
-abbrev pub Declined : R.Refusal → M.BuilderState → Composed → Type 0
-Declined f s r = (b : List ℕ) → Answers (M.declined f s b) r b
+abbrev pub Composes : M.BuilderState → List ℕ → Command → Result BuilderState Fault → List ℕ → Type 0
+Composes s before c r after = answered s r after ≡ M.compose s before c

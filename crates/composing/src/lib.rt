@@ -2,14 +2,13 @@
 
 // The sheet builder: a command is judged as the reader judges it, and its bytes are written behind the filled part of a lent buffer.
 ghost use Rattle.std.specs.Prelude.{◌≡◌, ◌+◌, ltb};
-ghost use Rattle.commands.specs.View.{view_refusal, view_command};
+ghost use Rattle.commands.specs.View.{view_command};
 ghost use Rattle.model.specs.Builder as builder;
 ghost use Rattle.composing.specs.View.{view_state};
-ghost use Rattle.composing.specs.Composes.{Composes, Declined};
+ghost use Rattle.composing.specs.Composes.{Composes, refused_at};
 
 use commands::ceilings::SheetCeilings;
-use commands::{Command, Refusal};
-use rules::Flaw;
+use commands::{Command, Fault, Refusal};
 use rules::known::Known;
 use sheet::check::is_end;
 use sheet::learned;
@@ -22,14 +21,6 @@ pub struct BuilderState {
     pub ended: bool,
 }
 
-// 0 and the length then filled, or the number and place of a refusal; the state for the next call.
-#[derive(Clone, Copy)]
-pub struct Composed {
-    pub number: u8,
-    pub place: usize,
-    pub state: BuilderState,
-}
-
 impl BuilderState {
     pub fn nothing_filled() -> BuilderState
         ensures { view_state result ≡ builder.nothing_filled }
@@ -40,17 +31,15 @@ impl BuilderState {
             ended: false,
         }
     }
-}
 
-// A refusal lies at the filled length, and the state stays.
-pub fn declined(state: BuilderState, refusal: Refusal) -> Composed
-    ensures { Declined (view_refusal refusal) (view_state state) result }
-{
-    let place = state.filled;
-    Composed {
-        number: u8::from(refusal),
-        place,
-        state,
+    // A refusal lies at the filled length.
+    pub fn refused(self, refusal: Refusal) -> Fault
+        ensures { result ≡ refused_at self refusal }
+    {
+        Fault {
+            refusal,
+            place: self.filled,
+        }
     }
 }
 
@@ -58,43 +47,32 @@ pub fn declined(state: BuilderState, refusal: Refusal) -> Composed
 fn is_full(length: usize, filled: usize, size: usize) -> bool
     ensures { result ≡ ltb length (filled + size) }
 {
-    if length < filled {
-        return true;
-    }
-    length - filled < size
+    length < filled || length - filled < size
 }
 
-// One more command.
+// One more command: the state for the next call, or a refusal, after which state and buffer stay.
 pub fn compose(
     state: BuilderState,
     buffer: &mut [u8],
     c: Command,
     values: [u32; SheetCeilings::BLOCK_VALUES],
-) -> Composed
+) -> Result<BuilderState, Fault>
     ensures { Composes (view_state state) buffer.old (view_command values c) result buffer.new }
 {
     if state.ended {
-        return declined(state, Refusal::ByteAfterEnd);
+        return Err(state.refused(Refusal::ByteAfterEnd));
     }
-    let known = state.known;
-    let filled = state.filled;
-    let f = rules::fault(known, c);
-    if let Flaw::Some(refusal) = f {
-        return declined(state, refusal);
+    if let Some(refusal) = state.known.fault(c) {
+        return Err(state.refused(refusal));
     }
     let size = encoder::size(c, values);
-    if is_full(buffer.len(), filled, size) {
-        return declined(state, Refusal::BufferFull);
+    if is_full(buffer.len(), state.filled, size) {
+        return Err(state.refused(Refusal::BufferFull));
     }
-    encoder::write(&mut *buffer, filled, c, values);
-    let next = filled + size;
-    Composed {
-        number: 0,
-        place: next,
-        state: BuilderState {
-            known: learned::after(known, c),
-            filled: next,
-            ended: is_end(c),
-        },
-    }
+    encoder::write(&mut *buffer, state.filled, c, values);
+    Ok(BuilderState {
+        known: learned::after(state.known, c),
+        filled: state.filled + size,
+        ended: is_end(c),
+    })
 }

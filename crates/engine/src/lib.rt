@@ -10,7 +10,6 @@ use commands::ceilings::RunCeilings;
 use commands::{Fault, Refusal};
 use machine::run::Paused;
 use report::Totals;
-use sheet::check::Verdict;
 use start::Counts;
 
 pub mod exports;
@@ -35,13 +34,12 @@ fn refused(f: Fault) -> Answer
 pub fn check(sheet: &[u8]) -> Answer
     ensures { Checks sheet.now result }
 {
-    let v = sheet_check::check(sheet);
-    match v {
-        Verdict::Accepted => Answer {
+    match sheet_check::check(sheet) {
+        Ok(()) => Answer {
             number: 0,
             place: 0,
         },
-        Verdict::TurnedDown(f) => refused(f),
+        Err(f) => refused(f),
     }
 }
 
@@ -84,8 +82,7 @@ fn run_accepted(sheet: &[u8], limit: u32, buffer: &mut [u8]) -> usize
 pub fn run(sheet: &[u8], limit: u64, buffer: &mut [u8]) -> Answer
     ensures { Runs sheet.now limit buffer.old buffer.new result }
 {
-    let v = sheet_check::first_fault(sheet);
-    if let Verdict::TurnedDown(f) = v {
+    if let Err(f) = sheet_check::first_fault(sheet) {
         return refused(f);
     }
     let too_high = RunCeilings::LIMIT < limit;

@@ -5,7 +5,6 @@
 // answered, from no byte on.
 ghost use Rattle.std.specs.Prelude.{◌≤◌, ◌<◌, IfOk, length};
 
-use sheet::check::Verdict;
 use std::io::{self, Read, Write};
 
 fn digit(c: u8) -> u8
@@ -51,8 +50,8 @@ fn parse(line: &[u8], start: usize, bytes: &mut [u8]) -> usize
 // Number and place of a sheet's answer, in a line.
 fn answer(rt: &HostRuntime, sheet: &[u8]) -> io::Result<()> {
     match sheet_check::check(sheet) {
-        Verdict::Accepted => println!(rt; "0 0"),
-        Verdict::TurnedDown(f) => {
+        Ok(()) => println!(rt; "0 0"),
+        Err(f) => {
             let number = u8::from(f.refusal);
             let place = f.place;
             println!(rt; "{number} {place}")

@@ -6,9 +6,9 @@ use mathlib.Core.Path.{sym}
 use native.Mathlib.Omega.{arith}
 use Rattle.engine.proofs.run.Goals as goal
 
-pub returns-in-TurnedDown : goal.returns-in-TurnedDown
-returns-in-TurnedDown c =
-    rw c.refused.ensures (run-refused _ _ _ c.in-TurnedDown.f c.in-TurnedDown.ensures)
+pub returns-in-Err : goal.returns-in-Err
+returns-in-Err c =
+    rw c.refused.ensures (run-refused _ _ _ c.in-Err.f c.in-Err.ensures)
 
 pub returns-then-too_high : goal.returns-then-too_high
 returns-then-too_high c =
