@@ -4,7 +4,7 @@ ghost use Rattle.model.specs.Command.{command_at};
 ghost use Rattle.arrivals.specs.Releases.{no_release, pending_by, pending_at, coming_by, stops_by, until_of, idled_by};
 
 use commands::ceilings::SheetCeilings;
-use commands::{Command, Decoded};
+use commands::Command;
 
 // The next release, decoded once: whether there is one, its tick and task, and the place after it.
 #[derive(Clone, Copy)]
@@ -54,10 +54,9 @@ fn pending_by(command: Command, next: usize) -> Pending
 pub fn pending_at(sheet: &[u8], place: usize) -> Pending
     ensures { result ≡ pending_at (command_at sheet.now place) }
 {
-    let decoded = commands::decode(sheet, place);
-    match decoded {
-        Decoded::Got(command, next) => pending_by(command, next),
-        Decoded::Refused(_) => no_release(),
+    match commands::decode(sheet, place) {
+        Ok((command, next)) => pending_by(command, next),
+        Err(_) => no_release(),
     }
 }
 

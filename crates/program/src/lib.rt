@@ -7,7 +7,7 @@ ghost use Rattle.model.specs.Sheet.{verdict, accepted};
 ghost use Rattle.program.specs.Program.{Programmed};
 
 use commands::ceilings::SheetCeilings;
-use commands::{BodyCommand, Command, Decoded, Inside};
+use commands::{BodyCommand, Command, Inside};
 
 // The ceiling of body commands in all.
 pub const MAX_COMMANDS: usize = SheetCeilings::COMMANDS as usize;
@@ -43,7 +43,7 @@ pub fn program(sheet: &[u8], bounds: &mut [usize; 9]) -> [BodyCommand; MAX_COMMA
     loop {
         let decoded = commands::decode(sheet, at);
         // Each command of an accepted sheet is found: the else is never taken.
-        let Decoded::Got(command, next) = decoded else {
+        let Ok((command, next)) = decoded else {
             return program;
         };
         at = next;

@@ -7,7 +7,7 @@ ghost use Rattle.model.specs.Command.{no_block};
 ghost use Rattle.sheet.specs.Indexed.{Indexed, Room, counted, place_or, empty_index, IsWord, IsBlock};
 
 use commands::ceilings::SheetCeilings;
-use commands::{Command, Decoded};
+use commands::Command;
 
 #[derive(Clone, Copy)]
 pub struct Sheet {
@@ -92,8 +92,7 @@ pub fn index(sheet: &[u8]) -> Sheet
     let mut x = Sheet::empty();
     let mut at = 0;
     while at < sheet.len() {
-        let d = commands::decode(sheet, at);
-        let Decoded::Got(c, next) = d else {
+        let Ok((c, next)) = commands::decode(sheet, at) else {
             return x;
         };
         x = count(x, c, at, next);
@@ -107,7 +106,7 @@ pub fn word(sheet: &[u8], i: usize) -> u32
     requires { IsWord sheet.now i }
     ensures { result ≡ get_or (sheet_of sheet.now).words i 0 }
 {
-    commands::value4(sheet, WORD_BYTES * i + 1)
+    commands::value::<4>(sheet, WORD_BYTES * i + 1)
 }
 
 // The version of a block, and its eight values; `words` is the number of words before the blocks.
@@ -115,7 +114,7 @@ pub fn version(sheet: &[u8], words: usize, i: usize) -> u32
     requires { IsBlock sheet.now words i }
     ensures { result ≡ (get_or (sheet_of sheet.now).blocks i no_block).version }
 {
-    commands::value4(sheet, WORD_BYTES * words + BLOCK_BYTES * i + 1)
+    commands::value::<4>(sheet, WORD_BYTES * words + BLOCK_BYTES * i + 1)
 }
 
 pub fn block_values(sheet: &[u8], words: usize, i: usize) -> [u32; SheetCeilings::BLOCK_VALUES]

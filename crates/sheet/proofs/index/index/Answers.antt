@@ -5,7 +5,6 @@ use Rattle.sheet.proofs.Indexing.{begin, finished, here, is_found, not-refused}
 use Rattle.sheet.proofs.Reading.{next-after}
 use Rattle.sheet.proofs.Values.{counted-values, room-values}
 use Rattle.commands.specs.Stages.{values_from}
-use Rattle.commands.specs.declared.Decoded.TheVariants.{Refused}
 use mathlib.Core.Path.{◌≡◌, sym}
 use native.Mathlib.Omega.{arith}
 use Rattle.sheet.proofs.index.index.Goals as goal
@@ -15,24 +14,23 @@ loop-at-init c = begin _ _ c.empty-x.ensures c.requires
 
 pub returns-in_default : goal.returns-in_default
 returns-in_default c =
-    let e : c.decode-d.result ≡ Refused c.in_default.field-0 = c.in_default.is in
     not-refused (here c.loop-at.invariant c.loop-at-test.true)
-    (sym (rw e at c.decode-d.ensures))
+    (sym c.in_default.ensures)
 
 pub count-x-requires : goal.count-x-requires
 count-x-requires c =
     let vs = values_from c.args.sheet.now
     (suc c.loop-at.at) in
-    room-values vs c.loop-at.x c.in-Got.c
+    room-values vs c.loop-at.x c.in-Ok.c
     (is_found (here c.loop-at.invariant c.loop-at-test.true)
-    (sym c.in-Got.ensures)).0
+    (sym c.in-Ok.ensures)).0
 
 pub loop-at-smaller : goal.loop-at-smaller
 loop-at-smaller c =
     let e : command_at c.args.sheet.now
     c.loop-at.at
-    ≡ found _ c.in-Got.next = sym
-    c.in-Got.ensures in
+    ≡ found _ c.in-Ok.next = sym
+    c.in-Ok.ensures in
     omega (arith, (next-after _ _ e).0, (next-after _ _ e).1)
 
 pub loop-at-preserved : goal.loop-at-preserved
@@ -41,11 +39,11 @@ loop-at-preserved c =
     (suc c.loop-at.at) in
     rw (
       c.count-x.ensures,
-      ← counted-values vs c.loop-at.x c.in-Got.c
-          c.loop-at.at c.in-Got.next,
+      ← counted-values vs c.loop-at.x c.in-Ok.c
+          c.loop-at.at c.in-Ok.next,
     )
     (is_found (here c.loop-at.invariant c.loop-at-test.true)
-    (sym c.in-Got.ensures)).1
+    (sym c.in-Ok.ensures)).1
 
 pub returns : goal.returns
 returns c = finished c.loop-at.invariant c.loop-at-test.false
