@@ -8,6 +8,7 @@ use native.Mathlib.Omega.{arith}
 use borrow.Author.Tests.{le-leb, lt-leb}
 use lib.Dec.{leb}
 use lib.ListN.{length, get_or}
+use Rattle.std.specs.Prelude.{Ok, Err}
 use Rattle.model.specs.Refusal as R
 use Rattle.model.specs.Sheet.{Verdict, accepted, turned_down, verdict}
 use Rattle.model.specs.Answer as M
@@ -26,7 +27,7 @@ use Rattle.commands.specs.declared.Fault.{Fault}
 use Rattle.sheet.specs.declared.check.Verdict.TheVariants.{Accepted, TurnedDown}
 use Rattle.report.specs.Text.{Reported}
 use Rattle.report.proofs.Model.{answer-written, answer_too_short}
-use Rattle.engine.specs.Contract.{ChecksFor, Checks, RunsFor, answer, answer_of}
+use Rattle.engine.specs.Contract.{ChecksFor, Checks, RunsFor, Runs}
 use Rattle.engine.specs.Flat.{Ran}
 use Rattle.engine.proofs.Final.{same_text}
 
@@ -54,10 +55,10 @@ module _ {s : List ℕ} (small : (i : ℕ) → get_or s i 0 < 256) where
       let number = f ∙ ap (λ (c : Checked). c.number) e in
       record { number = number; place = g ∙ ap (λ (c : Checked). c.place) e; well_formed = formed s small number }
 
-  pub checks-accepted : checked_of Accepted ≡ check_answer s → Checks s (answer 0 0)
+  pub checks-accepted : checked_of Accepted ≡ check_answer s → Checks s (Ok tt)
   checks-accepted e = checks e refl refl
 
-  pub checks-refused : (f : Fault) → checked_of (TurnedDown f) ≡ check_answer s → Checks s (answer_of f)
+  pub checks-refused : (f : Fault) → checked_of (TurnedDown f) ≡ check_answer s → Checks s (Err f)
   checks-refused f e = checks e refl refl
 
 -- THE RUN
@@ -97,7 +98,7 @@ module _ (s : List ℕ) (limit : ℕ) (b : List ℕ) where
         lost = lost_attempts s limit;
       }
 
-  pub run-refused : (f : Fault) → view_verdict (TurnedDown f) ≡ verdict s → RunsFor s limit b b (answer_of f).number (answer_of f).place
+  pub run-refused : (f : Fault) → view_verdict (TurnedDown f) ≡ verdict s → Runs s limit b b (Err f)
   run-refused f e = answers (refused-answer (view_refusal f.refusal) f.place (sym e))
 
   pub run-too-high : view_verdict Accepted ≡ verdict s → 65535 < limit → RunsFor s limit b b 9 0

@@ -1,7 +1,5 @@
 -- `check` meets its contract.
-use Prim.Native.Nat.{ℕ, ◌<◌}
-use native.Mathlib.Omega.{arith}
-use lib.ListN.{get_or}
+use Rattle.std.proofs.Common.{ℕ, ◌<◌, get_or, arith}
 use Rattle.engine.proofs.Answers.{checks-accepted, checks-refused}
 use Rattle.engine.proofs.check.Goals as goal
 
@@ -13,5 +11,4 @@ returns-in-Accepted c =
 pub returns-in-TurnedDown : goal.returns-in-TurnedDown
 returns-in-TurnedDown c =
     let small : (i : ℕ) → get_or c.args.sheet.now i 0 < 256 = λ i. omega (arith, c.type_inv.sheet i) in
-    rw c.refused.ensures
-    (checks-refused small c.in-TurnedDown.f c.in-TurnedDown.ensures)
+    checks-refused small c.in-TurnedDown.fault c.in-TurnedDown.ensures

@@ -1,18 +1,13 @@
 -- `run` meets its contract.
-use Prim.Native.Nat.{ℕ, ◌<◌}
-use lib.ListN.{get_or}
+use Rattle.std.proofs.Common.{ℕ, ◌<◌, get_or, sym, arith}
 use Rattle.engine.proofs.Answers.{run-refused, run-too-high, run-too-short, run-written}
-use mathlib.Core.Path.{sym}
-use native.Mathlib.Omega.{arith}
 use Rattle.engine.proofs.run.Goals as goal
 
 pub returns-in-TurnedDown : goal.returns-in-TurnedDown
-returns-in-TurnedDown c =
-    rw c.refused.ensures (run-refused _ _ _ c.in-TurnedDown.f c.in-TurnedDown.ensures)
+returns-in-TurnedDown c = run-refused _ _ _ c.in-TurnedDown.fault c.in-TurnedDown.ensures
 
 pub returns-then-too_high : goal.returns-then-too_high
-returns-then-too_high c =
-    rw c.refused-then-too_high.ensures (run-too-high _ _ _ c.in_default.ensures c.if-too_high.true)
+returns-then-too_high c = run-too-high _ _ _ c.in_default.ensures c.if-too_high.true
 
 pub run_accepted-needed-requires : goal.run_accepted-needed-requires
 run_accepted-needed-requires c = sym c.in_default.ensures
@@ -20,12 +15,9 @@ run_accepted-needed-requires c = sym c.in_default.ensures
 pub returns-then-room-needed : goal.returns-then-room-needed
 returns-then-room-needed c =
     let small : (i : ℕ) → get_or c.args.sheet.now i 0 < 256 = λ i. omega (arith, c.type_inv.sheet i) in
-    let accepted = c.in_default.ensures in
-    rw c.refused-then-room-needed.ensures
-    (run-too-short _ _ _ small accepted c.if-too_high.false c.run_accepted-needed.ensures c.if-room-needed.true)
+    run-too-short _ _ _ small c.in_default.ensures c.if-too_high.false c.run_accepted-needed.ensures c.if-room-needed.true
 
 pub returns : goal.returns
 returns c =
     let small : (i : ℕ) → get_or c.args.sheet.now i 0 < 256 = λ i. omega (arith, c.type_inv.sheet i) in
-    let accepted = c.in_default.ensures in
-    run-written _ _ _ small accepted c.if-too_high.false c.run_accepted-needed.ensures c.if-room-needed.false
+    run-written _ _ _ small c.in_default.ensures c.if-too_high.false c.run_accepted-needed.ensures c.if-room-needed.false
