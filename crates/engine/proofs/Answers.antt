@@ -22,9 +22,8 @@ use Rattle.model.proofs.Waiting.{waits}
 use Rattle.model.proofs.Drops.Theorem.{drops}
 use Rattle.model.proofs.LostAttempts.Theorem.{lost_attempts}
 use Rattle.commands.specs.View.{view_refusal}
-use Rattle.sheet.specs.View.{view_verdict, checked_of}
+use Rattle.sheet.specs.View.{Outcome, view_verdict, checked_of}
 use Rattle.commands.specs.declared.Fault.{Fault}
-use Rattle.sheet.specs.declared.check.Verdict.TheVariants.{Accepted, TurnedDown}
 use Rattle.report.specs.Text.{Reported}
 use Rattle.report.proofs.Model.{answer-written, answer_too_short}
 use Rattle.engine.specs.Contract.{ChecksFor, Checks, RunsFor, Runs}
@@ -55,11 +54,8 @@ module _ {s : List ℕ} (small : (i : ℕ) → get_or s i 0 < 256) where
       let number = f ∙ ap (λ (c : Checked). c.number) e in
       record { number = number; place = g ∙ ap (λ (c : Checked). c.place) e; well_formed = formed s small number }
 
-  pub checks-accepted : checked_of Accepted ≡ check_answer s → Checks s (Ok tt)
-  checks-accepted e = checks e refl refl
-
-  pub checks-refused : (f : Fault) → checked_of (TurnedDown f) ≡ check_answer s → Checks s (Err f)
-  checks-refused f e = checks e refl refl
+  pub returned : (r : Outcome) → checked_of r ≡ check_answer s → Checks s r
+  returned r e = checks e refl refl
 
 -- THE RUN
 module _ (s : List ℕ) (limit : ℕ) (b : List ℕ) where
@@ -98,13 +94,13 @@ module _ (s : List ℕ) (limit : ℕ) (b : List ℕ) where
         lost = lost_attempts s limit;
       }
 
-  pub run-refused : (f : Fault) → view_verdict (TurnedDown f) ≡ verdict s → Runs s limit b b (Err f)
+  pub run-refused : (f : Fault) → view_verdict (Err f) ≡ verdict s → Runs s limit b b (Err f)
   run-refused f e = answers (refused-answer (view_refusal f.refusal) f.place (sym e))
 
-  pub run-too-high : view_verdict Accepted ≡ verdict s → 65535 < limit → RunsFor s limit b b 9 0
+  pub run-too-high : view_verdict (Ok tt) ≡ verdict s → 65535 < limit → RunsFor s limit b b 9 0
   run-too-high e h = answers (high-answer (sym e) h)
 
-  module _ (small : (i : ℕ) → get_or s i 0 < 256) (e : view_verdict Accepted ≡ verdict s) (most : limit ≤ 65535) {after : List ℕ} {n : ℕ}
+  module _ (small : (i : ℕ) → get_or s i 0 < 256) (e : view_verdict (Ok tt) ≡ verdict s) (most : limit ≤ 65535) {after : List ℕ} {n : ℕ}
       (r : Ran s limit b after n) where
     reported : Reported (report_of s limit) b after n
     reported = subst (λ (text : List ℕ). Reported text b after n) (same_text small (sym e) limit most r.run) r.reported

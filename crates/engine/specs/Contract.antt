@@ -14,8 +14,9 @@ use Rattle.model.specs.Drops.{Drops}
 use Rattle.model.specs.LostAttempts.{LostAttempts}
 use Rattle.commands.specs.View.{view_refusal}
 use Rattle.commands.specs.declared.Fault.{Fault}
+use Rattle.sheet.specs.View.{Outcome, checked_of}
 
--- number and place of what an entry returns: 0 and the place where it succeeds, document 01's number of the refusal and its place where not
+-- number and place of what a run returns: 0 and the report's length, or document 01's number of the refusal and its place
 abbrev pub number_of : Result ℕ Fault → ℕ
 number_of (Ok n) = 0
 number_of (Err f) = R.number (view_refusal f.refusal)
@@ -24,11 +25,6 @@ abbrev pub place_of : Result ℕ Fault → ℕ
 place_of (Ok n) = n
 place_of (Err f) = f.place
 
--- an accepted sheet has the place 0
-abbrev pub at_start : Result (Unit {0}) Fault → Result ℕ Fault
-at_start (Ok u) = Ok 0
-at_start (Err f) = Err f
-
 -- THE SHEET CHECK
 pub record ChecksFor (sheet : List ℕ) (n p : ℕ) : Type 0 where
   pub number : n ≡ (check_answer sheet).number
@@ -36,8 +32,8 @@ pub record ChecksFor (sheet : List ℕ) (n p : ℕ) : Type 0 where
   -- accepted exactly when well formed
   pub well_formed : n ≡ 0 ↔ WellFormed sheet
 
-abbrev pub Checks : List ℕ → Result (Unit {0}) Fault → Type 0
-Checks sheet r = ChecksFor sheet (number_of (at_start r)) (place_of (at_start r))
+abbrev pub Checks : List ℕ → Outcome → Type 0
+Checks sheet r = ChecksFor sheet (checked_of r).number (checked_of r).place
 
 -- THE RUN, with the buffer before and after
 pub record RunsFor (sheet : List ℕ) (limit : ℕ) (before after : List ℕ) (n p : ℕ) : Type 0 where

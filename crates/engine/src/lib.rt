@@ -10,7 +10,6 @@ use commands::ceilings::RunCeilings;
 use commands::{Fault, Refusal};
 use machine::run::Paused;
 use report::Totals;
-use sheet::check::Verdict;
 use start::Counts;
 
 pub mod exports;
@@ -19,10 +18,7 @@ pub mod exports;
 pub fn check(sheet: &[u8]) -> Result<(), Fault>
     ensures { Checks sheet.now result }
 {
-    match sheet_check::check(sheet) {
-        Verdict::Accepted => Ok(()),
-        Verdict::TurnedDown(fault) => Err(fault),
-    }
+    sheet_check::check(sheet)
 }
 
 // The run of an accepted sheet; answers the report's length. All that a run keeps stands on the stack: 2,208 bytes that all tasks share,
@@ -64,9 +60,7 @@ fn run_accepted(sheet: &[u8], limit: u32, buffer: &mut [u8]) -> usize
 pub fn run(sheet: &[u8], limit: u64, buffer: &mut [u8]) -> Result<usize, Fault>
     ensures { Runs sheet.now limit buffer.old buffer.new result }
 {
-    if let Verdict::TurnedDown(fault) = sheet_check::first_fault(sheet) {
-        return Err(fault);
-    }
+    sheet_check::first_fault(sheet)?;
     let too_high = RunCeilings::LIMIT < limit;
     if too_high {
         return Err(Fault {

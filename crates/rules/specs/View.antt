@@ -1,6 +1,7 @@
 -- The model's values that the crate's types stand for.
-use Rattle.std.specs.Prelude.{ℕ, List, take}
-use Rattle.std.proofs.Math.Option.{Option, none, some}
+use Rattle.std.specs.Prelude.{ℕ, List, take, Option, None, Some}
+use Rattle.std.proofs.Math.Option.{none, some}
+use Rattle.std.proofs.Math.Option as M
 use Rattle.model.specs.Refusal as R
 use Rattle.model.specs.Fault as F
 use Rattle.commands.specs.View.{view_refusal, view_release}
@@ -10,8 +11,7 @@ use Rattle.rules.specs.declared.known.SheetCounts.{SheetCounts}
 use Rattle.rules.specs.declared.known.Numbers.{Numbers}
 use Rattle.rules.specs.declared.known.Task.{Task}
 use Rattle.rules.specs.declared.known.Known.{Known}
-use Rattle.rules.specs.declared.Flaw.{Flaw}
-use Rattle.rules.specs.declared.Flaw.TheVariants.{None, Some}
+use Rattle.commands.specs.declared.Refusal.{Refusal}
 
 -- WHAT IS KNOWN
 abbrev pub view_section : Section → F.Section
@@ -41,6 +41,6 @@ view_known k =
     record { section = view_section k.section; counts = view_counts k.counts; body = view_body k.body; last = view_release k.last }
 
 -- the first rule that a command breaks
-abbrev pub view_flaw : Flaw → Option R.Refusal
-view_flaw None = none
-view_flaw (Some f) = some (view_refusal f)
+abbrev pub view_fault : Option Refusal → M.Option R.Refusal
+view_fault None = none
+view_fault (Some f) = some (view_refusal f)

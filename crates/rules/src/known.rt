@@ -1,5 +1,5 @@
 // What is known before a command is read.
-ghost use Rattle.std.specs.Prelude.{◌≡◌, true, [], ◌∷◌, ◌++◌, ◌<◌, ◌≤◌, ltb, length, take};
+ghost use Rattle.std.specs.Prelude.{◌≡◌, true, [], ◌∷◌, ◌++◌, ◌<◌, ◌≤◌, ltb, length};
 ghost use Rattle.model.specs.Ceilings.{max_touched};
 ghost use Rattle.model.specs.Fault as rule;
 ghost use Rattle.rules.specs.View.{view_numbers, view_body, view_known};
@@ -108,11 +108,17 @@ impl Numbers {
         self.count < ceiling
     }
 
+    // Its numbers.
+    fn as_slice(&self) -> &[u8]
+        ensures { result.now ≡ view_numbers self.now }
+    {
+        &self.values[..self.count.min(TaskCeilings::TOUCHED)]
+    }
+
     pub fn has(self, x: u8) -> bool
         ensures { result ≡ rule.among x (view_numbers self) }
     {
-        let values = self.values;
-        contains(&values, self.count, x)
+        self.as_slice().contains(&x)
     }
 
     // One more.
@@ -121,11 +127,10 @@ impl Numbers {
         ensures { view_numbers result ≡ view_numbers self ++ (x ∷ []) }
     {
         let mut values = self.values;
-        let count = self.count;
-        values[count] = x;
+        values[self.count] = x;
         Numbers {
             values,
-            count: count + 1,
+            count: self.count + 1,
         }
     }
 
@@ -135,16 +140,6 @@ impl Numbers {
         requires { rule.room max_touched x (view_numbers self) ≡ true }
         ensures { view_numbers result ≡ rule.include x (view_numbers self) }
     {
-        if self.has(x) {
-            return self;
-        }
-        self.with(x)
+        if self.has(x) { self } else { self.with(x) }
     }
-}
-
-// Whether x is among the first `count` of the values.
-fn contains(values: &[u8], count: usize, x: u8) -> bool
-    ensures { result ≡ rule.among x (take count values.now) }
-{
-    values[..count.min(values.len())].contains(&x)
 }

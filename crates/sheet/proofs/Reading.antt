@@ -13,9 +13,8 @@ use Rattle.model.specs.Command.{Command, Row, row_of, table, total, found, refus
 use Rattle.model.specs.Fault.{Known, nothing_known, fault_of}
 use Rattle.model.specs.Sheet.{Verdict, turned_down, end?, at_end, judge_fault, judge, verdict_from, verdict, after}
 use Rattle.model.specs.Answer.{checked_by, check_answer}
-use Rattle.sheet.specs.View.{view_verdict, checked_of}
-use Rattle.sheet.specs.declared.check.Verdict as Answer
-use Rattle.sheet.specs.declared.check.Verdict.TheVariants.{Accepted, TurnedDown}
+use Rattle.std.specs.Prelude.{Ok, Err}
+use Rattle.sheet.specs.View.{Outcome, view_verdict, checked_of}
 
 -- The reading has come to a place, with what is known there: the verdict from there on, at enough commands, is that of the sheet.
 pub record Reached (s : List ℕ) (at : ℕ) (k : Known) : Type 0 where
@@ -111,14 +110,14 @@ pub next_reached :
 next_reached s at k r e good on = step s at k r.left r.enough r.same e good on
 
 -- NUMBER AND PLACE
-checked_view : (v : Answer.Verdict) → checked_of v ≡ checked_by (view_verdict v)
+checked_view : (v : Outcome) → checked_of v ≡ checked_by (view_verdict v)
 unfolding checked_by
-checked_view Accepted = refl
-checked_view (TurnedDown f) = refl
+checked_view (Ok u) = refl
+checked_view (Err f) = refl
 
 checked_bytes : (s : List ℕ) → check_answer s ≡ checked_by (verdict s)
 unfolding check_answer
 checked_bytes s = refl
 
-pub checked_is : (v : Answer.Verdict) (s : List ℕ) → view_verdict v ≡ verdict s → checked_of v ≡ check_answer s
+pub checked_is : (v : Outcome) (s : List ℕ) → view_verdict v ≡ verdict s → checked_of v ≡ check_answer s
 checked_is v s e = checked_view v ∙ ap checked_by e ∙ sym (checked_bytes s)

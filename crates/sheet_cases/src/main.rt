@@ -5,7 +5,6 @@
 // answered, from no byte on.
 ghost use Rattle.std.specs.Prelude.{◌<◌};
 
-use sheet::check::Verdict;
 use std::alloc::{AllocError, Global};
 use std::io::{self, Read, Write};
 
@@ -40,8 +39,8 @@ fn parse(alloc: Global, line: &[u8]) -> Result<Vec<u8>, AllocError> {
 // Number and place of a sheet's answer, in a line.
 fn answer(rt: &HostRuntime, sheet: &[u8]) -> io::Result<()> {
     match sheet_check::check(sheet) {
-        Verdict::Accepted => println!(rt; "0 0"),
-        Verdict::TurnedDown(fault) => println!(rt; "{fault}"),
+        Ok(()) => println!(rt; "0 0"),
+        Err(fault) => println!(rt; "{fault}"),
     }
 }
 

@@ -1,58 +1,58 @@
 -- What each outcome of the judgement at a place says of the whole sheet's verdict, over what the reader handed out there.
-use Prim.Native.Nat.{ℕ, suc, ◌<◌, ◌≤◌}
-use mathlib.Core.Path.{◌≡◌, sym, subst}
-use mathlib.Core.Option.{none}
+use Prim.Native.Nat.{ℕ, suc, ◌-◌, ◌<◌}
+use mathlib.Core.Path.{◌≡◌, sym, ap, subst, ◌∙◌}
 use mathlib.Core.List.{List, []}
+use native.Mathlib.Omega.{arith}
 use lib.ListN.{length}
-use Rattle.std.specs.Prelude.{Result, Ok, Err}
-use Rattle.model.specs.Fault.{Known, fault_of}
+use Rattle.std.specs.Prelude.{Ok, Err, Some, None}
+use Rattle.model.specs.Fault.{Known, nothing_known}
 use Rattle.model.specs.Sheet.{verdict}
 use Rattle.model.specs.Sheet as whole
-use Rattle.commands.specs.View.{view_command, view_decoded}
-use Rattle.sheet.specs.View.{view_verdict}
+use Rattle.commands.specs.View.{view_command}
 use Rattle.commands.specs.Stages.{values_from}
-use Rattle.sheet.specs.Judgement.{JudgedSays}
-use Rattle.commands.specs.declared.Fault as F
+use Rattle.commands.specs.declared.Fault.{Fault}
 use Rattle.commands.specs.declared.Command.{Command}
-use Rattle.sheet.specs.declared.check.Judged.{Judged}
-use Rattle.sheet.specs.declared.check.Judged.TheVariants.{Stops, Goes}
-use Rattle.sheet.specs.declared.check.Verdict.{Verdict}
-use Rattle.sheet.specs.declared.check.Verdict.TheVariants.{TurnedDown}
+use Rattle.sheet.specs.View.{Outcome, view_verdict}
+use Rattle.sheet.specs.Judgement.{JudgedSays}
 use Rattle.sheet.proofs.Reading as sheet
 use Rattle.sheet.proofs.Reading.{is-refused, next-after}
 use Rattle.sheet.proofs.Values.{stopped, went_on}
-use Rattle.reader.specs.Handed.{HandsOut, after}
+use Rattle.reader.specs.Handed.{HandsOut, after, moved}
+use Rattle.reader.specs.declared.Reader.{Reader}
 use Rattle.sheet_check.specs.Read.{Reached}
 
 -- the same, as the sheet's own theorems have it
 abbrev come : {s : List ℕ} {at : ℕ} {k : Known} → Reached s at k → sheet.Reached s at k
 come r = record { left = r.left; enough = r.enough; same = r.same }
 
-abbrev pub gone : {s : List ℕ} {at : ℕ} {k : Known} → sheet.Reached s at k → Reached s at k
+abbrev gone : {s : List ℕ} {at : ℕ} {k : Known} → sheet.Reached s at k → Reached s at k
 gone r = record { left = r.left; enough = r.enough; same = r.same }
 
-module _ (s : List ℕ) (at : ℕ) (k : Known) (r : Reached s at k) (d : Result (Command × ℕ) F.Fault) (e : HandsOut s at d) where
-  pub at_fault : (f : F.Fault) → d ≡ Err f → view_verdict (TurnedDown f) ≡ verdict s
-  at_fault f is = is-refused s at k (come r) (sym (subst (HandsOut s at) is e))
+pub begins : (s : List ℕ) (k : Known) → k ≡ nothing_known → Reached s 0 k
+begins s k e = gone (sheet.start s k e)
 
-  module _ (c : Command) (next : ℕ) (is : d ≡ Ok (c, next)) (j : Judged) (says : JudgedSays s at k (view_command [] c) next j) where
-    found : HandsOut s at (Ok (c, next))
-    found = subst (HandsOut s at) is e
+-- at what a reader over the sheet has handed out at its offset
+module _ (s : List ℕ) (r : Reader) (k : Known) (over : r.sheet.now ≡ s) (reached : Reached s r.at k) where
+  pub at_fault : (f : Fault) → HandsOut r.sheet.now r.at (Err f) → view_verdict (Err f) ≡ verdict s
+  at_fault f e = is-refused s r.at k (come reached) (sym (rw over at e))
 
-    pub at-stop : (v : Verdict) → j ≡ Stops v → view_verdict v ≡ verdict s
-    at-stop v stops = stopped s at k (come r) (values_from s (suc at)) c (sym found) (subst (JudgedSays s at k (view_command [] c) next) stops says)
+  module _ (c : Command) (next : ℕ) (e : HandsOut r.sheet.now r.at (Ok (c, next))) where
+    there : HandsOut s r.at (Ok (c, next))
+    there = subst (λ (x : List ℕ). HandsOut x r.at (Ok (c, next))) over e
 
-    pub no_fault : j ≡ Goes → fault_of k (view_command [] c) ≡ none
-    no_fault goes = (subst (JudgedSays s at k (view_command [] c) next) goes says).0
+    pub at-stop : (v : Outcome) → JudgedSays s r.at k (view_command [] c) next (Some v) → view_verdict v ≡ verdict s
+    at-stop v says = stopped s r.at k (come reached) (values_from s (suc r.at)) c (sym there) says
 
-    at-command : (q : Known) → j ≡ Goes → q ≡ whole.after k (view_command [] c) → Reached s next q × ((at < next) × (next ≤ length s))
-    at-command q goes known = (
-      gone (went_on s at k (come r) (values_from s (suc at)) c (sym found) (subst (JudgedSays s at k (view_command [] c) next) goes says) known),
-      next-after s at (sym found),
-    )
+    -- a good command leads to the next place
+    module _ (q : Reader) (moves : q ≡ moved r) where
+      pub over_sheet : q.sheet.now ≡ s
+      over_sheet = ap (λ (x : Reader). x.sheet.now) moves ∙ over
 
-    pub at_next : (q : Known) → j ≡ Goes → q ≡ whole.after k (view_command [] c)
-        → Reached s (after at (view_decoded [] d)) q × ((at < after at (view_decoded [] d)) × (after at (view_decoded [] d) ≤ length s))
-    at_next q goes known =
-        subst (λ x. Reached s (after at (view_decoded [] x)) q × ((at < after at (view_decoded [] x)) × (after at (view_decoded [] x) ≤ length s)))
-        (sym is) (at-command q goes known)
+      at-next : q.at ≡ next
+      at-next = ap (λ (x : Reader). x.at) moves ∙ ap (after r.at) (sym e)
+
+      pub at-command : (l : Known) → JudgedSays s r.at k (view_command [] c) next None → l ≡ whole.after k (view_command [] c) → Reached s q.at l
+      at-command l says known = rw at-next (gone (went_on s r.at k (come reached) (values_from s (suc r.at)) c (sym there) says known))
+
+      pub less-left : length s - q.at < length s - r.at
+      less-left = let h = next-after s r.at (sym there) in omega (arith, at-next, h.0, h.1)

@@ -3,9 +3,6 @@ use Rattle.std.proofs.Common.{ℕ, ◌<◌, get_or, sym, arith}
 use Rattle.engine.proofs.Answers.{run-refused, run-too-high, run-too-short, run-written}
 use Rattle.engine.proofs.run.Goals as goal
 
-pub returns-in-TurnedDown : goal.returns-in-TurnedDown
-returns-in-TurnedDown c = run-refused _ _ _ c.in-TurnedDown.fault c.in-TurnedDown.ensures
-
 pub returns-then-too_high : goal.returns-then-too_high
 returns-then-too_high c = run-too-high _ _ _ c.in_default.ensures c.if-too_high.true
 

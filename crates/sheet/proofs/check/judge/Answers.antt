@@ -13,5 +13,5 @@ returns-then-is_end c = λ go.
     (sym c.is_end.ensures ∙ c.if-is_end.true)
     ∙ sym c.at_end.ensures
 
-pub returns : goal.returns
-returns c = (sym c.in_default.ensures, sym c.is_end.ensures ∙ c.if-is_end.false)
+pub returns-else-is_end : goal.returns-else-is_end
+returns-else-is_end c = (sym c.in_default.ensures, sym c.is_end.ensures ∙ c.if-is_end.false)
