@@ -1,4 +1,4 @@
--- The two arrays as the model sees them: the current value of a cell, a block store, a task's record.
+-- The records as the model sees them: the current value of a cell, a block store, a task's record.
 use Prim.Native.Nat.{ℕ, ◌+◌, ◌-◌, ◌*◌, ◌≤◌, ◌<◌}
 use mathlib.Core.Path.{◌≡◌, refl, sym, ap, ◌∙◌}
 use mathlib.Core.Bool.{Bool, true, false}
@@ -12,7 +12,8 @@ use Rattle.model.specs.Transaction.{bank, version_of, store_of}
 use Rattle.model.specs.Report.{line, word_line, block_line}
 use Rattle.state.specs.Packed.{unpack, value_of}
 use Rattle.state.specs.Rows.{row, rows}
-use Rattle.state.specs.State.{Shared, Own, own}
+use Rattle.state.specs.State.{Shared, Own, own, no_task}
+use Rattle.state.specs.declared.task.Task.{Task}
 use Rattle.state.specs.Held.{memory_of}
 use Rattle.state.specs.Sized.{SharedSized}
 use Rattle.state.proofs.Rows.{at_rows}
@@ -54,8 +55,9 @@ store_values stores s k h e f =
     rw (n, e, f, add-zero, at_rows 8 48 s stores h)
 
 -- the T line and the R line with the counts and registers found
-pub task_text : (ts : List (List ℕ)) (p : ℕ) {t : List ℕ} → t ≡ get_or ts p [] → lines_of_task p (own t) ≡ task_lines_of (map own ts) p
-task_text ts p e = ap (λ (t : List ℕ). lines_of_task p (own t)) e ∙ ap (lines_of_task p) (sym (get_or-map own ts p []))
+pub task_text : (ts : List Task) (p : ℕ) {t : Task} → t ≡ get_or ts p no_task → lines_of_task p (own t) ≡ task_lines_of (map own ts) p
+unfolding own
+task_text ts p e = ap (λ (t : Task). lines_of_task p (own t)) e ∙ ap (lines_of_task p) (sym (get_or-map own ts p no_task))
 
 pub task_lines : {m : ℕ} (p : ℕ) (t : Own) {counts registers : List ℕ} {u v w : Writer} → counts ≡ t.counts → registers ≡ t.registers → length registers ≡ 8
     → Wrote m (line 0x54 (p ∷ take shown counts)) u v → Wrote (11 * (1 + length registers) + 2) (line 0x52 (p ∷ registers)) v w

@@ -6,7 +6,7 @@ use Rattle.model.specs.Job.{count_list}
 use Rattle.model.specs.Machine.{Machine, task_at}
 use Rattle.model.specs.Report.{line, lines, word_line, block_line}
 use Rattle.model.specs.Answer.{written}
-use Rattle.state.specs.State.{Shared, Own, own}
+use Rattle.state.specs.State.{Shared, Own, no_own}
 use Rattle.state.specs.Held.{memory_of}
 use Rattle.report.specs.declared.Totals.{Totals}
 
@@ -19,7 +19,7 @@ abbrev pub lines_of_task : ℕ → Own → List ℕ
 lines_of_task p t = line 0x54 (p ∷ take shown t.counts) ++ line 0x52 (p ∷ t.registers)
 
 abbrev pub task_lines_of : List Own → ℕ → List ℕ
-task_lines_of ts p = lines_of_task p (get_or ts p (own []))
+task_lines_of ts p = lines_of_task p (get_or ts p no_own)
 
 -- its length at most: a T line of six numbers and an R line of nine, each number with its space 11 bytes at most
 abbrev pub task_most : ℕ
@@ -48,8 +48,8 @@ pub record Holds (s : Sheet) (f : Machine) (m : Shared) (ts : List Own) (t : Tot
   pub blocks : t.blocks ≡ length s.blocks
   pub tasks : t.tasks ≡ length s.bodies
   pub memory : f.memory ≡ memory_of m
-  pub registers : (p : ℕ) → p < length s.bodies → (task_at f.tasks p).job.registers ≡ (get_or ts p (own [])).registers
-  pub counts : (p : ℕ) → p < length s.bodies → count_list (task_at f.tasks p).counts ≡ take shown (get_or ts p (own [])).counts
+  pub registers : (p : ℕ) → p < length s.bodies → (task_at f.tasks p).job.registers ≡ (get_or ts p no_own).registers
+  pub counts : (p : ℕ) → p < length s.bodies → count_list (task_at f.tasks p).counts ≡ take shown (get_or ts p no_own).counts
   pub now : f.now ≡ t.now
 
 -- what the sheet check lets through

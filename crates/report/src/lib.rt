@@ -15,7 +15,7 @@ ghost use Rattle.report.specs.Text.{lines_of_task, task_most, report_text, repor
 
 use commands::ceilings::{SheetCeilings, TaskCeilings};
 use exchanges::{places, read};
-use state::{Memory, Task, shared, task};
+use state::{Memory, Task};
 use text::Writer;
 
 // The most words, blocks and tasks that a report tells of.
@@ -47,8 +47,8 @@ fn contents(memory: &Memory, cell: usize) -> u32
     requires { cell < 48 }
     ensures { result ≡ current_of (memory_of (shared memory.now)) cell }
 {
-    // The proof learns an array's length from its slice.
-    let _whole: &[u32] = memory;
+    // For the proof: a cell that there is, is in the array.
+    memory.sized();
     read::current(memory, cell)
 }
 
@@ -59,7 +59,7 @@ fn values(memory: &Memory, store: u32) -> &[u32]
 {
     if store < STORES {
         let start = places::slot(store, 0);
-        &shared::stores(memory)[start..start + VALUES]
+        &memory.stores()[start..start + VALUES]
     } else {
         &[]
     }
@@ -80,8 +80,8 @@ fn task(out: &mut Writer, task: &Task, p: usize)
     ensures { Wrote task_most (lines_of_task p (own task.now)) out.old out.new }
 {
     let number = [p as u32];
-    out.line(b'T', &number, &task::counts(task)[..SHOWN]);
-    out.line(b'R', &number, task::registers(task));
+    out.line(b'T', &number, &task.counts()[..SHOWN]);
+    out.line(b'R', &number, task.registers());
 }
 
 // The whole report, as far as the buffer goes; returns its length.
