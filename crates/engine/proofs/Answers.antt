@@ -8,6 +8,7 @@ use native.Mathlib.Omega.{arith}
 use borrow.Author.Tests.{le-leb, lt-leb}
 use lib.Dec.{leb}
 use lib.ListN.{length, get_or}
+use Rattle.std.specs.Prelude.{Ok, Err}
 use Rattle.model.specs.Refusal as R
 use Rattle.model.specs.Sheet.{Verdict, accepted, turned_down, verdict}
 use Rattle.model.specs.Answer as M
@@ -21,12 +22,11 @@ use Rattle.model.proofs.Waiting.{waits}
 use Rattle.model.proofs.Drops.Theorem.{drops}
 use Rattle.model.proofs.LostAttempts.Theorem.{lost_attempts}
 use Rattle.commands.specs.View.{view_refusal}
-use Rattle.std.specs.Prelude.{Ok, Err}
-use Rattle.sheet.specs.View.{view_verdict, checked_of}
+use Rattle.sheet.specs.View.{Outcome, view_verdict, checked_of}
 use Rattle.commands.specs.declared.Fault.{Fault}
 use Rattle.report.specs.Text.{Reported}
 use Rattle.report.proofs.Model.{answer-written, answer_too_short}
-use Rattle.engine.specs.Contract.{ChecksFor, Checks, RunsFor, answer, answer_of}
+use Rattle.engine.specs.Contract.{ChecksFor, Checks, RunsFor, Runs}
 use Rattle.engine.specs.Flat.{Ran}
 use Rattle.engine.proofs.Final.{same_text}
 
@@ -54,11 +54,8 @@ module _ {s : List ℕ} (small : (i : ℕ) → get_or s i 0 < 256) where
       let number = f ∙ ap (λ (c : Checked). c.number) e in
       record { number = number; place = g ∙ ap (λ (c : Checked). c.place) e; well_formed = formed s small number }
 
-  pub checks-accepted : checked_of (Ok tt) ≡ check_answer s → Checks s (answer 0 0)
-  checks-accepted e = checks e refl refl
-
-  pub checks-refused : (f : Fault) → checked_of (Err f) ≡ check_answer s → Checks s (answer_of f)
-  checks-refused f e = checks e refl refl
+  pub returned : (r : Outcome) → checked_of r ≡ check_answer s → Checks s r
+  returned r e = checks e refl refl
 
 -- THE RUN
 module _ (s : List ℕ) (limit : ℕ) (b : List ℕ) where
@@ -97,7 +94,7 @@ module _ (s : List ℕ) (limit : ℕ) (b : List ℕ) where
         lost = lost_attempts s limit;
       }
 
-  pub run-refused : (f : Fault) → view_verdict (Err f) ≡ verdict s → RunsFor s limit b b (answer_of f).number (answer_of f).place
+  pub run-refused : (f : Fault) → view_verdict (Err f) ≡ verdict s → Runs s limit b b (Err f)
   run-refused f e = answers (refused-answer (view_refusal f.refusal) f.place (sym e))
 
   pub run-too-high : view_verdict (Ok tt) ≡ verdict s → 65535 < limit → RunsFor s limit b b 9 0

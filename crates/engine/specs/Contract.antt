@@ -1,7 +1,7 @@
 -- The contracts of the two entries of this library: number, place and buffer, each by an equation with the model's answer; of a
 -- check, that a sheet is accepted exactly when it is well formed; of a run, the claim, the rates, and what holds of releases that
 -- wait, of those dropped and of lost attempts.
-use Rattle.std.specs.Prelude.{ℕ, ◌≡◌, ◌↔◌, List}
+use Rattle.std.specs.Prelude.{ℕ, ◌≡◌, ◌↔◌, List, Result, Ok, Err}
 use Rattle.model.specs.Refusal as R
 use Rattle.model.specs.Sheet.{verdict, accepted}
 use Rattle.model.specs.WellFormed.{WellFormed}
@@ -14,13 +14,16 @@ use Rattle.model.specs.Drops.{Drops}
 use Rattle.model.specs.LostAttempts.{LostAttempts}
 use Rattle.commands.specs.View.{view_refusal}
 use Rattle.commands.specs.declared.Fault.{Fault}
-use Rattle.engine.specs.declared.Answer.{Answer}
+use Rattle.sheet.specs.View.{Outcome, checked_of}
 
-abbrev pub answer : ℕ → ℕ → Answer
-answer n p = record { number = n; place = p }
+-- number and place of what a run returns: 0 and the report's length, or document 01's number of the refusal and its place
+abbrev pub number_of : Result ℕ Fault → ℕ
+number_of (Ok n) = 0
+number_of (Err f) = R.number (view_refusal f.refusal)
 
-abbrev pub answer_of : Fault → Answer
-answer_of f = answer (R.number (view_refusal f.refusal)) f.place
+abbrev pub place_of : Result ℕ Fault → ℕ
+place_of (Ok n) = n
+place_of (Err f) = f.place
 
 -- THE SHEET CHECK
 pub record ChecksFor (sheet : List ℕ) (n p : ℕ) : Type 0 where
@@ -29,8 +32,8 @@ pub record ChecksFor (sheet : List ℕ) (n p : ℕ) : Type 0 where
   -- accepted exactly when well formed
   pub well_formed : n ≡ 0 ↔ WellFormed sheet
 
-abbrev pub Checks : List ℕ → Answer → Type 0
-Checks sheet r = ChecksFor sheet r.number r.place
+abbrev pub Checks : List ℕ → Outcome → Type 0
+Checks sheet r = ChecksFor sheet (checked_of r).number (checked_of r).place
 
 -- THE RUN, with the buffer before and after
 pub record RunsFor (sheet : List ℕ) (limit : ℕ) (before after : List ℕ) (n p : ℕ) : Type 0 where
@@ -50,5 +53,6 @@ pub record RunsFor (sheet : List ℕ) (limit : ℕ) (before after : List ℕ) (n
   -- each task's lost attempts are those of its operations: the ticks in which its transactions restarted, for either cause
   pub lost : verdict sheet ≡ accepted → LostAttempts sheet limit
 
-abbrev pub Runs : List ℕ → ℕ → List ℕ → List ℕ → Answer → Type 0
-Runs sheet limit before after r = RunsFor sheet limit before after r.number r.place
+-- where it succeeds the place is the report's length
+abbrev pub Runs : List ℕ → ℕ → List ℕ → List ℕ → Result ℕ Fault → Type 0
+Runs sheet limit before after r = RunsFor sheet limit before after (number_of r) (place_of r)

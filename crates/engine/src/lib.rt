@@ -3,7 +3,7 @@
 // The two public entries: the sheet check, and the run of a sheet to its report in the caller's buffer. Neither has a precondition.
 ghost use Rattle.std.specs.Prelude.{◌≡◌, ◌≤◌};
 ghost use Rattle.model.specs.Sheet.{verdict, accepted};
-ghost use Rattle.engine.specs.Contract.{Checks, Runs, answer_of};
+ghost use Rattle.engine.specs.Contract.{Checks, Runs};
 ghost use Rattle.engine.specs.Flat.{Ran};
 
 use commands::ceilings::RunCeilings;
@@ -14,33 +14,11 @@ use start::Counts;
 
 pub mod exports;
 
-// Document 01's number of the refusal, 0 if there is none, and its place; of a run that is not turned down, the report's length.
-#[derive(Clone, Copy)]
-pub struct Answer {
-    pub number: u8,
-    pub place: usize,
-}
-
-fn refused(f: Fault) -> Answer
-    ensures { result ≡ answer_of f }
-{
-    let refusal = f.refusal;
-    Answer {
-        number: u8::from(refusal),
-        place: f.place,
-    }
-}
-
-pub fn check(sheet: &[u8]) -> Answer
+// Nothing, or the first fault of the sheet.
+pub fn check(sheet: &[u8]) -> Result<(), Fault>
     ensures { Checks sheet.now result }
 {
-    match sheet_check::check(sheet) {
-        Ok(()) => Answer {
-            number: 0,
-            place: 0,
-        },
-        Err(f) => refused(f),
-    }
+    sheet_check::check(sheet)
 }
 
 // The run of an accepted sheet; answers the report's length. All that a run keeps stands on the stack: 2,208 bytes that all tasks share,
@@ -51,9 +29,9 @@ fn run_accepted(sheet: &[u8], limit: u32, buffer: &mut [u8]) -> usize
 {
     let x = sheet::index::index(sheet);
     let n = Counts {
-        words: x.words as usize,
-        blocks: x.blocks as usize,
-        tasks: x.tasks as usize,
+        words: x.words.into(),
+        blocks: x.blocks.into(),
+        tasks: x.tasks.into(),
     };
     let mut memory = start::memory(sheet, n);
     let mut tasks = start::tasks();
@@ -75,33 +53,28 @@ fn run_accepted(sheet: &[u8], limit: u32, buffer: &mut [u8]) -> usize
         tasks: n.tasks,
         now: ended.ticks,
     };
-    report::report(&memory, &tasks, totals, &mut *buffer)
+    report::report(&memory, &tasks, totals, buffer)
 }
 
-// Sheet faults go before 9, and 9 before 10. A refusal leaves the buffer unchanged.
-pub fn run(sheet: &[u8], limit: u64, buffer: &mut [u8]) -> Answer
+// The report's length. Sheet faults go before 9, and 9 before 10. A refusal leaves the buffer unchanged.
+pub fn run(sheet: &[u8], limit: u64, buffer: &mut [u8]) -> Result<usize, Fault>
     ensures { Runs sheet.now limit buffer.old buffer.new result }
 {
-    if let Err(f) = sheet_check::first_fault(sheet) {
-        return refused(f);
-    }
+    sheet_check::first_fault(sheet)?;
     let too_high = RunCeilings::LIMIT < limit;
     if too_high {
-        return refused(Fault {
+        return Err(Fault {
             refusal: Refusal::LimitTooHigh,
             place: 0,
         });
     }
     let room = buffer.len();
-    let needed = run_accepted(sheet, limit as u32, &mut *buffer);
+    let needed = run_accepted(sheet, limit as u32, buffer);
     if room < needed {
-        return refused(Fault {
+        return Err(Fault {
             refusal: Refusal::BufferTooShort,
             place: needed,
         });
     }
-    Answer {
-        number: 0,
-        place: needed,
-    }
+    Ok(needed)
 }

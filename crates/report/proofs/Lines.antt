@@ -4,8 +4,6 @@ use mathlib.Core.Path.{◌≡◌, refl, sym, ap, ◌∙◌}
 use mathlib.Core.List.{List, [], ◌∷◌, ◌++◌, append_assoc, append-nil}
 use native.Mathlib.Nat.{add-zero}
 use native.Mathlib.Omega.{arith}
-use lib.ListN.{length, get_or, take, drop}
-use lib.Seq.{drop-cons}
 use Rattle.model.specs.Report.{decimal, fields, lines}
 
 pub lines-last : (n i : ℕ) (f : ℕ → List ℕ) → lines (suc n) i f ≡ lines n i f ++ f (i + n)
@@ -26,18 +24,20 @@ lines_equal (suc n) i f g e =
     let others : lines n (suc i) f ≡ lines n (suc i) g = lines_equal n (suc i) f g (λ k low high. e k (omega arith) (omega arith)) in
     cc
 
--- number i of those from a place on, after its space
-abbrev pub field_of : List ℕ → ℕ → ℕ → List ℕ
-field_of l start i = 0x20 ∷ decimal (get_or l (start + i) 0)
+-- numbers, each after its space
+abbrev pub spaced : List ℕ → List ℕ
+spaced [] = []
+spaced (v ∷ l) = 0x20 ∷ (decimal v ++ spaced l)
 
--- a line's numbers and its end
-pub numbers : (l : List ℕ) (start n i : ℕ) → start + i + n ≤ length l
-    → lines n i (field_of l start) ++ (0x0A ∷ []) ≡ fields (take n (drop (start + i) l))
-unfolding lines fields
-numbers l start zero i h = refl
-numbers l start (suc n) i h =
-    let e : start + suc i ≡ suc (start + i) = omega arith in
-    let inside : start + i < length l = omega arith in
-    append_assoc (field_of l start i) (lines n (suc i) (field_of l start)) (0x0A ∷ [])
-    ∙ ap (λ (x : List ℕ). field_of l start i ++ x) (numbers l start n (suc i) (omega arith))
-    ∙ rw (e, drop-cons l (start + i) 0 inside)
+pub spaced-last : (l : List ℕ) (v : ℕ) → spaced (l ++ (v ∷ [])) ≡ spaced l ++ (0x20 ∷ decimal v)
+spaced-last [] v = ap (λ (x : List ℕ). 0x20 ∷ x) (append-nil (decimal v))
+spaced-last (a ∷ l) v =
+    ap (λ (x : List ℕ). 0x20 ∷ (decimal a ++ x)) (spaced-last l v)
+    ∙ ap (λ (x : List ℕ). 0x20 ∷ x) (sym (append_assoc (decimal a) (spaced l) (0x20 ∷ decimal v)))
+
+-- with the line's end
+pub spaced_end : (l : List ℕ) → spaced l ++ (0x0A ∷ []) ≡ fields l
+unfolding fields
+spaced_end [] = refl
+spaced_end (a ∷ l) =
+    ap (λ (x : List ℕ). 0x20 ∷ x) (append_assoc (decimal a) (spaced l) (0x0A ∷ []) ∙ ap (λ (x : List ℕ). decimal a ++ x) (spaced_end l))

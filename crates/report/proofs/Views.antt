@@ -1,19 +1,18 @@
 -- The records as the model sees them: the current value of a cell, a block store, a task's record.
-use Prim.Native.Nat.{ℕ, ◌+◌, ◌*◌, ◌<◌}
-use mathlib.Core.Path.{◌≡◌, refl, sym, ap}
+use Prim.Native.Nat.{ℕ, ◌+◌, ◌-◌, ◌*◌, ◌≤◌, ◌<◌}
+use mathlib.Core.Path.{◌≡◌, refl, sym, ap, ◌∙◌}
 use mathlib.Core.Bool.{Bool, true, false}
 use mathlib.Core.List.{List, [], ◌∷◌, map}
 use native.Mathlib.Nat.{add-zero}
 use native.Mathlib.Omega.{arith}
 use lib.ListN.{length, get_or, take, drop, get_or-map}
-use lib.Seq.{take_all}
 use Rattle.model.specs.Lists.{at}
 use Rattle.model.specs.Word.{Memory, current_by, current, current_of}
 use Rattle.model.specs.Transaction.{bank, version_of, store_of}
-use Rattle.model.specs.Report.{fields, line, word_line, block_line}
+use Rattle.model.specs.Report.{line, word_line, block_line}
 use Rattle.state.specs.Packed.{unpack, value_of}
 use Rattle.state.specs.Rows.{row, rows}
-use Rattle.state.specs.State.{Shared, own, no_task}
+use Rattle.state.specs.State.{Shared, Own, own, no_task}
 use Rattle.state.specs.declared.task.Task.{Task}
 use Rattle.state.specs.Held.{memory_of}
 use Rattle.state.specs.Sized.{SharedSized}
@@ -22,9 +21,10 @@ use Rattle.state.proofs.Held.{cell_at}
 use Rattle.exchanges.specs.Places.{if}
 use Rattle.exchanges.specs.Reading.{owned, saved_for, current_in}
 use Rattle.exchanges.proofs.Reading.{own-unpack, saved-for}
-use Rattle.report.specs.Writing.{Written}
-use Rattle.report.specs.Text.{shown, task_lines_of, task_most}
-use Rattle.report.proofs.Writing.{then}
+use Rattle.report.specs.Text.{shown, lines_of_task, task_lines_of, task_most}
+use Rattle.report.specs.Writing.{Wrote}
+use Rattle.report.specs.declared.text.Writer.{Writer}
+use Rattle.report.proofs.Writing.{then, as_text}
 
 module _ {m : Shared} (s : SharedSized m) where
   current-by : (w : ℕ) (b : Bool) → if b (value_of w) (saved_for m w) ≡ current_by b (rows 8 8 m.saves) (unpack w)
@@ -46,15 +46,21 @@ word-text m w e = ap (λ (x : ℕ). line 0x57 (w ∷ x ∷ [])) e
 pub block_text : (m : Memory) (b : ℕ) {v : ℕ} → v ≡ current_of m (bank b) → line 0x42 (b ∷ version_of v ∷ at [] m.stores (store_of v)) ≡ block_line m b
 block_text m b e = ap (λ (x : ℕ). line 0x42 (b ∷ version_of x ∷ at [] m.stores (store_of x))) e
 
--- the values of a block store that there is
-pub store-text : (stores : List ℕ) (s : ℕ) {l : List ℕ} {k : ℕ} → s < 48 → l ≡ stores → k ≡ 8 * s + 0
-    → fields (take 8 (drop k l)) ≡ fields (at [] (rows 8 48 stores) s)
+-- the values of a block store that there is, from where they begin to where they end
+pub store_values : (stores : List ℕ) (s k : ℕ) {l : List ℕ} → s < 48 → l ≡ stores → k ≡ 8 * s + 0
+    → take (k + 8 - k) (drop k l) ≡ at [] (rows 8 48 stores) s
 unfolding row
-store-text stores s h e f = rw (e, f, add-zero, at_rows 8 48 s stores h)
+store_values stores s k h e f =
+    let n : k + 8 - k ≡ 8 = omega arith in
+    rw (n, e, f, add-zero, at_rows 8 48 s stores h)
 
 -- the T line and the R line with the counts and registers found
-pub task-text : (tasks : List Task) (p : ℕ) {counts registers before middle after : List ℕ} {i j k : ℕ} → counts ≡ (own (get_or tasks p no_task)).counts
-    → registers ≡ (own (get_or tasks p no_task)).registers → length registers ≡ 8 → Written 68 (line 0x54 (p ∷ take shown counts)) before middle i j
-    → Written 101 (line 0x52 (p ∷ take 8 registers)) middle after j k → Written task_most (task_lines_of (map own tasks) p) before after i k
-task-text tasks p {registers = registers} e f whole u w =
-    rw (get_or-map own tasks p no_task, ← e, ← f) (rw (take_all 8 registers (omega arith)) at (then u w))
+pub task_text : (ts : List Task) (p : ℕ) {t : Task} → t ≡ get_or ts p no_task → lines_of_task p (own t) ≡ task_lines_of (map own ts) p
+unfolding own
+task_text ts p e = ap (λ (t : Task). lines_of_task p (own t)) e ∙ ap (lines_of_task p) (sym (get_or-map own ts p no_task))
+
+pub task_lines : {m : ℕ} (p : ℕ) (t : Own) {counts registers : List ℕ} {u v w : Writer} → counts ≡ t.counts → registers ≡ t.registers → length registers ≡ 8
+    → Wrote m (line 0x54 (p ∷ take shown counts)) u v → Wrote (11 * (1 + length registers) + 2) (line 0x52 (p ∷ registers)) v w
+    → m ≤ 68 → Wrote task_most (lines_of_task p t) u w
+task_lines p t e f whole a b small =
+    rw (← e, ← f) (as_text refl (omega arith) (then a b))

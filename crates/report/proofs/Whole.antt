@@ -12,20 +12,20 @@ use Rattle.model.specs.Report.{line, lines, word_line, block_line}
 use Rattle.state.specs.State.{Shared, Own}
 use Rattle.state.specs.Held.{memory_of}
 use Rattle.report.specs.declared.Totals.{Totals}
-use Rattle.report.specs.Writing.{Written}
+use Rattle.report.specs.Writing.{Written, Wrote}
+use Rattle.report.specs.declared.text.Writer.{Writer}
 use Rattle.report.specs.Text.{task_lines_of, task_most, report_text, report_most, Reported}
 use Rattle.report.proofs.Writing.{then, as_text}
 
-pub whole : (m : Shared) (ts : List Own) (t : Totals) {w b p i j k r : ℕ} {start middle later last end : List ℕ}
-    → w ≡ min t.words 32 → b ≡ min t.blocks 16 → p ≡ min t.tasks 8
-    → Written (24 * w) (lines w 0 (word_line (memory_of m))) start middle 0 i
-    → Written (112 * b) (lines b 0 (block_line (memory_of m))) middle later i j
-    → Written (task_most * p) (lines p 0 (task_lines_of ts)) later last j k
-    → Written 13 (line 0x45 (t.now ∷ [])) last end k r
-    → Written report_most (report_text m ts t) start end 0 r
+pub whole : (m : Shared) (ts : List Own) (t : Totals) {w b p : ℕ} {start : List ℕ} {u v x y z : Writer}
+    → w ≡ min t.words 32 → b ≡ min t.blocks 16 → p ≡ min t.tasks 8 → u.buffer.now ≡ start → u.place ≡ 0
+    → Wrote (24 * w) (lines w 0 (word_line (memory_of m))) u v → Wrote (112 * b) (lines b 0 (block_line (memory_of m))) v x
+    → Wrote (task_most * p) (lines p 0 (task_lines_of ts)) x y → Wrote 13 (line 0x45 (t.now ∷ [])) y z
+    → Written report_most (report_text m ts t) start z.buffer.now 0 z.place
 unfolding report_text
-whole m ts t ew eb ep words blocks tasks ends =
-    rw (← ew, ← eb, ← ep) (as_text refl (omega arith) (then (then (then words blocks) tasks) ends))
+whole m ts t ew eb ep start from words blocks tasks ends =
+    let all = as_text {n = report_most} refl (omega (arith, ew, eb, ep)) (then (then (then words blocks) tasks) ends) in
+    rw (← ew, ← eb, ← ep) (rw (start, from) at all.written)
 
 sets_nil : (x : List ℕ) (i : ℕ) → sets [] i x ≡ []
 sets_nil [] i = refl

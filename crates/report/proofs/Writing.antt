@@ -1,15 +1,16 @@
--- Texts that are written one after another: byte by byte, line by line, number by number.
+-- Texts that are written one after another: byte by byte, number by number, line by line.
 use Prim.Native.Nat.{ℕ, suc, ◌+◌, ◌*◌, ◌-◌, ◌≤◌, ◌<◌}
 use mathlib.Core.Path.{◌≡◌, refl, sym, ap, ◌∙◌}
-use mathlib.Core.List.{List, [], ◌∷◌, ◌++◌}
+use mathlib.Core.List.{List, [], ◌∷◌, ◌++◌, map, map-id}
 use native.Mathlib.Nat.{add-zero, zero-add, mul-zero, mul-suc}
 use native.Mathlib.Numerals.{add-one}
 use native.Mathlib.Omega.{arith}
 use lib.ListN.{length, get_or, set, take, drop, length-append, length-drop}
-use lib.Seq.{sets, length-sets, take-suc, take-length, take_all}
-use Rattle.model.specs.Report.{fields, lines}
-use Rattle.report.specs.Writing.{Written}
-use Rattle.report.proofs.Lines.{lines-last, field_of, numbers}
+use lib.Seq.{sets, take-suc, take-length, take_all}
+use Rattle.model.specs.Report.{decimal, line, lines}
+use Rattle.report.specs.Writing.{Wrote}
+use Rattle.report.specs.declared.text.Writer.{Writer}
+use Rattle.report.proofs.Lines.{lines-last, spaced, spaced-last, spaced_end}
 
 sets_append : (x y b : List ℕ) (i : ℕ) → sets b i (x ++ y) ≡ sets (sets b i x) (i + length x) y
 sets_append [] y b i = ap (λ (k : ℕ). sets b k y) (sym (add-zero i))
@@ -17,65 +18,70 @@ sets_append (a ∷ x) y b i =
     let e : suc i + length x ≡ i + suc (length x) = omega arith in
     sets_append x y (set b i a) (suc i) ∙ ap (λ (k : ℕ). sets (sets (set b i a) (suc i) x) k y) e
 
-pub nothing : (b : List ℕ) (i : ℕ) → Written 0 [] b b i i
-nothing b i = record { bytes = refl; place = omega arith; room = omega arith }
+pub nothing : (w : Writer) → Wrote 0 [] w w
+nothing w = record { same_reference = refl; written = record { bytes = refl; place = omega arith; room = omega arith } }
 
-pub then : {m n i j k : ℕ} {s t b c d : List ℕ} → Written m s b c i j → Written n t c d j k → Written (m + n) (s ++ t) b d i k
-then {m} {n} {i} {j} {k} {s} {t} {b} {c} {d} u w =
+pub then : {m n : ℕ} {s t : List ℕ} {u v w : Writer} → Wrote m s u v → Wrote n t v w → Wrote (m + n) (s ++ t) u w
+then {s = s} {t} {u} {v} a b =
     record {
-      bytes = w.bytes ∙ ap (λ (x : List ℕ). sets x j t) u.bytes ∙ ap (λ (x : ℕ). sets (sets b i s) x t) u.place ∙ sym (sets_append s t b i);
-      place = omega (arith, u.place, w.place, length-append s t);
-      room = omega (arith, u.room, w.room);
+      same_reference = b.same_reference ∙ a.same_reference;
+      written = record {
+        bytes =
+            b.written.bytes
+            ∙ ap (λ (x : List ℕ). sets x v.place t) a.written.bytes
+            ∙ ap (λ (x : ℕ). sets (sets u.buffer.now u.place s) x t) a.written.place
+            ∙ sym (sets_append s t u.buffer.now u.place);
+        place = omega (arith, a.written.place, b.written.place, length-append s t);
+        room = omega (arith, a.written.room, b.written.room);
+      };
     }
-
-pub same_size : {m i j : ℕ} {s b c : List ℕ} → Written m s b c i j → length c ≡ length b
-same_size {i = i} {s = s} {b = b} w = ap length w.bytes ∙ length-sets b i s
-
--- one more byte of a text
-pub byte_more : {from j k : ℕ} {b c d : List ℕ} (i : ℕ) (l : List ℕ) → i < length l → Written i (take i l) b c from j
-    → Written 1 (get_or l i 0 ∷ []) c d j k → Written (i + 1) (take (i + 1) l) b d from k
-byte_more i l h u w = rw (add-one i, take-suc l i 0 h, ← add-one i) (then u w)
-
-pub all-bytes : {from j : ℕ} {b c : List ℕ} (i : ℕ) (l : List ℕ) → i ≤ length l → length l ≤ i → Written i (take i l) b c from j
-    → Written (length l) l b c from j
-all-bytes i l below above w =
-    let e : i ≡ length l = omega arith in
-    rw (e, take-length l) at w
-
--- no line, one more, and all of them
-pub no_lines : (m : ℕ) (f : ℕ → List ℕ) (b : List ℕ) (i : ℕ) → Written (m * 0) (lines 0 0 f) b b i i
-unfolding lines
-no_lines m f b i = rw (mul-zero m) (nothing b i)
-
-pub line_more : {m n i j k : ℕ} {s b c d : List ℕ} (f : ℕ → List ℕ) → s ≡ f n → Written (m * n) (lines n 0 f) b c i j → Written m s c d j k
-    → Written (m * (n + 1)) (lines (n + 1) 0 f) b d i k
-line_more {m} {n} f e u w = rw (add-one n, lines-last n 0 f, mul-suc m n, zero-add n, ← e) (then u w)
-
-pub all_lines : {i j : ℕ} {b c : List ℕ} (m k n : ℕ) (f : ℕ → List ℕ) → k ≤ n → n ≤ k → Written (m * k) (lines k 0 f) b c i j
-    → Written (m * n) (lines n 0 f) b c i j
-all_lines m k n f below above w =
-    let e : k ≡ n = omega arith in
-    rw e at w
 
 -- the same text by another name, with a wider bound
-pub as_text : {m n i j : ℕ} {s t b c : List ℕ} → s ≡ t → m ≤ n → Written m s b c i j → Written n t b c i j
-as_text {i = i} {b = b} e h w =
+pub as_text : {m n : ℕ} {s t : List ℕ} {u w : Writer} → s ≡ t → m ≤ n → Wrote m s u w → Wrote n t u w
+as_text {u = u} e h a =
     record {
-      bytes = w.bytes ∙ ap (λ (x : List ℕ). sets b i x) e;
-      place = w.place ∙ ap (λ (x : List ℕ). i + length x) e;
-      room = omega (arith, w.room);
+      same_reference = a.same_reference;
+      written = record {
+        bytes = a.written.bytes ∙ ap (λ (x : List ℕ). sets u.buffer.now u.place x) e;
+        place = a.written.place ∙ ap (λ (x : List ℕ). u.place + length x) e;
+        room = omega (arith, a.written.room);
+      };
     }
 
--- a part of a text that goes to its end
-pub to_the_end : {m k from j : ℕ} {t b c : List ℕ} (l : List ℕ) (i n : ℕ) → Written m (take (n - i) (drop i l)) b c from j → drop i l ≡ t
-    → length l ≤ n → m ≤ k → Written k t b c from j
-to_the_end l i n w e h wide = as_text (take_all (n - i) (drop i l) (simp length-drop (omega arith)) ∙ e) wide w
+-- one more byte of a text, and all of them
+pub byte_more : {u v w : Writer} (i : ℕ) (l : List ℕ) → i < length l → Wrote i (take i l) u v → Wrote 1 (get_or l i 0 ∷ []) v w
+    → Wrote (i + 1) (take (i + 1) l) u w
+byte_more i l h a b = rw (add-one i, take-suc l i 0 h, ← add-one i) (then a b)
 
--- all the numbers of a line, and its end
-pub all-fields : {from j k : ℕ} {b c d : List ℕ} (l : List ℕ) (start n i : ℕ) → i ≤ n → n ≤ i → start + n ≤ length l
-    → Written (11 * i) (lines i 0 (field_of l start)) b c from j → Written 1 (0x0A ∷ []) c d j k
-    → Written (11 * n + 1) (fields (take n (drop start l))) b d from k
-all-fields l start n i below above inside u w =
-    let e : start + 0 ≡ start = omega arith in
-    let text = rw e at (numbers l start n 0 (omega arith)) in
-    as_text text (omega arith) (then (all_lines 11 i n (field_of l start) below above u) w)
+pub all-bytes : {u w : Writer} (l : List ℕ) → Wrote (length l) (take (length l) l) u w → Wrote (length l) l u w
+all-bytes l a = rw (take-length l) at a
+
+-- one more number of a line
+pub number_more : {t u v w : Writer} (l : List ℕ) (value : ℕ) → Wrote (11 * length l) (spaced l) t u → Wrote 1 (0x20 ∷ []) u v → Wrote 10 (decimal value) v w
+    → Wrote (11 * length (l ++ (value ∷ []))) (spaced (l ++ (value ∷ []))) t w
+number_more l value a b c =
+    as_text (sym (spaced-last l value)) (omega (arith, length-append l (value ∷ []))) (then a (then b c))
+
+-- a letter, all the numbers and the line's end
+pub whole_line : {letter : ℕ} {t u v w : Writer} (first others l : List ℕ) → map (λ x. x) l ≡ first ++ others
+    → Wrote 1 (letter ∷ []) t u → Wrote (11 * length l) (spaced l) u v → Wrote 1 (0x0A ∷ []) v w
+    → Wrote (11 * (length first + length others) + 2) (line letter (first ++ others)) t w
+whole_line {letter} first others l e a b c =
+    let same : l ≡ first ++ others = sym (map-id l) ∙ e in
+    let text : (letter ∷ []) ++ spaced l ++ (0x0A ∷ []) ≡ line letter (first ++ others) =
+    ap (λ (x : List ℕ). letter ∷ x) (spaced_end l) ∙ ap (λ (x : List ℕ). line letter x) same in
+    as_text text (omega (arith, ap length same, length-append first others)) (then a (then b c))
+
+-- no line, and one more
+pub no_lines : (m : ℕ) (f : ℕ → List ℕ) (w : Writer) → Wrote (m * 0) (lines 0 0 f) w w
+unfolding lines
+no_lines m f w = rw (mul-zero m) (nothing w)
+
+pub line_more : {m n : ℕ} {s : List ℕ} {u v w : Writer} (f : ℕ → List ℕ) → s ≡ f n → Wrote (m * n) (lines n 0 f) u v → Wrote m s v w
+    → Wrote (m * (n + 1)) (lines (n + 1) 0 f) u w
+line_more {m} {n} f e a b = rw (add-one n, lines-last n 0 f, mul-suc m n, zero-add n, ← e) (then a b)
+
+-- a part of a text that goes to its end
+pub to_the_end : {m k : ℕ} {t : List ℕ} {u w : Writer} (l : List ℕ) (i n : ℕ) → Wrote m (take (n - i) (drop i l)) u w → drop i l ≡ t
+    → length l ≤ n → m ≤ k → Wrote k t u w
+to_the_end l i n a e h wide = as_text (take_all (n - i) (drop i l) (simp length-drop (omega arith)) ∙ e) wide a

@@ -15,8 +15,11 @@ abbrev pub shown : ℕ
 shown = 5
 
 -- a task's T line with the first of its counts, and its R line with its registers
+abbrev pub lines_of_task : ℕ → Own → List ℕ
+lines_of_task p t = line 0x54 (p ∷ take shown t.counts) ++ line 0x52 (p ∷ t.registers)
+
 abbrev pub task_lines_of : List Own → ℕ → List ℕ
-task_lines_of ts p = line 0x54 (p ∷ take shown (get_or ts p no_own).counts) ++ line 0x52 (p ∷ (get_or ts p no_own).registers)
+task_lines_of ts p = lines_of_task p (get_or ts p no_own)
 
 -- its length at most: a T line of six numbers and an R line of nine, each number with its space 11 bytes at most
 abbrev pub task_most : ℕ

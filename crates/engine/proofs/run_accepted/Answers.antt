@@ -1,15 +1,12 @@
 -- `run_accepted` meets its contract.
+use Rattle.std.proofs.Common.{refl}
 use Rattle.engine.proofs.Flat.{ran_by}
-use mathlib.Core.Path.{refl}
 use Rattle.engine.proofs.run_accepted.Goals as goal
 
 pub run-ended-requires : goal.run-ended-requires
 run-ended-requires c = (rw c.start-from.ensures refl, rw c.start-from.ensures refl, c.program-program.ensures.size)
 
 pub returns : goal.returns
-returns c = ran_by c.index-x.ensures
-    c.memory-memory.ensures
-    c.tasks-tasks.ensures
-    c.program-program.ensures
-    c.start-from.ensures
-    c.run-ended.ensures.0 c.report.ensures
+returns c =
+    ran_by c.index-x.ensures c.memory-memory.ensures c.tasks-tasks.ensures c.program-program.ensures c.start-from.ensures c.run-ended.ensures.0
+    (rw (c.into.ensures, c.into-2.ensures, c.into-3.ensures) at c.report.ensures)

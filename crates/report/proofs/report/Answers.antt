@@ -5,5 +5,5 @@ use Rattle.report.proofs.report.Goals as goal
 pub returns-then-fits : goal.returns-then-fits
 returns-then-fits c = long_enough _ c.write-needed.ensures c.if-fits.true c.write.ensures
 
-pub returns : goal.returns
-returns c = too_short _ c.write-needed.ensures c.if-fits.false
+pub returns-else-fits : goal.returns-else-fits
+returns-else-fits c = too_short _ c.write-needed.ensures c.if-fits.false
