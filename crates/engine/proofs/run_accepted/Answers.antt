@@ -3,8 +3,11 @@ use Rattle.engine.proofs.Flat.{ran_by}
 use mathlib.Core.Path.{refl}
 use Rattle.engine.proofs.run_accepted.Goals as goal
 
-pub run-ended-requires : goal.run-ended-requires
-run-ended-requires c = (rw c.start-from.ensures refl, rw c.start-from.ensures refl, c.program-program.ensures.size)
+pub run-ended-requires-clause-jobs : goal.run-ended-requires-clause-jobs
+run-ended-requires-clause-jobs c = rw c.start-from.ensures refl
+
+pub run-ended-requires-clause-waiting : goal.run-ended-requires-clause-waiting
+run-ended-requires-clause-waiting c = rw c.start-from.ensures refl
 
 pub returns : goal.returns
 returns c = ran_by c.index-x.ensures
@@ -12,4 +15,4 @@ returns c = ran_by c.index-x.ensures
     c.tasks-tasks.ensures
     c.program-program.ensures
     c.start-from.ensures
-    c.run-ended.ensures.0 c.report.ensures
+    c.run-ended.ensures.ends c.report.ensures
