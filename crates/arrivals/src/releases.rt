@@ -3,7 +3,7 @@ ghost use Rattle.std.specs.Prelude.{◌≡◌, ◌<◌};
 ghost use Rattle.model.specs.Command.{command_at};
 ghost use Rattle.arrivals.specs.Releases.{pending_by, pending_at, coming_by, stops_by, until_of, idled_by};
 
-use commands::{Command, Decoded};
+use commands::Command;
 
 // The next release, decoded once: its tick and task, and the place after it.
 #[derive(Clone, Copy)]
@@ -37,10 +37,8 @@ fn pending_by(command: Command, after: usize) -> Option<Pending>
 pub fn pending_at(sheet: &[u8], place: usize) -> Option<Pending>
     ensures { result ≡ pending_at (command_at sheet.now place) }
 {
-    match commands::decode(sheet, place) {
-        Decoded::Got(command, after) => pending_by(command, after),
-        Decoded::Refused(_) => None,
-    }
+    let (command, after) = commands::decode(sheet, place).ok()?;
+    pending_by(command, after)
 }
 
 // Ahead of a tick's releases, one that waits behind a job that has ended.

@@ -11,7 +11,7 @@ ghost use Rattle.builder.specs.Contract.{Composes};
 
 use crate::handed::OPERANDS;
 use commands::ceilings::SheetCeilings;
-use commands::table::{Named, entry_of};
+use commands::table::entry_of;
 use commands::{Command, Refusal};
 use composing::{BuilderState, Composed, declined};
 
@@ -40,7 +40,7 @@ pub fn compose_handed(
 ) -> Composed
     ensures { ComposesHanded (view_state state) buffer.old (builder.handed b operands.now) result buffer.new }
 {
-    if let Named::By(_) = entry_of(b) {
+    if let Some(_) = entry_of(b) {
         let c = handed::command(b, operands);
         let values = handed::values(operands);
         return composing::compose(state, &mut *buffer, c, values);

@@ -5,7 +5,7 @@ ghost use Rattle.rules.specs.View.{view_section, view_counts, view_numbers, view
 ghost use Rattle.composing.specs.View.{view_state};
 ghost use Rattle.builder.specs.Packed.{section_of, some?, counts_of, body_of, state_of};
 
-use commands::{Release, byte, value4};
+use commands::{Release, byte, value};
 use composing::BuilderState;
 use rules::known::{Known, Numbers, Section, SheetCounts, Task};
 
@@ -63,14 +63,14 @@ fn body_of(row: [u8; ROW], pairs: [u8; ROW], touched: [u8; ROW], puts: [u8; ROW]
 fn tick_of(row: [u8; ROW]) -> u32
     ensures { result ≡ big_endian row 0 4 }
 {
-    value4(&row, 0)
+    value::<4>(&row, 0)
 }
 
 fn filled_of(row: [u8; ROW]) -> usize
     ensures { result ≡ big_endian row 0 8 }
 {
     let r: &[u8] = &row;
-    value4(r, 0) as usize * 4294967296 + value4(r, 4) as usize
+    value::<4>(r, 0) as usize * 4294967296 + value::<4>(r, 4) as usize
 }
 
 pub fn unpack(s: [[u8; ROW]; ROWS]) -> BuilderState

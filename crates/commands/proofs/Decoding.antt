@@ -8,16 +8,14 @@ use native.Mathlib.Omega.{arith}
 use native.Mathlib.Nat.{add-zero, zero-add, add_assoc}
 use borrow.Author.Tests.{eqb-true, lt-ltb, le-ltb, le-leb, lt-leb}
 use lib.Dec.{eqb}
+use Rattle.std.specs.Prelude.{Option, Some, None, Ok}
 use lib.ListN.{length, get_or}
 use Rattle.model.specs.Refusal.{cut_short, no_command}
 use Rattle.model.specs.Command.{GET, PUT, READ, PAIR, SWAP, BEGIN, access, COMMIT, LOAD, ADD, outside, inside, WORD, BLOCK, TASK, RELEASE, END, body}
 use Rattle.model.specs.Command.{Row, table, row_of, total, big_endian, refused, command_at}
 use Rattle.commands.specs.Stages.{values_from, width_of, command_of, ByteSays, EntrySays}
 use Rattle.commands.specs.Table.{entries_from, entry_in, entry_of}
-use Rattle.commands.specs.declared.Whole.TheVariants as Whole
 use Rattle.commands.specs.declared.table.Entry.{Entry}
-use Rattle.commands.specs.declared.table.Named.{Named}
-use Rattle.commands.specs.declared.table.Named.TheVariants.{By, Nothing}
 
 -- THE TABLE
 -- the byte has a row among these, and its operands take that many bytes
@@ -30,11 +28,11 @@ abbrev pub RowOf : ℕ → ℕ → Type 0
 RowOf b width = RowIn b table width
 
 -- what the code's entries of these rows say of the byte
-abbrev NamedIn : ℕ → List Row → Named → Type 0
-NamedIn b l Nothing = row_of b l ≡ none
-NamedIn b l (By e) = RowIn b l e.width × (e.byte ≡ b)
+abbrev NamedIn : ℕ → List Row → Option Entry → Type 0
+NamedIn b l None = row_of b l ≡ none
+NamedIn b l (Some e) = RowIn b l e.width × (e.byte ≡ b)
 
-abbrev pub NamedSays : ℕ → Named → Type 0
+abbrev pub NamedSays : ℕ → Option Entry → Type 0
 NamedSays b n = NamedIn b table n
 
 -- a test, with what it said in each case
@@ -43,9 +41,9 @@ cases true f g = f refl
 cases false f g = g refl
 
 module _ (b : ℕ) where
-  same_row : (l m : List Row) → row_of b m ≡ row_of b l → (n : Named) → NamedIn b l n → NamedIn b m n
-  same_row l m e Nothing says = e ∙ says
-  same_row l m e (By x) says = (record { row = says.0.row; is = e ∙ says.0.is; takes = says.0.takes }, says.1)
+  same_row : (l m : List Row) → row_of b m ≡ row_of b l → (n : Option Entry) → NamedIn b l n → NamedIn b m n
+  same_row l m e None says = e ∙ says
+  same_row l m e (Some x) says = (record { row = says.0.row; is = e ∙ says.0.is; takes = says.0.takes }, says.1)
 
   named_in : (l : List Row) → NamedIn b l (entry_in b (entries_from l))
   unfolding row_of entry_in entries_from
@@ -89,7 +87,7 @@ module _ (s : List ℕ) (at : ℕ) where
       let within : suc at + total r.row.widths ≤ length s = omega (arith, r.takes) in
       (rw r.is within, simp (lt-ltb at (length s) h, r.is) (simp (le-leb (suc at + total r.row.widths) (length s) within)))
 
-  pub by-entry : (e : Entry) → at < length s → NamedSays (get_or s at 0) (By e) → suc at + e.width ≤ length s → EntrySays s at (Whole.By e)
+  pub by-entry : (e : Entry) → at < length s → NamedSays (get_or s at 0) (Some e) → suc at + e.width ≤ length s → EntrySays s at (Ok e)
   by-entry e h says l = rw says.1 (sym (width_row says.0), whole h says.0 l)
 
 -- THE COMMAND OF EACH ROW

@@ -8,23 +8,23 @@ use native.Mathlib.Omega.{arith}
 use native.Mathlib.Numerals.{add-one}
 use borrow.Author.Tests.{eq-eqb, ne_eqb, leb-true}
 use lib.Dec.{eqb, leb}
+use Rattle.std.specs.Prelude.{Some, None}
 use lib.ListN.{length, get_or, drop, drop_of_length-le}
 use lib.Seq.{drop-cons}
 use Rattle.commands.specs.Table.{entry_in}
 use Rattle.commands.proofs.Decoding.{cases}
 use Rattle.commands.specs.declared.table.Entry.{Entry}
-use Rattle.commands.specs.declared.table.Named.TheVariants.{By, Nothing}
 
 -- what stands past the end
 abbrev pub no_entry : Entry
 no_entry = record { byte = 0; width = 0 }
 
 module _ (b : ℕ) (l : List Entry) (i : ℕ) where
-  pub past : length l ≤ i → entry_in b (drop i l) ≡ Nothing
+  pub past : length l ≤ i → entry_in b (drop i l) ≡ None
   unfolding entry_in
   past h = rw (drop_of_length-le l h)
 
-  pub here : i < length l → b ≡ (get_or l i no_entry).byte → entry_in b (drop i l) ≡ By (get_or l i no_entry)
+  pub here : i < length l → b ≡ (get_or l i no_entry).byte → entry_in b (drop i l) ≡ Some (get_or l i no_entry)
   unfolding entry_in
   here h e = rw (drop-cons l i no_entry h, eq-eqb b (get_or l i no_entry).byte e)
 
@@ -38,7 +38,7 @@ unfoldable pub between? : ℕ → ℕ → List Entry → Bool
 between? low high [] = true
 between? low high (e ∷ l) = (leb low e.byte && leb e.byte high) && between? low high l
 
-pub outside : (b low high : ℕ) (l : List Entry) → between? low high l ≡ true → (b < low) ⊎ (high < b) → entry_in b l ≡ Nothing
+pub outside : (b low high : ℕ) (l : List Entry) → between? low high l ≡ true → (b < low) ⊎ (high < b) → entry_in b l ≡ None
 unfolding entry_in between?
 outside b low high [] t out = refl
 outside b low high (e ∷ l) t out =
@@ -49,10 +49,10 @@ outside b low high (e ∷ l) t out =
     let other : b ≡ e.byte → ⊥ = λ same. ⊎_elim (λ (o : b < low). omega arith) (λ (o : high < b). omega arith) out in
     rw (ne_eqb b e.byte other) (outside b low high l parts.1 out)
 
-pub skipped : (b : ℕ) (l m : List Entry) → entry_in b l ≡ Nothing → entry_in b (l ++ m) ≡ entry_in b m
+pub skipped : (b : ℕ) (l m : List Entry) → entry_in b l ≡ None → entry_in b (l ++ m) ≡ entry_in b m
 unfolding entry_in
 skipped b [] m none = refl
 skipped b (e ∷ l) m none =
     cases (eqb b e.byte)
-    (λ t. let found : By e ≡ Nothing = rw t at none in cc)
+    (λ t. let found : Some e ≡ None = rw t at none in cc)
     (λ t. rw t (skipped b l m (rw t at none)))

@@ -1,12 +1,10 @@
 -- The stages of the decoding, each a part of the model's: the command and the width of a byte, what the byte at a place says.
-use Rattle.std.specs.Prelude.{ℕ, suc, ◌+◌, ◌≤◌, ◌≡◌, Bool, true, false, List, [], ◌∷◌, eqb, length, get_or}
+use Rattle.std.specs.Prelude.{ℕ, suc, ◌+◌, ◌≤◌, ◌≡◌, Bool, true, false, List, [], ◌∷◌, length, Result, Ok, Err}
 use Rattle.std.proofs.Math.Option.{Option, none, some}
 use Rattle.model.specs.Command.{Command, END, block_from, Row, table, row_of, total, operand, found, refused, command_at}
 use Rattle.commands.specs.View.{view_refusal}
-use Rattle.commands.specs.declared.Access.{Access}
-use Rattle.commands.specs.declared.Access.TheVariants.{Get, Put}
-use Rattle.commands.specs.declared.Whole.{Whole}
-use Rattle.commands.specs.declared.Whole.TheVariants as whole
+use Rattle.commands.specs.declared.Fault.{Fault}
+use Rattle.commands.specs.declared.table.Entry.{Entry}
 
 abbrev pub pick : {A : Type 0} → Bool → A → A → A
 pick true a b = a
@@ -37,18 +35,11 @@ unfoldable pub width_of : ℕ → ℕ
 unfolding width_from row_of table
 width_of b = width_from (row_of b table)
 
--- GET or PUT by its byte, its operands starting at p
-unfoldable pub access_from : List ℕ → ℕ → ℕ → Access
-access_from s p b =
-    pick (eqb b 0x21)
-    (Get (get_or s p 0) (get_or s (p + 1) 0) (get_or s (p + 2) 0))
-    (Put (get_or s p 0) (get_or s (p + 1) 0) (get_or s (p + 2) 0))
-
 -- what a byte at a place says of the command there
 abbrev pub ByteSays : List ℕ → ℕ → ℕ → Type 0
 ByteSays s at b = (suc at + width_of b ≤ length s) × (command_at s at ≡ found (command_of s (suc at) b) (suc at + width_of b))
 
 -- what its entry says, whose width is the byte's
-abbrev pub EntrySays : List ℕ → ℕ → Whole → Type 0
-EntrySays s at (whole.Refused f) = command_at s at ≡ refused (view_refusal f.refusal) f.place
-EntrySays s at (whole.By e) = (e.width ≡ width_of e.byte) × ByteSays s at e.byte
+abbrev pub EntrySays : List ℕ → ℕ → Result Entry Fault → Type 0
+EntrySays s at (Err f) = command_at s at ≡ refused (view_refusal f.refusal) f.place
+EntrySays s at (Ok e) = (e.width ≡ width_of e.byte) × ByteSays s at e.byte

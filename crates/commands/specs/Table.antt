@@ -1,10 +1,8 @@
 -- The code's table: of each row of the model's the byte, and how many operand bytes follow it; and the entry of a byte in it.
-use Rattle.std.specs.Prelude.{ℕ, List, [], ◌∷◌, eqb}
+use Rattle.std.specs.Prelude.{ℕ, List, [], ◌∷◌, eqb, Option, Some, None}
 use Rattle.model.specs.Command.{Row, table, total}
 use Rattle.commands.specs.Stages.{pick}
 use Rattle.commands.specs.declared.table.Entry.{Entry}
-use Rattle.commands.specs.declared.table.Named.{Named}
-use Rattle.commands.specs.declared.table.Named.TheVariants.{By, Nothing}
 
 unfoldable pub entry_from : Row → Entry
 unfolding total
@@ -20,12 +18,12 @@ unfolding entries_from table
 entries = entries_from table
 
 -- the first entry with that byte
-unfoldable pub entry_in : ℕ → List Entry → Named
-entry_in b [] = Nothing
+unfoldable pub entry_in : ℕ → List Entry → Option Entry
+entry_in b [] = None
 entry_in b (e ∷ l) =
-    let other : Named = entry_in b l in
-    pick (eqb b e.byte) (By e) other
+    let other : Option Entry = entry_in b l in
+    pick (eqb b e.byte) (Some e) other
 
-unfoldable pub entry_of : ℕ → Named
+unfoldable pub entry_of : ℕ → Option Entry
 unfolding entry_in entries
 entry_of b = entry_in b entries

@@ -1,5 +1,6 @@
 -- The model's refusals and commands that the crate's types stand for.
-use Rattle.std.specs.Prelude.{ℕ, List}
+use Rattle.std.specs.Prelude.{ℕ, List, ◌++◌, Result, Ok, Err, codes}
+use Rattle.std.specs.Fmt.{decimal}
 use Rattle.model.specs.Refusal as R
 use Rattle.model.specs.Command as M
 use Rattle.commands.specs.declared.Refusal.{Refusal}
@@ -17,8 +18,7 @@ use Rattle.commands.specs.declared.BodyCommand.{BodyCommand}
 use Rattle.commands.specs.declared.BodyCommand.TheVariants as B
 use Rattle.commands.specs.declared.Command.{Command}
 use Rattle.commands.specs.declared.Command.TheVariants as C
-use Rattle.commands.specs.declared.Decoded.{Decoded}
-use Rattle.commands.specs.declared.Decoded.TheVariants.{Got, Refused}
+use Rattle.commands.specs.declared.Fault.{Fault}
 
 abbrev pub view_refusal : Refusal → R.Refusal
 view_refusal NoCommand = R.no_command
@@ -32,6 +32,10 @@ view_refusal ReleasesNotRising = R.releases_not_rising
 view_refusal LimitTooHigh = R.limit_too_high
 view_refusal BufferTooShort = R.buffer_too_short
 view_refusal BufferFull = R.buffer_full
+
+-- number and place of a fault, in decimal
+abbrev pub fault_text : Fault → List ℕ
+fault_text f = decimal (R.number (view_refusal f.refusal)) ++ codes " " ++ decimal f.place
 
 abbrev pub view_release : Release → M.Release
 view_release r = record { tick = r.tick; task = r.task }
@@ -65,6 +69,6 @@ view_command vs (C.Release r) = M.RELEASE (view_release r)
 view_command vs C.End = M.END
 view_command vs (C.Body c) = M.body (view_body_command c)
 
-abbrev pub view_decoded : List ℕ → Decoded → M.Found
-view_decoded vs (Got c next) = M.found (view_command vs c) next
-view_decoded vs (Refused f) = M.refused (view_refusal f.refusal) f.place
+abbrev pub view_decoded : List ℕ → Result (Command × ℕ) Fault → M.Found
+view_decoded vs (Ok r) = M.found (view_command vs r.0) r.1
+view_decoded vs (Err f) = M.refused (view_refusal f.refusal) f.place

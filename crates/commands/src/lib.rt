@@ -3,31 +3,31 @@
 // The commands of the run sheet, and the command at a place of a lent sheet.
 ghost use Rattle.std.specs.Prelude.{◌≡◌, suc, ◌+◌, ◌≤◌, length, get_or};
 ghost use Rattle.model.specs.Command.{big_endian, command_at};
-ghost use Rattle.model.specs.Refusal.{number};
-ghost use Rattle.commands.specs.View.{view_refusal, view_command, view_decoded};
-ghost use Rattle.commands.specs.Stages.{command_of, access_from, EntrySays, values_from};
+ghost use Rattle.commands.specs.View.{view_command, view_decoded};
+ghost use Rattle.commands.specs.Stages.{command_of, EntrySays, values_from};
 
 use crate::ceilings::SheetCeilings;
-use crate::table::{Entry, Named, entry_of};
+use crate::table::{Entry, entry_of};
+use std::fmt;
 
 pub mod ceilings;
 pub mod table;
 
 // The tick has 32 bits, though two bytes hold it: so the operands of all commands lie at one place of the enum.
-#[derive(Clone, Copy)]
+#[derive(Clone, Copy, Debug, PartialEq, Eq, PartialOrd, Ord)]
 pub struct Release {
     pub tick: u32,
     pub task: u8,
 }
 
-#[derive(Clone, Copy)]
+#[derive(Clone, Copy, Debug, PartialEq, Eq)]
 pub enum Access {
     Get { register: u8, block: u8, offset: u8 },
     Put { block: u8, offset: u8, register: u8 },
 }
 
 // What stands only outside a transaction.
-#[derive(Clone, Copy)]
+#[derive(Clone, Copy, Debug, PartialEq, Eq)]
 pub enum Outside {
     Read { register: u8, word: u8 },
     Pair { word: u8, old: u8, new: u8 },
@@ -36,14 +36,14 @@ pub enum Outside {
 }
 
 // What stands only inside one.
-#[derive(Clone, Copy)]
+#[derive(Clone, Copy, Debug, PartialEq, Eq)]
 pub enum Inside {
     Access(Access),
     Commit,
 }
 
 // What stands only in a body.
-#[derive(Clone, Copy)]
+#[derive(Clone, Copy, Debug, PartialEq, Eq)]
 pub enum BodyCommand {
     Load { register: u8, value: u32 },
     Add { register: u8, other: u8 },
@@ -52,7 +52,7 @@ pub enum BodyCommand {
 }
 
 // BLOCK carries its version; `values` gives its eight values in an array beside it.
-#[derive(Clone, Copy)]
+#[derive(Clone, Copy, Debug, PartialEq, Eq)]
 pub enum Command {
     Word(u32),
     Block(u32),
@@ -62,9 +62,10 @@ pub enum Command {
     Body(BodyCommand),
 }
 
-#[derive(Clone, Copy)]
+// Each has its number in documents 01 and 02.
+#[derive(Clone, Copy, Debug, PartialEq, Eq)]
 pub enum Refusal {
-    NoCommand,
+    NoCommand = 1,
     CutShort,
     ByteAfterEnd,
     Misplaced,
@@ -77,42 +78,32 @@ pub enum Refusal {
     BufferFull,
 }
 
-#[derive(Clone, Copy)]
+#[derive(Clone, Copy, Debug, PartialEq, Eq)]
 pub struct Fault {
     pub refusal: Refusal,
     pub place: usize,
 }
 
-// The entry of a command whose operands all lie within the sheet, or the fault.
-#[derive(Clone, Copy)]
-pub enum Whole {
-    By(Entry),
-    Refused(Fault),
+impl From<Refusal> for u8 {
+    ghost use Rattle.std.specs.Prelude.{◌≡◌};
+    ghost use Rattle.model.specs.Refusal.{number};
+    ghost use Rattle.commands.specs.View.{view_refusal};
+
+    ghost from_gives = { λ f n. n ≡ number (view_refusal f) };
+
+    fn from(f: Refusal) -> u8 {
+        f as u8
+    }
 }
 
-// A command and the place after it, or the fault.
-#[derive(Clone, Copy)]
-pub enum Decoded {
-    Got(Command, usize),
-    Refused(Fault),
-}
+impl fmt::Display for Fault {
+    ghost use Rattle.std.specs.Prelude.{Some};
+    ghost use Rattle.commands.specs.View.{fault_text};
 
-// The number of a refusal in documents 01 and 02.
-pub fn number(f: Refusal) -> u8
-    ensures { result ≡ number (view_refusal f) }
-{
-    match f {
-        Refusal::NoCommand => 1,
-        Refusal::CutShort => 2,
-        Refusal::ByteAfterEnd => 3,
-        Refusal::Misplaced => 4,
-        Refusal::CeilingPassed => 5,
-        Refusal::OutOfRange => 6,
-        Refusal::WordRepeated => 7,
-        Refusal::ReleasesNotRising => 8,
-        Refusal::LimitTooHigh => 9,
-        Refusal::BufferTooShort => 10,
-        Refusal::BufferFull => 11,
+    ghost output = { λ f. Some (fault_text f) };
+
+    fn fmt<W: fmt::Write>(&self, f: &mut fmt::Formatter<W>) -> fmt::Result {
+        write!(f, "{} {}", u8::from(self.refusal), self.place)
     }
 }
 
@@ -120,84 +111,58 @@ pub fn number(f: Refusal) -> u8
 pub fn byte(s: &[u8], at: usize) -> u8
     ensures { result ≡ get_or s.now at 0 }
 {
-    if at < s.len() { s[at] } else { 0 }
+    s.get(at).copied().unwrap_or(0)
 }
 
-// The big-endian number in two bytes, and in four.
-fn value2(s: &[u8], at: usize) -> u32
-    requires { at ≤ length s.now + 36 }
-    ensures { result ≡ big_endian s.now at 2 }
+// The big-endian number in N bytes.
+pub fn value<const N: usize>(s: &[u8], at: usize) -> u32
+    requires place { at ≤ length s.now + 36 }
+    requires fits { N ≤ 4 }
+    ensures { result ≡ big_endian s.now at N }
 {
-    byte(s, at) as u32 * 256 + byte(s, at + 1) as u32
+    let mut v = 0;
+    for i in 0..N {
+        v = v * 256 + byte(s, at + i) as u32;
+    }
+    v
 }
 
-pub fn value4(s: &[u8], at: usize) -> u32
-    requires { at ≤ length s.now + 36 }
-    ensures { result ≡ big_endian s.now at 4 }
-{
-    ((byte(s, at) as u32 * 256 + byte(s, at + 1) as u32) * 256 + byte(s, at + 2) as u32) * 256
-        + byte(s, at + 3) as u32
-}
-
-// The eight values of a BLOCK whose operands start at p.
+// The eight values of a BLOCK whose operands start at p. Written out: `array::from_fn` would be no plainer, and its proof longer.
 pub fn values(s: &[u8], p: usize) -> [u32; SheetCeilings::BLOCK_VALUES]
     requires { p ≤ length s.now }
     ensures { result ≡ values_from s.now p }
 {
     [
-        value4(s, p + 4),
-        value4(s, p + 8),
-        value4(s, p + 12),
-        value4(s, p + 16),
-        value4(s, p + 20),
-        value4(s, p + 24),
-        value4(s, p + 28),
-        value4(s, p + 32),
+        value::<4>(s, p + 4),
+        value::<4>(s, p + 8),
+        value::<4>(s, p + 12),
+        value::<4>(s, p + 16),
+        value::<4>(s, p + 20),
+        value::<4>(s, p + 24),
+        value::<4>(s, p + 28),
+        value::<4>(s, p + 32),
     ]
 }
 
 // The entry of the command at a place: 1 for no command, 2 for an end before or inside the command.
-fn entry_at(s: &[u8], at: usize) -> Whole
+fn entry_at(s: &[u8], at: usize) -> Result<Entry, Fault>
     ensures { EntrySays s.now at result }
 {
-    if s.len() <= at {
-        return Whole::Refused(Fault {
-            refusal: Refusal::CutShort,
-            place: s.len(),
-        });
-    }
-    let Named::By(e) = entry_of(s[at]) else {
-        return Whole::Refused(Fault {
-            refusal: Refusal::NoCommand,
-            place: at,
-        });
-    };
+    let b = s.get(at).ok_or(Fault {
+        refusal: Refusal::CutShort,
+        place: s.len(),
+    })?;
+    let e = entry_of(*b).ok_or(Fault {
+        refusal: Refusal::NoCommand,
+        place: at,
+    })?;
     if s.len() - (at + 1) < e.width as usize {
-        return Whole::Refused(Fault {
+        return Err(Fault {
             refusal: Refusal::CutShort,
             place: at,
         });
     }
-    Whole::By(e)
-}
-
-// GET or PUT by its byte, its operands starting at p.
-fn access_of(s: &[u8], p: usize, b: u8) -> Access
-    requires { p ≤ length s.now }
-    ensures { result ≡ access_from s.now p b }
-{
-    if b == 0x21 {
-        return Access::Get {
-            register: byte(s, p),
-            block: byte(s, p + 1),
-            offset: byte(s, p + 2),
-        };
-    }
-    Access::Put {
-        block: byte(s, p),
-        offset: byte(s, p + 1),
-        register: byte(s, p + 2),
-    }
+    Ok(e)
 }
 
 // The command of a byte, its operands starting at p; END where the byte names none.
@@ -206,17 +171,17 @@ fn command_of(s: &[u8], p: usize, b: u8) -> Command
     ensures { view_command (values_from s.now p) result ≡ command_of s.now p b }
 {
     match b {
-        0x01 => Command::Word(value4(s, p)),
-        0x02 => Command::Block(value4(s, p)),
+        0x01 => Command::Word(value::<4>(s, p)),
+        0x02 => Command::Block(value::<4>(s, p)),
         0x03 => Command::Task,
         0x04 => Command::Release(Release {
-            tick: value2(s, p),
+            tick: value::<2>(s, p),
             task: byte(s, p + 2),
         }),
         0x05 => Command::End,
         0x10 => Command::Body(BodyCommand::Load {
             register: byte(s, p),
-            value: value4(s, p + 1),
+            value: value::<4>(s, p + 1),
         }),
         0x11 => Command::Body(BodyCommand::Add {
             register: byte(s, p),
@@ -233,8 +198,16 @@ fn command_of(s: &[u8], p: usize, b: u8) -> Command
         })),
         0x14 => Command::Body(BodyCommand::Outside(Outside::Swap(byte(s, p)))),
         0x20 => Command::Body(BodyCommand::Outside(Outside::Begin)),
-        0x21 => Command::Body(BodyCommand::Inside(Inside::Access(access_of(s, p, b)))),
-        0x22 => Command::Body(BodyCommand::Inside(Inside::Access(access_of(s, p, b)))),
+        0x21 => Command::Body(BodyCommand::Inside(Inside::Access(Access::Get {
+            register: byte(s, p),
+            block: byte(s, p + 1),
+            offset: byte(s, p + 2),
+        }))),
+        0x22 => Command::Body(BodyCommand::Inside(Inside::Access(Access::Put {
+            block: byte(s, p),
+            offset: byte(s, p + 1),
+            register: byte(s, p + 2),
+        }))),
         0x23 => Command::Body(BodyCommand::Inside(Inside::Commit)),
         _ => Command::End,
     }
@@ -242,19 +215,10 @@ fn command_of(s: &[u8], p: usize, b: u8) -> Command
 
 // The command at a place of the sheet. It and the place after it are made apart: the one from the byte, the other from
 // the table's width.
-pub fn decode(s: &[u8], at: usize) -> Decoded
+pub fn decode(s: &[u8], at: usize) -> Result<(Command, usize), Fault>
     ensures { view_decoded (values_from s.now (suc at)) result ≡ command_at s.now at }
 {
-    let w = entry_at(s, at);
-    let Whole::By(e) = w else {
-        return match w {
-            Whole::Refused(f) => Decoded::Refused(f),
-            Whole::By(_) => Decoded::Refused(Fault {
-                refusal: Refusal::NoCommand,
-                place: at,
-            }),
-        };
-    };
+    let e = entry_at(s, at)?;
     let next = at + 1 + e.width as usize;
-    Decoded::Got(command_of(s, at + 1, e.byte), next)
+    Ok((command_of(s, at + 1, e.byte), next))
 }

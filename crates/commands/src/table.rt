@@ -1,9 +1,9 @@
 // THE table of the command bytes, with how many operand bytes follow each, and the search for a byte in it.
-ghost use Rattle.std.specs.Prelude.{◌≡◌, ◌≤◌, length, drop};
-ghost use Rattle.commands.specs.Table.{entries, entry_in, entry_of};
+ghost use Rattle.std.specs.Prelude.{◌≡◌};
+ghost use Rattle.commands.specs.Table.{entry_in, entry_of};
 
 // A command byte, and how many operand bytes follow it.
-#[derive(Clone, Copy)]
+#[derive(Clone, Copy, Debug, PartialEq, Eq)]
 pub struct Entry {
     pub byte: u8,
     pub width: u8,
@@ -71,36 +71,25 @@ pub const TABLE: [Entry; 14] = [
 // Where the entries of body commands start.
 const FIRST_BODY_ENTRY: usize = 5;
 
-// What names a byte's command: its entry, or nothing.
-#[derive(Clone, Copy)]
-pub enum Named {
-    By(Entry),
-    Nothing,
-}
-
-// The first entry, from a place in the table on, that has the byte.
-fn find(b: u8, first: usize) -> Named
-    requires { first ≤ length entries }
-    ensures { result ≡ entry_in b (drop first entries) }
+// The first of these entries that has the byte.
+fn find(b: u8, entries: &[Entry]) -> Option<Entry>
+    ensures { result ≡ entry_in b entries.now }
 {
-    let mut i = first;
-    while i < TABLE.len() {
-        let entry = TABLE[i];
+    for entry in entries {
         if entry.byte == b {
-            return Named::By(entry);
+            return Some(*entry);
         }
-        i += 1;
     }
-    Named::Nothing
+    None
 }
 
 // Sheet commands and body commands have a range of bytes each, in which the table names them; every other byte names no command.
-pub fn entry_of(b: u8) -> Named
+pub fn entry_of(b: u8) -> Option<Entry>
     ensures { result ≡ entry_of b }
 {
     match b {
-        0x01..=0x0F => find(b, 0),
-        0x10..=0x2F => find(b, FIRST_BODY_ENTRY),
-        _ => Named::Nothing,
+        0x01..=0x0F => find(b, &TABLE),
+        0x10..=0x2F => find(b, &TABLE[FIRST_BODY_ENTRY..]),
+        _ => None,
     }
 }

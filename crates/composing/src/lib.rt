@@ -48,7 +48,7 @@ pub fn declined(state: BuilderState, refusal: Refusal) -> Composed
 {
     let place = state.filled;
     Composed {
-        number: commands::number(refusal),
+        number: u8::from(refusal),
         place,
         state,
     }

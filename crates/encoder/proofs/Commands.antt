@@ -4,6 +4,7 @@ use mathlib.Core.Path.{◌≡◌, refl, sym, ap, ◌∙◌}
 use mathlib.Core.List.{List, [], ◌∷◌, ◌++◌}
 use native.Mathlib.Omega.{arith}
 use lib.ListN.{length, replicate}
+use Rattle.std.specs.Prelude.{Some}
 use lib.Seq.{sets, sets-eq}
 use Rattle.model.specs.Command.{GET, PUT, READ, PAIR, SWAP, BEGIN, access, COMMIT, LOAD, ADD, outside, inside}
 use Rattle.model.specs.Command.{WORD, BLOCK, TASK, RELEASE, END, body, table, row_by, row_of, total}
@@ -15,7 +16,6 @@ use Rattle.commands.specs.View.{view_command}
 use Rattle.commands.specs.declared.Command.{Command}
 use Rattle.commands.specs.declared.Command.TheVariants.{Word, Block, Task, Release, End, Body}
 use Rattle.commands.specs.declared.table.Entry.{Entry}
-use Rattle.commands.specs.declared.table.Named.TheVariants.{By}
 use Rattle.encoder.specs.Operands.{size_of, one, four, fours, command_operands}
 use Rattle.encoder.proofs.Stores.{fours-length, both-written}
 
@@ -23,7 +23,7 @@ use Rattle.encoder.proofs.Stores.{fours-length, both-written}
 abbrev entry : M.Command → Entry
 entry c = record { byte = byte_of c; width = total (widths_of c) }
 
-pub entry-is : (c : M.Command) → entry_of (byte_of c) ≡ By (entry c)
+pub entry-is : (c : M.Command) → entry_of (byte_of c) ≡ Some (entry c)
 unfolding entry_of entry_in entries table row_of row_by total widths_of
 entry-is (WORD v) = refl
 entry-is (BLOCK b) = refl

@@ -11,7 +11,7 @@ ghost use Rattle.encoder.specs.Operands.{one, two, four, fours};
 ghost use Rattle.encoder.specs.Operands.{outside_operands, access_operands, inside_operands, body_operands, command_operands};
 
 use commands::ceilings::SheetCeilings;
-use commands::table::{Named, entry_of};
+use commands::table::entry_of;
 use commands::{Access, BodyCommand, Command, Inside, Outside};
 
 fn byte_of_outside(c: Outside) -> u8
@@ -71,7 +71,7 @@ fn byte_of(c: Command) -> u8
 pub fn size(c: Command, values: [u32; SheetCeilings::BLOCK_VALUES]) -> usize
     ensures { result ≡ length (encode (view_command values c)) }
 {
-    let Named::By(e) = entry_of(byte_of(c)) else {
+    let Some(e) = entry_of(byte_of(c)) else {
         return 1;
     };
     // The proof learns an array's length from its slice.

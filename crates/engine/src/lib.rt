@@ -27,7 +27,7 @@ fn refused(f: Fault) -> Answer
 {
     let refusal = f.refusal;
     Answer {
-        number: commands::number(refusal),
+        number: u8::from(refusal),
         place: f.place,
     }
 }

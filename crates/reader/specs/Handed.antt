@@ -1,13 +1,14 @@
 -- What a reader hands out, and where it stands after it: past the command, or where it was at a fault.
-use Rattle.std.specs.Prelude.{ℕ, suc, ◌≡◌, List}
+use Rattle.std.specs.Prelude.{ℕ, suc, ◌≡◌, List, Result}
 use Rattle.model.specs.Command.{Found, found, refused, command_at}
 use Rattle.commands.specs.View.{view_decoded}
 use Rattle.commands.specs.Stages.{values_from}
-use Rattle.commands.specs.declared.Decoded.{Decoded}
+use Rattle.commands.specs.declared.Command.{Command}
+use Rattle.commands.specs.declared.Fault.{Fault}
 use Rattle.reader.specs.declared.Reader.{Reader}
 
 -- d is what stands at a place of the sheet: the command with its operands, BLOCK's values lying beside it, or the fault
-abbrev pub HandsOut : List ℕ → ℕ → Decoded → Type 0
+abbrev pub HandsOut : List ℕ → ℕ → Result (Command × ℕ) Fault → Type 0
 HandsOut sheet at d = view_decoded (values_from sheet (suc at)) d ≡ command_at sheet at
 
 -- the place after what was found at a place

@@ -5,8 +5,9 @@ ghost use Rattle.std.specs.Prelude.{◌≡◌, []};
 ghost use Rattle.commands.specs.View.{view_decoded};
 ghost use Rattle.reader.specs.Handed.{HandsOut, after, moved};
 
-use commands::Decoded;
+use commands::{Command, Fault};
 
+// No `Iterator`: it never ends by itself, but hands out the same fault again for ever.
 #[derive(Clone, Copy)]
 pub struct Reader<'a> {
     pub sheet: &'a [u8],
@@ -14,12 +15,12 @@ pub struct Reader<'a> {
 }
 
 // The place after what was found at a place: a fault moves nothing.
-pub fn place_after(at: usize, d: Decoded) -> usize
+pub fn place_after(at: usize, d: Result<(Command, usize), Fault>) -> usize
     ensures { result ≡ after at (view_decoded [] d) }
 {
     match d {
-        Decoded::Got(_, next) => next,
-        Decoded::Refused(_) => at,
+        Ok((_, next)) => next,
+        Err(_) => at,
     }
 }
 
@@ -32,7 +33,7 @@ impl<'a> Reader<'a> {
     }
 
     // Hands out the command at the offset, and moves past it.
-    pub fn next(&mut self) -> Decoded
+    pub fn next(&mut self) -> Result<(Command, usize), Fault>
         ensures { HandsOut self.old.sheet.now self.old.at result × (self.new ≡ moved self.old) }
     {
         let at = self.at;

@@ -300,15 +300,9 @@ here_by s x {at} {place} {k} {m} (first {next = next} {c = c} {l = l} f r) (good
 here_going : {s : List ℕ} {x : Sheet} {at : ℕ} → Going s x at → Here s x at
 here_going {s} {x} g = here_by s x g.stand g.faultless g.last g.left g.match g.full g.bodies g.released
 
-pub here : {s : List ℕ} {x : Sheet} {at : ℕ} → Walk s x at → at < length s → Here s x at
-here (going g) h = here_going g
-here (over d) h = absurd (omega arith)
-
-pub finished : {s : List ℕ} {x : Sheet} {at : ℕ} → Walk s x at → length s ≤ at → Indexed s x
-finished {s} {at = at} (going g) h =
-    let a = here_going g in
-    absurd (omega (arith, (next-after s at a.found_here).0, (next-after s at a.found_here).1))
-finished (over d) h = d
+pub here : {s : List ℕ} {x : Sheet} {at : ℕ} {c : Command} {next : ℕ} → Walk s x at → command_at s at ≡ found c next → Here s x at
+here (going g) e = here_going g
+here {at = at} (over d) e = absurd (omega (arith, (next-after _ at e).0, (next-after _ at e).1))
 
 -- the command that is decoded at a place of the walk
 module _ {s : List ℕ} {x : Sheet} {at : ℕ} (h : Here s x at) where
@@ -319,8 +313,13 @@ module _ {s : List ℕ} {x : Sheet} {at : ℕ} (h : Here s x at) where
       let d : h.next ≡ next = cc in
       (rw (← b) h.room, rw (← b, ← d) h.on)
 
-  pub not-refused : {A : Type 0} {f : Refusal} {q : ℕ} → command_at s at ≡ refused f q → A
+  not-refused : {A : Type 0} {f : Refusal} {q : ℕ} → command_at s at ≡ refused f q → A
   not-refused e =
       let a : command_at s at ≡ found h.command h.next = h.found_here in
       let z : ◌≡◌ {A = ℕ} 0 1 = cc in
       absurd (omega arith)
+
+-- no command is found where the walk is over
+pub finished : {s : List ℕ} {x : Sheet} {at : ℕ} {f : Refusal} {q : ℕ} → Walk s x at → command_at s at ≡ refused f q → Indexed s x
+finished (going g) e = not-refused (here_going g) e
+finished (over d) e = d

@@ -7,7 +7,7 @@ ghost use Rattle.model.specs.Command.{no_block};
 ghost use Rattle.sheet.specs.Indexed.{Indexed, Room, counted, place_or, empty_index, IsWord, IsBlock};
 
 use commands::ceilings::SheetCeilings;
-use commands::{Command, Decoded};
+use commands::Command;
 
 #[derive(Clone, Copy)]
 pub struct Sheet {
@@ -37,51 +37,39 @@ impl Sheet {
             released: 0,
         }
     }
-}
 
-// One more command, which stands at a place, the next one after it.
-#[tactic(auto, unfolding(crate::specs::Indexed::counted))]
-fn count(x: Sheet, c: Command, at: usize, next: usize) -> Sheet
-    requires { Room x (view_command [] c) }
-    ensures { result ≡ counted x (view_command [] c) at next }
-{
-    let mut y = x;
-    match c {
-        Command::Word(_) => {
-            y.words = x.words + 1;
-            y
+    // One more command, which stands at a place, the next one after it.
+    #[tactic(auto, unfolding(crate::specs::Indexed::counted))]
+    fn count(&mut self, c: Command, at: usize, next: usize)
+        requires { Room self.old (view_command [] c) }
+        ensures { self.new ≡ counted self.old (view_command [] c) at next }
+    {
+        match c {
+            Command::Word(_) => self.words += 1,
+            Command::Block(_) => self.blocks += 1,
+            Command::Task => {
+                self.bodies[self.tasks as usize] = next;
+                self.tasks += 1;
+            }
+            Command::Release(_) => {
+                self.released = self.first_place(at);
+                self.releases += 1;
+            }
+            Command::End => self.released = self.first_place(at),
+            Command::Body(_) => {}
         }
-        Command::Block(_) => {
-            y.blocks = x.blocks + 1;
-            y
-        }
-        Command::Task => {
-            let t = x.tasks as usize;
-            y.bodies[t] = next;
-            y.tasks = x.tasks + 1;
-            y
-        }
-        Command::Release(_) => {
-            y.released = first_place(x, at);
-            y.releases = x.releases + 1;
-            y
-        }
-        Command::End => {
-            y.released = first_place(x, at);
-            y
-        }
-        Command::Body(_) => y,
     }
-}
 
-// The place of the first release: this one, if there was none before.
-fn first_place(x: Sheet, at: usize) -> usize
-    ensures { result ≡ place_or (eqb x.releases 0) at x.released }
-{
-    if x.releases == 0 {
-        return at;
+    // The place of the first release: this one, if there was none before.
+    fn first_place(&self, at: usize) -> usize
+        ensures { result ≡ place_or (eqb self.now.releases 0) at self.now.released }
+    {
+        if self.releases == 0 {
+            at
+        } else {
+            self.released
+        }
     }
-    x.released
 }
 
 // The index of an accepted sheet, in one pass.
@@ -91,12 +79,8 @@ pub fn index(sheet: &[u8]) -> Sheet
 {
     let mut x = Sheet::empty();
     let mut at = 0;
-    while at < sheet.len() {
-        let d = commands::decode(sheet, at);
-        let Decoded::Got(c, next) = d else {
-            return x;
-        };
-        x = count(x, c, at, next);
+    while let Ok((c, next)) = commands::decode(sheet, at) {
+        x.count(c, at, next);
         at = next;
     }
     x
@@ -107,7 +91,7 @@ pub fn word(sheet: &[u8], i: usize) -> u32
     requires { IsWord sheet.now i }
     ensures { result ≡ get_or (sheet_of sheet.now).words i 0 }
 {
-    commands::value4(sheet, WORD_BYTES * i + 1)
+    commands::value::<4>(sheet, WORD_BYTES * i + 1)
 }
 
 // The version of a block, and its eight values; `words` is the number of words before the blocks.
@@ -115,7 +99,7 @@ pub fn version(sheet: &[u8], words: usize, i: usize) -> u32
     requires { IsBlock sheet.now words i }
     ensures { result ≡ (get_or (sheet_of sheet.now).blocks i no_block).version }
 {
-    commands::value4(sheet, WORD_BYTES * words + BLOCK_BYTES * i + 1)
+    commands::value::<4>(sheet, WORD_BYTES * words + BLOCK_BYTES * i + 1)
 }
 
 pub fn block_values(sheet: &[u8], words: usize, i: usize) -> [u32; SheetCeilings::BLOCK_VALUES]

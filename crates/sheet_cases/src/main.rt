@@ -53,7 +53,7 @@ fn answer(rt: &HostRuntime, sheet: &[u8]) -> io::Result<()> {
     match sheet_check::check(sheet) {
         Verdict::Accepted => println!(rt; "0 0"),
         Verdict::TurnedDown(f) => {
-            let number = commands::number(f.refusal);
+            let number = u8::from(f.refusal);
             let place = f.place;
             println!(rt; "{number} {place}")
         }

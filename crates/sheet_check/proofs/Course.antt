@@ -6,13 +6,15 @@ use mathlib.Core.List.{List, []}
 use native.Mathlib.Omega.{arith}
 use lib.Dec.{T}
 use lib.ListN.{length}
+use Rattle.std.specs.Prelude.{Result}
 use Rattle.model.specs.Command.{command_at}
 use Rattle.model.specs.Fault.{Known, nothing_known}
 use Rattle.model.specs.Sheet.{verdict}
 use Rattle.commands.specs.View.{view_decoded}
 use Rattle.rules.specs.View.{view_known}
 use Rattle.sheet.specs.View.{view_verdict}
-use Rattle.commands.specs.declared.Decoded.{Decoded}
+use Rattle.commands.specs.declared.Command.{Command}
+use Rattle.commands.specs.declared.Fault.{Fault}
 use Rattle.sheet.specs.declared.check.Judged.{Judged}
 use Rattle.sheet.specs.declared.check.Judged.TheVariants.{Stops, Goes}
 use Rattle.sheet.proofs.Reading.{start}
@@ -45,7 +47,7 @@ less s at next Goes (Stops v) t f = omega arith
 less s at next (Stops u) i t f = absurd t
 
 -- A COMMAND MORE
-module _ (s : List ℕ) (at : ℕ) (d : Decoded) (e : HandsOut s at d) (r : Reading) where
+module _ (s : List ℕ) (at : ℕ) (d : Result (Command × ℕ) Fault) (e : HandsOut s at d) (r : Reading) where
   moves : after at (view_decoded [] d) ≡ after at (command_at s at)
   moves = after-command s at d e (after at (view_decoded [] d)) refl
 

@@ -4,6 +4,7 @@ use mathlib.Core.Path.{◌≡◌, sym, subst}
 use mathlib.Core.Option.{none}
 use mathlib.Core.List.{List, []}
 use lib.ListN.{length}
+use Rattle.std.specs.Prelude.{Result, Ok, Err}
 use Rattle.model.specs.Fault.{Known, fault_of}
 use Rattle.model.specs.Sheet.{verdict}
 use Rattle.model.specs.Sheet as whole
@@ -13,8 +14,6 @@ use Rattle.commands.specs.Stages.{values_from}
 use Rattle.sheet.specs.Judgement.{JudgedSays}
 use Rattle.commands.specs.declared.Fault as F
 use Rattle.commands.specs.declared.Command.{Command}
-use Rattle.commands.specs.declared.Decoded.{Decoded}
-use Rattle.commands.specs.declared.Decoded.TheVariants.{Got, Refused}
 use Rattle.sheet.specs.declared.check.Judged.{Judged}
 use Rattle.sheet.specs.declared.check.Judged.TheVariants.{Stops, Goes}
 use Rattle.sheet.specs.declared.check.Verdict.{Verdict}
@@ -32,12 +31,12 @@ come r = record { left = r.left; enough = r.enough; same = r.same }
 abbrev pub gone : {s : List ℕ} {at : ℕ} {k : Known} → sheet.Reached s at k → Reached s at k
 gone r = record { left = r.left; enough = r.enough; same = r.same }
 
-module _ (s : List ℕ) (at : ℕ) (k : Known) (r : Reached s at k) (d : Decoded) (e : HandsOut s at d) where
-  pub at_fault : (f : F.Fault) → d ≡ Refused f → view_verdict (TurnedDown f) ≡ verdict s
+module _ (s : List ℕ) (at : ℕ) (k : Known) (r : Reached s at k) (d : Result (Command × ℕ) F.Fault) (e : HandsOut s at d) where
+  pub at_fault : (f : F.Fault) → d ≡ Err f → view_verdict (TurnedDown f) ≡ verdict s
   at_fault f is = is-refused s at k (come r) (sym (subst (HandsOut s at) is e))
 
-  module _ (c : Command) (next : ℕ) (is : d ≡ Got c next) (j : Judged) (says : JudgedSays s at k (view_command [] c) next j) where
-    found : HandsOut s at (Got c next)
+  module _ (c : Command) (next : ℕ) (is : d ≡ Ok (c, next)) (j : Judged) (says : JudgedSays s at k (view_command [] c) next j) where
+    found : HandsOut s at (Ok (c, next))
     found = subst (HandsOut s at) is e
 
     pub at-stop : (v : Verdict) → j ≡ Stops v → view_verdict v ≡ verdict s

@@ -12,7 +12,7 @@ ghost use Rattle.sheet.specs.declared.check.Judged.TheVariants as judged;
 ghost use Rattle.reader.specs.Handed.{HandsOut, after};
 ghost use Rattle.sheet_check.specs.Read.{Reached, goes?, CameTo, verdict_of};
 
-use commands::Decoded;
+use commands::{Command, Fault};
 use reader::Reader;
 use rules::known::Known;
 use sheet::check::{Judged, Verdict, judge};
@@ -57,34 +57,35 @@ impl Reading {
 }
 
 // The reading after what was handed out at a place.
-fn read_on(sheet: &[u8], at: usize, reading: Reading, d: Decoded) -> Reading
+fn read_on(
+    sheet: &[u8],
+    at: usize,
+    reading: Reading,
+    d: Result<(Command, usize), Fault>,
+) -> Reading
     requires { Reached sheet.now at (view_known reading.known) × HandsOut sheet.now at d }
     ensures { CameTo sheet.now at (after at (view_decoded [] d)) result }
 {
     let known = reading.known;
-    let Decoded::Got(c, next) = d else {
-        return match d {
-            Decoded::Refused(f) => Reading {
-                known,
-                judged: Judged::Stops(Verdict::TurnedDown(f)),
-            },
-            Decoded::Got(_, _) => Reading {
-                known,
-                judged: Judged::Stops(Verdict::Accepted),
-            },
-        };
-    };
-    let j = judge(sheet, at, known, c, next);
-    if let Judged::Stops(v) = j {
-        return Reading {
+    match d {
+        Ok((c, next)) => {
+            let j = judge(sheet, at, known, c, next);
+            if let Judged::Stops(v) = j {
+                return Reading {
+                    known,
+                    judged: Judged::Stops(v),
+                };
+            }
+            let k = learned::after(known, c);
+            Reading {
+                known: k,
+                judged: Judged::Goes,
+            }
+        }
+        Err(f) => Reading {
             known,
-            judged: Judged::Stops(v),
-        };
-    }
-    let k = learned::after(known, c);
-    Reading {
-        known: k,
-        judged: Judged::Goes,
+            judged: Judged::Stops(Verdict::TurnedDown(f)),
+        },
     }
 }
 

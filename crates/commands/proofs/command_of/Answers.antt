@@ -1,11 +1,11 @@
 -- `command_of` meets its contract.
 use Rattle.model.specs.Command.{row_of, table}
-use Rattle.commands.specs.Stages.{access_from}
 use Rattle.commands.proofs.Decoding.{begin-command, block_command, commit-command, end_command, get_command}
 use Rattle.commands.proofs.Decoding.{load-command, no-command, pair_command, put_command, read-command}
 use Rattle.commands.proofs.Decoding.{release-command, sum_command, swap-command, task-command, word-command}
 use borrow.Author.Tests.{ne_eqb}
 use mathlib.Core.Path.{sym}
+use native.Mathlib.Omega.{arith}
 use Rattle.commands.proofs.command_of.Goals as goal
 
 pub returns-in-1 : goal.returns-in-1
@@ -42,12 +42,10 @@ pub returns-in-32 : goal.returns-in-32
 returns-in-32 c = rw (c.in-32.is, begin-command)
 
 pub returns-in-33 : goal.returns-in-33
-unfolding access_from
-returns-in-33 c = rw (c.access_of.ensures, c.in-33.is, get_command)
+returns-in-33 c = rw (c.in-33.is, get_command) (cc)
 
 pub returns-in-34 : goal.returns-in-34
-unfolding access_from
-returns-in-34 c = rw (c.access_of-in-34.ensures, c.in-34.is, put_command)
+returns-in-34 c = rw (c.in-34.is, put_command) (cc)
 
 pub returns-in-35 : goal.returns-in-35
 returns-in-35 c = rw (c.in-35.is, commit-command)
@@ -57,18 +55,18 @@ unfolding row_of table
 returns-in_default c =
     let b = c.args.b in
     sym (no-command _ _ b (simp (
-      ne_eqb b 1 c.in_default.in_default-own.rest.0.0.0.0.0.0.0.0.0.0.0.0.0.1,
-      ne_eqb b 2 c.in_default.in_default-own.rest.0.0.0.0.0.0.0.0.0.0.0.0.1,
-      ne_eqb b 3 c.in_default.in_default-own.rest.0.0.0.0.0.0.0.0.0.0.0.1,
-      ne_eqb b 4 c.in_default.in_default-own.rest.0.0.0.0.0.0.0.0.0.0.1,
-      ne_eqb b 5 c.in_default.in_default-own.rest.0.0.0.0.0.0.0.0.0.1,
-      ne_eqb b 16 c.in_default.in_default-own.rest.0.0.0.0.0.0.0.0.1,
-      ne_eqb b 17 c.in_default.in_default-own.rest.0.0.0.0.0.0.0.1,
-      ne_eqb b 18 c.in_default.in_default-own.rest.0.0.0.0.0.0.1,
-      ne_eqb b 19 c.in_default.in_default-own.rest.0.0.0.0.0.1,
-      ne_eqb b 20 c.in_default.in_default-own.rest.0.0.0.0.1,
-      ne_eqb b 32 c.in_default.in_default-own.rest.0.0.0.1,
-      ne_eqb b 33 c.in_default.in_default-own.rest.0.0.1,
-      ne_eqb b 34 c.in_default.in_default-own.rest.0.1,
-      ne_eqb b 35 c.in_default.in_default-own.rest.1,
+      ne_eqb b 1 (λ e. omega arith),
+      ne_eqb b 2 (λ e. omega arith),
+      ne_eqb b 3 (λ e. omega arith),
+      ne_eqb b 4 (λ e. omega arith),
+      ne_eqb b 5 (λ e. omega arith),
+      ne_eqb b 16 (λ e. omega arith),
+      ne_eqb b 17 (λ e. omega arith),
+      ne_eqb b 18 (λ e. omega arith),
+      ne_eqb b 19 (λ e. omega arith),
+      ne_eqb b 20 (λ e. omega arith),
+      ne_eqb b 32 (λ e. omega arith),
+      ne_eqb b 33 (λ e. omega arith),
+      ne_eqb b 34 (λ e. omega arith),
+      ne_eqb b 35 (λ e. omega arith),
     )))

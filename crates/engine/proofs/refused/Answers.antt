@@ -2,4 +2,4 @@
 use Rattle.engine.proofs.refused.Goals as goal
 
 pub returns : goal.returns
-returns c = rw c.number.ensures
+returns c = rw c.from.ensures

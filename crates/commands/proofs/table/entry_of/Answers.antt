@@ -5,19 +5,14 @@ use lib.ListN.{drop, take}
 use mathlib.Core.Logic.{inl, inr}
 use mathlib.Core.Path.{◌∙◌, refl, sym}
 use native.Mathlib.Omega.{arith}
-use borrow.Author.Rules.{rules}
 use Rattle.commands.proofs.table.entry_of.Goals as goal
 
-pub find-requires-in-16-to-47 : goal.find-requires-in-16-to-47
-unfolding entries
-find-requires-in-16-to-47 c = search rules
-
 pub returns-in-1-to-15 : goal.returns-in-1-to-15
-unfolding entry_of
-returns-in-1-to-15 c = search rules
+unfolding entry_of entries
+returns-in-1-to-15 c = c.find.ensures
 
 pub returns-in-16-to-47 : goal.returns-in-16-to-47
-unfolding entry_of between?
+unfolding entry_of entries between?
 returns-in-16-to-47 c =
     let b = c.args.b in
     c.find-in-16-to-47.ensures

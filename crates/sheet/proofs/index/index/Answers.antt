@@ -1,51 +1,33 @@
--- `index` meets its contract. The loop's invariant: the index is right so far, and the commands to come declare what is left.
+-- `index` meets its contract.
 use Prim.Native.Nat.{suc}
 use Rattle.model.specs.Command.{command_at, found}
-use Rattle.sheet.proofs.Indexing.{begin, finished, here, is_found, not-refused}
+use Rattle.sheet.proofs.Indexing.{begin, finished, here, is_found}
 use Rattle.sheet.proofs.Reading.{next-after}
 use Rattle.sheet.proofs.Values.{counted-values, room-values}
 use Rattle.commands.specs.Stages.{values_from}
-use Rattle.commands.specs.declared.Decoded.TheVariants.{Refused}
 use mathlib.Core.Path.{◌≡◌, sym}
 use native.Mathlib.Omega.{arith}
 use Rattle.sheet.proofs.index.index.Goals as goal
 
-pub loop-at-init : goal.loop-at-init
-loop-at-init c = begin _ _ c.empty-x.ensures c.requires
+pub loop-c-init : goal.loop-c-init
+loop-c-init c = begin _ _ c.empty-x.ensures c.requires
 
-pub returns-in_default : goal.returns-in_default
-returns-in_default c =
-    let e : c.decode-d.result ≡ Refused c.in_default.field-0 = c.in_default.is in
-    not-refused (here c.loop-at.invariant c.loop-at-test.true)
-    (sym (rw e at c.decode-d.ensures))
+pub count-requires : goal.count-requires
+count-requires c =
+    let vs = values_from c.args.sheet.now (suc c.loop-c.at) in
+    let e = sym c.in-Ok.ensures in
+    room-values vs c.loop-c.x c.in-Ok.c (is_found (here c.loop-c.invariant e) e).0
 
-pub count-x-requires : goal.count-x-requires
-count-x-requires c =
-    let vs = values_from c.args.sheet.now
-    (suc c.loop-at.at) in
-    room-values vs c.loop-at.x c.in-Got.c
-    (is_found (here c.loop-at.invariant c.loop-at-test.true)
-    (sym c.in-Got.ensures)).0
-
-pub loop-at-smaller : goal.loop-at-smaller
-loop-at-smaller c =
-    let e : command_at c.args.sheet.now
-    c.loop-at.at
-    ≡ found _ c.in-Got.next = sym
-    c.in-Got.ensures in
+pub loop-c-smaller : goal.loop-c-smaller
+loop-c-smaller c =
+    let e : command_at c.args.sheet.now c.loop-c.at ≡ found _ c.in-Ok.next = sym c.in-Ok.ensures in
     omega (arith, (next-after _ _ e).0, (next-after _ _ e).1)
 
-pub loop-at-preserved : goal.loop-at-preserved
-loop-at-preserved c =
-    let vs = values_from c.args.sheet.now
-    (suc c.loop-at.at) in
-    rw (
-      c.count-x.ensures,
-      ← counted-values vs c.loop-at.x c.in-Got.c
-          c.loop-at.at c.in-Got.next,
-    )
-    (is_found (here c.loop-at.invariant c.loop-at-test.true)
-    (sym c.in-Got.ensures)).1
+pub loop-c-preserved : goal.loop-c-preserved
+loop-c-preserved c =
+    let vs = values_from c.args.sheet.now (suc c.loop-c.at) in
+    let e = sym c.in-Ok.ensures in
+    rw (c.count.ensures, ← counted-values vs c.loop-c.x c.in-Ok.c c.loop-c.at c.in-Ok.next) (is_found (here c.loop-c.invariant e) e).1
 
 pub returns : goal.returns
-returns c = finished c.loop-at.invariant c.loop-at-test.false
+returns c = finished c.loop-c.invariant (sym c.in_default.ensures)

@@ -4,8 +4,8 @@ use Rattle.sheet.proofs.Indexing.{Walk}
 use lib.ListN.{length}
 use Rattle.sheet.proofs.index.index.Given as goal
 
-abbrev pub invariant-loop-at : goal.invariant-loop-at
-invariant-loop-at l = Walk l.sheet l.x l.at
+abbrev pub invariant-loop-c : goal.invariant-loop-c
+invariant-loop-c l = Walk l.sheet l.x l.at
 
-abbrev pub decreases-loop-at : goal.decreases-loop-at
-decreases-loop-at l = length l.sheet - l.at
+abbrev pub decreases-loop-c : goal.decreases-loop-c
+decreases-loop-c l = length l.sheet - l.at

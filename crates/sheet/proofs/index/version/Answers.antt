@@ -18,12 +18,12 @@ overflow_add-words c = omega (arith, fits _ c.requires.sound, c.requires, c.requ
 pub overflow_add-words-2 : goal.overflow_add-words-2
 overflow_add-words-2 c = omega (arith, fits _ c.requires.sound, c.requires, c.requires.declared)
 
-pub value4-requires : goal.value4-requires
-value4-requires c = omega (arith, fits _ c.requires.sound, c.requires, c.requires.declared)
+pub value-requires : goal.value-requires
+value-requires c = omega (arith, fits _ c.requires.sound, c.requires, c.requires.declared)
 
 pub returns : goal.returns
 returns c =
     let s = c.args.sheet.now in
-    c.value4.ensures ∙ ap (λ (p : ℕ). big_endian s p 4) (omega (arith, c.requires))
+    c.value.ensures ∙ ap (λ (p : ℕ). big_endian s p 4) (omega (arith, c.requires))
     ∙ sym (ap (λ (b : Block). b.version)
     (block_of s c.requires.sound c.args.i no_block c.requires.declared))

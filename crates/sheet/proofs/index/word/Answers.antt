@@ -12,11 +12,11 @@ overflow_mul-i c = omega (arith, fits _ c.requires.sound, c.requires.declared)
 pub overflow_add-i : goal.overflow_add-i
 overflow_add-i c = omega (arith, fits _ c.requires.sound, c.requires.declared)
 
-pub value4-requires : goal.value4-requires
-value4-requires c = omega (arith, fits _ c.requires.sound, c.requires.declared)
+pub value-requires : goal.value-requires
+value-requires c = omega (arith, fits _ c.requires.sound, c.requires.declared)
 
 pub returns : goal.returns
 returns c =
     let s = c.args.sheet.now in
-    c.value4.ensures ∙ ap (λ (p : ℕ). big_endian s p 4) (omega arith)
+    c.value.ensures ∙ ap (λ (p : ℕ). big_endian s p 4) (omega arith)
     ∙ sym (word_of s c.requires.sound c.args.i c.requires.declared)
