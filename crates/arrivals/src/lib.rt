@@ -7,7 +7,7 @@ ghost use Rattle.arrivals.specs.Releases.{unfinished?, dropped_by, waiting_by, b
 
 use commands::ceilings::TaskCeilings;
 use jobs::{Job, Phase};
-use state::{Task, task};
+use state::Task;
 
 pub mod releases;
 
@@ -65,7 +65,7 @@ fn zero(task: &mut Task)
 {
     let mut n: u8 = 0;
     while n < TaskCeilings::REGISTERS {
-        task::set_register(&mut *task, n, 0);
+        task.set_register(n, 0);
         n += 1;
     }
 }

@@ -8,7 +8,7 @@ ghost use Rattle.exchanges.specs.Exchange.{after_mark, after_install, cleaning, 
 ghost use Rattle.exchanges.specs.Exchange.{after_clean, after_clean_mark, after_exchange};
 
 use crate::{places, read};
-use state::{Memory, Task, Word, shared, task};
+use state::{Memory, Task, Word};
 
 #[derive(Clone, Copy)]
 pub enum Step {
@@ -44,7 +44,7 @@ pub enum Exchanged {
 pub fn start(memory: &mut Memory, p: u8) -> Step
     ensures { went result (shared memory.new) ≡ after_start (shared memory.old) p }
 {
-    shared::set_status(&mut *memory, p as usize, 0);
+    memory.set_status(p as usize, 0);
     Step::Test(0)
 }
 
@@ -54,7 +54,7 @@ fn test(memory: &Memory, p: u8, k: u8, i: u8) -> Step
     if i == k {
         return Step::Commit(i);
     }
-    if shared::status(memory, p as usize) == 1 {
+    if memory.status(p as usize) == 1 {
         return Step::Commit(i);
     }
     Step::Load(i)
@@ -63,45 +63,45 @@ fn test(memory: &Memory, p: u8, k: u8, i: u8) -> Step
 fn load(memory: &Memory, task: &mut Task, i: u8) -> Step
     ensures { noted result (own task.new) ≡ after_load (shared memory.now) (own task.old) i }
 {
-    let cell = task::target(&*task, i) as usize;
-    let word = shared::cell(memory, cell);
-    task::set_init(&mut *task, i, word);
-    task::set_overlapped(&mut *task, i, 0);
+    let cell = task.target(i) as usize;
+    let word = memory.cell(cell);
+    task.set_init(i, word);
+    task.set_overlapped(i, 0);
     Step::Look(i)
 }
 
 fn look(memory: &Memory, task: &mut Task, i: u8) -> Exchanged
     ensures { noted result (own task.new) ≡ after_look (shared memory.now) (own task.old) i }
 {
-    let word = task::init(&*task, i);
+    let word = task.init(i);
     if read::own(memory, word) {
-        task::set_overlapped(&mut *task, i, 0);
+        task.set_overlapped(i, 0);
         let value = state::value_of(word);
         return Exchanged::Finds(Found { i, value });
     }
-    task::set_overlapped(&mut *task, i, 1);
+    task.set_overlapped(i, 1);
     Exchanged::Goes(Step::Fetch(i))
 }
 
 fn fetch(memory: &Memory, task: &Task, i: u8) -> Exchanged
     ensures { result ≡ after_fetch (shared memory.now) (own task.now) i }
 {
-    let value = read::saved(memory, task::init(task, i));
+    let value = read::saved(memory, task.init(i));
     Exchanged::Finds(Found { i, value })
 }
 
 fn save(memory: &mut Memory, task: &Task, p: u8, i: u8, value: u32) -> Step
     ensures { went result (shared memory.new) ≡ after_save (shared memory.old) (own task.now) p i value }
 {
-    shared::set_save(&mut *memory, places::slot(p as u32, i), value);
-    let old = task::old(task, i);
+    memory.set_save(places::slot(p as u32, i), value);
+    let old = task.old(i);
     if value != old {
         return Step::Fail(i);
     }
-    if task::overlapped(task, i) == 0 {
+    if task.overlapped(i) == 0 {
         return Step::Install(i);
     }
-    if old == task::new(task, i) {
+    if old == task.new(i) {
         return Step::Install(i);
     }
     Step::Mark(i)
@@ -110,7 +110,7 @@ fn save(memory: &mut Memory, task: &Task, p: u8, i: u8, value: u32) -> Step
 fn fail(memory: &mut Memory, p: u8, i: u8) -> Step
     ensures { went result (shared memory.new) ≡ after_fail (shared memory.old) p i }
 {
-    shared::set_status(&mut *memory, p as usize, 1);
+    memory.set_status(p as usize, 1);
     Step::Test(i)
 }
 
@@ -118,8 +118,8 @@ fn fail(memory: &mut Memory, p: u8, i: u8) -> Step
 fn mark_task(memory: &mut Memory, task: &Task, i: u8)
     ensures { shared memory.new ≡ marked (shared memory.old) (own task.now) i }
 {
-    let marked = state::task_of(task::init(task, i)) as usize;
-    shared::set_status(&mut *memory, marked, 1);
+    let marked = state::task_of(task.init(i)) as usize;
+    memory.set_status(marked, 1);
 }
 
 fn mark(memory: &mut Memory, task: &Task, i: u8) -> Step
@@ -134,7 +134,7 @@ fn installed(task: &Task, p: u8, i: u8) -> u64
     ensures { result ≡ installed_at (own task.now) p i }
 {
     Word {
-        value: task::new(task, i),
+        value: task.new(i),
         count: i,
         valid: false,
         task: p,
@@ -145,10 +145,10 @@ fn installed(task: &Task, p: u8, i: u8) -> u64
 fn install(memory: &mut Memory, task: &Task, p: u8, i: u8) -> Step
     ensures { went result (shared memory.new) ≡ after_install (shared memory.old) (own task.now) p i }
 {
-    let cell = task::target(task, i) as usize;
-    if shared::cell(&*memory, cell) == task::init(task, i) {
+    let cell = task.target(i) as usize;
+    if memory.cell(cell) == task.init(i) {
         let word = installed(task, p, i);
-        shared::set_cell(&mut *memory, cell, word);
+        memory.set_cell(cell, word);
         return Step::Test(places::next(i));
     }
     Step::Fail(places::next(i))
@@ -168,8 +168,8 @@ fn commit(memory: &mut Memory, p: u8, i: u8) -> Exchanged
     ensures { went result (shared memory.new) ≡ after_commit (shared memory.old) p i }
 {
     let task = p as usize;
-    if shared::status(&*memory, task) == 0 {
-        shared::set_status(&mut *memory, task, 2);
+    if memory.status(task) == 0 {
+        memory.set_status(task, 2);
         return to_clean(i, true);
     }
     to_clean(i, false)
@@ -199,10 +199,10 @@ fn as_new(old: u32, new: u32, yes: bool) -> bool
 fn clean(memory: &mut Memory, task: &Task, p: u8, i: u8, j: u8, yes: bool) -> Exchanged
     ensures { went result (shared memory.new) ≡ after_clean (shared memory.old) (own task.now) p i j yes }
 {
-    let cell = task::target(task, j) as usize;
-    let new = task::new(task, j);
-    let mine = shared::cell(&*memory, cell) == installed(task, p, j);
-    if as_new(task::old(task, j), new, yes) {
+    let cell = task.target(j) as usize;
+    let new = task.new(j);
+    let mine = memory.cell(cell) == installed(task, p, j);
+    if as_new(task.old(j), new, yes) {
         if mine {
             let word = Word {
                 value: new,
@@ -211,17 +211,17 @@ fn clean(memory: &mut Memory, task: &Task, p: u8, i: u8, j: u8, yes: bool) -> Ex
                 task: p,
             }
             .pack();
-            shared::set_cell(&mut *memory, cell, word);
+            memory.set_cell(cell, word);
             return to_next(i, j, yes);
         }
         return to_next(i, j, yes);
     }
     if mine {
-        let word = task::init(task, j);
-        shared::set_cell(&mut *memory, cell, word);
+        let word = task.init(j);
+        memory.set_cell(cell, word);
         return to_next(i, j, yes);
     }
-    if task::overlapped(task, j) == 0 {
+    if task.overlapped(j) == 0 {
         return to_next(i, j, yes);
     }
     Exchanged::Goes(Step::CleanMark(i, j, yes))

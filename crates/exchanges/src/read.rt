@@ -4,7 +4,7 @@ ghost use Rattle.state.specs.State.{shared};
 ghost use Rattle.exchanges.specs.Reading.{owned, saved_for, current_in, after_look, after_reading};
 
 use crate::places;
-use state::{Memory, shared};
+use state::Memory;
 
 #[derive(Clone, Copy)]
 pub enum Reading {
@@ -26,24 +26,21 @@ pub fn own(memory: &Memory, word: u64) -> bool
     if state::valid_of(word) {
         return true;
     }
-    shared::status(memory, state::task_of(word) as usize) == 2
+    memory.status(state::task_of(word) as usize) == 2
 }
 
 // The save place of a word's task and count.
 pub fn saved(memory: &Memory, word: u64) -> u32
     ensures { result ≡ saved_for (shared memory.now) word }
 {
-    shared::save(
-        memory,
-        places::slot(state::task_of(word), state::count_of(word)),
-    )
+    memory.save(places::slot(state::task_of(word), state::count_of(word)))
 }
 
 // The current value of a cell: its word's own value if that counts, else the save place.
 pub fn current(memory: &Memory, cell: usize) -> u32
     ensures { result ≡ current_in (shared memory.now) cell }
 {
-    let word = shared::cell(memory, cell);
+    let word = memory.cell(cell);
     if own(memory, word) {
         return state::value_of(word);
     }
@@ -64,7 +61,7 @@ pub fn read_tick(memory: &Memory, cell: usize, step: Reading) -> Read
 {
     match step {
         Reading::Load => {
-            return Read::Reads(Reading::Look(shared::cell(memory, cell)));
+            return Read::Reads(Reading::Look(memory.cell(cell)));
         }
         Reading::Look(word) => {
             return look(memory, word);

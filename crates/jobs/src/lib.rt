@@ -11,7 +11,7 @@ use commands::Access;
 use commands::ceilings::TaskCeilings;
 use exchanges::exchange::{Exchanged, Step};
 use exchanges::read::{Read, Reading};
-use state::{Task, Word, task};
+use state::{Task, Word};
 
 // The inner step of a transaction: between inner steps; in the first reading of a bank word; after n copied values;
 // in the second reading, with the value that GET fetched; in the exchange of COMMIT.
@@ -98,18 +98,15 @@ pub const DROPPED: u8 = 4;
 pub fn count(task: &mut Task, n: u8)
     ensures { own task.new ≡ counted (own task.old) n }
 {
-    let before = task::count(&*task, n);
-    task::set_count(&mut *task, n, std::num::wrapping_add_u32(before, 1));
+    let before = task.count(n);
+    task.set_count(n, std::num::wrapping_add_u32(before, 1));
 }
 
 pub fn add(task: &mut Task, register: u8, other: u8)
     ensures { own task.new ≡ added (own task.old) register other }
 {
-    let sum = std::num::wrapping_add_u32(
-        task::register(&*task, register),
-        task::register(&*task, other),
-    );
-    task::set_register(&mut *task, register, sum);
+    let sum = std::num::wrapping_add_u32(task.register(register), task.register(other));
+    task.set_register(register, sum);
 }
 
 // BEGIN keeps the eight registers, a restart gives them back.
@@ -118,8 +115,8 @@ pub fn keep(task: &mut Task)
 {
     let mut n: u8 = 0;
     while n < TaskCeilings::REGISTERS {
-        let value = task::register(&*task, n);
-        task::set_kept(&mut *task, n, value);
+        let value = task.register(n);
+        task.set_kept(n, value);
         n += 1;
     }
 }
@@ -129,8 +126,8 @@ pub fn restore(task: &mut Task)
 {
     let mut n: u8 = 0;
     while n < TaskCeilings::REGISTERS {
-        let value = task::kept(&*task, n);
-        task::set_register(&mut *task, n, value);
+        let value = task.kept(n);
+        task.set_register(n, value);
         n += 1;
     }
 }
@@ -139,12 +136,12 @@ pub fn restore(task: &mut Task)
 pub fn enter(task: &mut Task, n: u8, target: u32, old: u32, new: u32)
     ensures { own task.new ≡ entered (own task.old) n target old new }
 {
-    task::set_target(&mut *task, n, target);
-    task::set_old(&mut *task, n, old);
-    task::set_new(&mut *task, n, new);
+    task.set_target(n, target);
+    task.set_old(n, old);
+    task.set_new(n, new);
     let word = Word::fresh(0).pack();
-    task::set_init(&mut *task, n, word);
-    task::set_overlapped(&mut *task, n, 0);
+    task.set_init(n, word);
+    task.set_overlapped(n, 0);
 }
 
 // The line after the one at work.
@@ -169,7 +166,7 @@ pub fn read_by(task: &mut Task, job: Job, register: u8, word: u8, read: Read) ->
             return in_phase(job, Phase::Read(register, word, step));
         }
         Read::Gives(value) => {
-            task::set_register(&mut *task, register, value);
+            task.set_register(register, value);
             return done(job, job.pairs);
         }
     }
@@ -183,7 +180,7 @@ pub fn swap_by(task: &mut Task, job: Job, register: u8, exchanged: Exchanged) ->
             return in_phase(job, Phase::Exchange(register, step));
         }
         Exchanged::Ends(yes) => {
-            task::set_register(&mut *task, register, yes as u32);
+            task.set_register(register, yes as u32);
             return done(job, 0);
         }
         Exchanged::Finds(found) => {

@@ -13,7 +13,9 @@ use Rattle.model.specs.Lists.{at, replace}
 use Rattle.model.proofs.Lists.{at_map, map-replace}
 use Rattle.model.specs.Command.{command_at}
 use Rattle.commands.specs.declared.BodyCommand.{BodyCommand}
-use Rattle.state.specs.State.{Shared, shared, Own, own}
+use Rattle.state.specs.State.{Shared, shared, Own, own, no_own, no_task}
+use Rattle.state.specs.declared.memory.Memory.{Memory}
+use Rattle.state.specs.declared.task.Task.{Task}
 use Rattle.commands.specs.declared.BodyCommand.TheVariants as B
 use Rattle.exchanges.specs.Places.{if, Noted, noted, Left, left}
 use Rattle.jobs.specs.declared.Phase.{Phase}
@@ -37,16 +39,16 @@ apart_most true = omega arith
 apart_most false = omega arith
 
 -- ONE RECORD OF ALL is replaced, and read
-record_set : (ts : List (List ℕ)) (i : ℕ) (t : List ℕ) → map own (set ts i t) ≡ set (map own ts) i (own t)
+record_set : (ts : List Task) (i : ℕ) (t : Task) → map own (set ts i t) ≡ set (map own ts) i (own t)
 unfolding replace
 record_set ts i t = map-replace own ts i t
 
-record_at : (ts : List (List ℕ)) (i : ℕ) → get_or (map own ts) i (own []) ≡ own (get_or ts i [])
+record_at : (ts : List Task) (i : ℕ) → get_or (map own ts) i no_own ≡ own (get_or ts i no_task)
 unfolding at
-record_at ts i = at_map own [] ts i
+record_at ts i = at_map own no_task ts i
 
 -- and replaced again, by what was made of it
-record_twice : (ts : List (List ℕ)) (i : ℕ) (x z : List ℕ) (f : Own → Own) → own z ≡ f (own (get_or (set ts i x) i []))
+record_twice : (ts : List Task) (i : ℕ) (x z : Task) (f : Own → Own) → own z ≡ f (own (get_or (set ts i x) i no_task))
     → map own (set (set ts i x) i z) ≡ set (map own ts) i (f (own x))
 record_twice [] i x z f e = refl
 record_twice (t ∷ ts) zero x z f e = ap (λ (y : Own). y ∷ map own ts) e
@@ -69,7 +71,7 @@ pub resumed : (sheet : List ℕ) (program : List BodyCommand) (bounds : List ℕ
 resumed sheet program bounds limit m ts js n ws y r t u e = rw (set-get_or js 0 no_job) at e
 
 -- A RELEASE to task p: its job, and whether that is still at work
-module _ (bounds : List ℕ) (m : Shared) (ts : List (List ℕ)) (jobs : List Job) (k : Job) (n : ℕ) (ws : List ℕ)
+module _ (bounds : List ℕ) (m : Shared) (ts : List Task) (jobs : List Job) (k : Job) (n : ℕ) (ws : List ℕ)
     (y : Option ℕ) (r t task next q p : ℕ) where
   abbrev found : Job
   found = get_or (set jobs q k) p no_job
@@ -77,12 +79,12 @@ module _ (bounds : List ℕ) (m : Shared) (ts : List (List ℕ)) (jobs : List Jo
   abbrev works? : Bool
   works? = unfinished? found.phase
 
-  pub release-turn : (x z : List ℕ) {n' b line : ℕ} {j : Job}
+  pub release-turn : (x z : Task) {n' b line : ℕ} {j : Job}
       → p ≡ task % 8
       → b ≡ waiting_by works? (get_or ws p 0)
       → n' ≡ begun_by works? n p
-      → own x ≡ dropped_by works? (get_or ws p 0) (own (get_or ts p []))
-      → own z ≡ zeroed_by works? (own (get_or (set ts p x) p []))
+      → own x ≡ dropped_by works? (get_or ws p 0) (own (get_or ts p no_task))
+      → own z ≡ zeroed_by works? (own (get_or (set ts p x) p no_task))
       → line ≡ at 0 bounds p
       → j ≡ started_by works? found line
       → flat m (map own (set (set ts p x) p z)) (set (set jobs q k) p j) n' (set ws p b) None next t
@@ -97,7 +99,7 @@ pub finished-tick : (end : ℕ) {s j : Job} {m : Shared} {x y : Own} {l : Left J
     → left j m y ≡ tick_of end l
 finished-tick end {m = m} e f = rw (← e) (ap (λ (w : Noted Job). left w.next m w.task) f)
 
-pub came : (end : ℕ) (x : List ℕ) {i j : Job} {a b : List ℕ} {k l : Left Job} → j ≡ i → b ≡ a → left i (shared a) (own x) ≡ tick_of end k → k ≡ l
+pub came : (end : ℕ) (x : Task) {i j : Job} {a b : Memory} {k l : Left Job} → j ≡ i → b ≡ a → left i (shared a) (own x) ≡ tick_of end k → k ≡ l
     → left j (shared b) (own x) ≡ tick_of end l
 came end x e1 e2 e3 e4 = rw (e1, e2, ← e4) e3
 
@@ -112,16 +114,16 @@ module _ (program : List BodyCommand) (m : Shared) (t : Own) (p : ℕ) (k : Job)
   unfolding statement
   step-statement e = rw e
 
-module _ (program : List BodyCommand) (bounds : List ℕ) (m : Shared) (ts : List (List ℕ)) (jobs : List Job) (k : Job) (n : ℕ) (ws : List ℕ)
+module _ (program : List BodyCommand) (bounds : List ℕ) (m : Shared) (ts : List Task) (jobs : List Job) (k : Job) (n : ℕ) (ws : List ℕ)
     (y : Option ℕ) (r t p : ℕ) where
   abbrev after : Left Job → FlatMachine
   after l =
       flat l.memory (set (map own ts) p l.task) (set (set jobs p k) p l.next) (left_by (unfinished? l.next.phase) n p) ws
       (ready_by (unfinished? l.next.phase) (get_or ws p 0) p y) r (t + 1)
 
-  tick-turn : (x : List ℕ) {end : ℕ} {m' : Shared} {j : Job}
+  tick-turn : (x : Task) {end : ℕ} {m' : Shared} {j : Job}
       → (n ≡ 0 → ⊥) → p ≡ top_of 8 n → p < length jobs → end ≡ at 0 bounds (p + 1)
-      → left j m' (own x) ≡ tick_of end (statement program m (own (get_or ts p [])) p k)
+      → left j m' (own x) ≡ tick_of end (statement program m (own (get_or ts p no_task)) p k)
       → flat m' (map own (set ts p x)) (set jobs p j) (left_by (unfinished? j.phase) n p) ws
       (ready_by (unfinished? j.phase) (get_or ws p 0) p y) r (t + 1)
       ≡ ticked program bounds (flat m (map own ts) (set jobs p k) n ws y r t)
@@ -129,7 +131,7 @@ module _ (program : List BodyCommand) (bounds : List ℕ) (m : Shared) (ts : Lis
   tick-turn x {end = end} {m' = m'} {j = j} work top lt e1 e2 =
       rw (record_set ts p x, ← set-set jobs p k j) (ap after e2 ∙ is-ticked)
     where
-      is-ticked : after (tick_of end (statement program m (own (get_or ts p [])) p k)) ≡ ticked program bounds
+      is-ticked : after (tick_of end (statement program m (own (get_or ts p no_task)) p k)) ≡ ticked program bounds
           (flat m (map own ts) (set jobs p k) n ws y r t)
       is-ticked = rw (ne_eqb n 0 work, ← top, get_or-set_same jobs p k no_job lt, record_at ts p, ← e1)
 
@@ -207,12 +209,12 @@ pub goes_before : (f : Phase) (t until : ℕ) {b : Bool} → b ≡ (unfinished? 
 goes_before f t until e h = ltb-true t until (both (unfinished? f) (ltb t until) (sym e ∙ h))
 
 -- one statement more
-module _ (sheet : List ℕ) (program : List BodyCommand) (bounds : List ℕ) (limit : ℕ) (m : Shared) (ts : List (List ℕ)) (jobs : List Job) (k : Job)
+module _ (sheet : List ℕ) (program : List BodyCommand) (bounds : List ℕ) (limit : ℕ) (m : Shared) (ts : List Task) (jobs : List Job) (k : Job)
     (n : ℕ) (ws : List ℕ) (y : Option ℕ) (r t p : ℕ) (q : Option Pending) where
-  pub stretch : (x : List ℕ) (until : ℕ) {ts' : List (List ℕ)} {end : ℕ} {m' : Shared} {j : Job} {b : Bool}
+  pub stretch : (x : Task) (until : ℕ) {ts' : List Task} {end : ℕ} {m' : Shared} {j : Job} {b : Bool}
       → (n ≡ 0 → ⊥) → p ≡ top_of 8 n → p < length jobs → end ≡ at 0 bounds (p + 1)
       → t < limit → q ≡ pending_at (command_at sheet r) → ((task next : ℕ) → coming_by y r q t ≡ Due task next → ⊥)
-      → ts' ≡ set ts p x → left j m' (own x) ≡ tick_of end (statement program m (own (get_or ts p [])) p k)
+      → ts' ≡ set ts p x → left j m' (own x) ≡ tick_of end (statement program m (own (get_or ts p no_task)) p k)
       → b ≡ (unfinished? j.phase && ltb (t + 1) until)
       → (u : FlatMachine)
       → Ends sheet program bounds limit

@@ -1,11 +1,11 @@
 -- THE FLAT MACHINE, the code's: what all tasks share, each task's own record and job, the mask of unfinished jobs, how many releases wait
 -- behind each job, the task whose job has ended with one waiting, the place of the next release in the sheet and the ticks done.
 use Rattle.std.specs.Prelude.{ℕ, zero, suc, ◌+◌, ◌-◌, ◌/◌, ◌%◌, ◌^◌, ◌<◌, ◌≤◌, ◌≡◌, Bool, true, false, ◌&&◌, eqb}
-use Rattle.std.specs.Prelude.{List, [], get_or, set, replicate, Option, Some, None}
+use Rattle.std.specs.Prelude.{List, get_or, set, replicate, Option, Some, None}
 use Rattle.model.specs.Lists.{at}
 use Rattle.model.specs.Command.{command_at}
 use Rattle.commands.specs.declared.BodyCommand.{BodyCommand}
-use Rattle.state.specs.State.{Shared, Own, own}
+use Rattle.state.specs.State.{Shared, Own, no_own}
 use Rattle.exchanges.specs.Places.{if, Noted, noted, Left, left}
 use Rattle.jobs.specs.Jobs.{job, in_phase, ticks, counted}
 use Rattle.jobs.specs.Jobs as count
@@ -43,7 +43,7 @@ abbrev pub job_of : FlatMachine → ℕ → Job
 job_of w p = get_or w.jobs p no_job
 
 abbrev pub own_of : FlatMachine → ℕ → Own
-own_of w p = get_or w.tasks p (own [])
+own_of w p = get_or w.tasks p no_own
 
 -- how many releases wait behind the job of task p
 abbrev pub waiting_count : FlatMachine → ℕ → ℕ

@@ -15,7 +15,7 @@ use Rattle.model.proofs.Fit.Machine.{Fit}
 use Rattle.model.proofs.Fit.Ranges.{Ranges}
 use Rattle.model.proofs.Fit.RangesStart.{start-range, sheet-range}
 use Rattle.commands.specs.declared.BodyCommand.{BodyCommand}
-use Rattle.state.specs.State.{Shared, Own, own}
+use Rattle.state.specs.State.{Shared, Own, no_own}
 use Rattle.state.specs.Held.{memory_of}
 use Rattle.machine.specs.Flat.{Ends, flat_in, paused_at}
 use Rattle.machine.specs.declared.run.Paused.{Paused}
@@ -29,8 +29,8 @@ use Rattle.refinement.proofs.Start.{no_queues, start-same, start-sound}
 -- the records hold that machine of a sheet: its memory, and of each task that the sheet declares the registers and counts
 pub record Holds (s : Sheet) (f : Machine) (m : Shared) (ts : List Own) (q : Paused) : Type 0 where
   pub memory : f.memory ≡ memory_of m
-  pub registers : (p : ℕ) → p < length s.bodies → (task_at f.tasks p).job.registers ≡ (get_or ts p (own [])).registers
-  pub counts : (p : ℕ) → p < length s.bodies → count_list (task_at f.tasks p).counts ≡ take 5 (get_or ts p (own [])).counts
+  pub registers : (p : ℕ) → p < length s.bodies → (task_at f.tasks p).job.registers ≡ (get_or ts p no_own).registers
+  pub counts : (p : ℕ) → p < length s.bodies → count_list (task_at f.tasks p).counts ≡ take 5 (get_or ts p no_own).counts
   pub now : f.now ≡ q.ticks
 
 -- the first five of a list
@@ -68,6 +68,6 @@ module _ (sheet : List ℕ) (small : (i : ℕ) → get_or sheet i 0 < 256) (good
         counts = λ p h.
             ap (λ (f : Machine). count_list (task_at f.tasks p).counts) last
             ∙ ap (λ (t : Task). count_list t.counts) (task-at sheet program bounds c.bodies ts' q.jobs p h)
-            ∙ five (get_or ts' p (own [])).counts (omega (arith, (r.sound.each.sized p (omega (arith, c.bodies))).counts));
+            ∙ five (get_or ts' p no_own).counts (omega (arith, (r.sound.each.sized p (omega (arith, c.bodies))).counts));
         now = ap (λ (f : Machine). f.now) last;
       }

@@ -21,7 +21,7 @@ use Rattle.model.proofs.Fit.Waiting.{SettledAt, Settled}
 use Rattle.model.proofs.Fit.Running.{foremost_running, none-nobody}
 use Rattle.model.proofs.Fit.Running.{busy as working}
 use Rattle.commands.specs.declared.BodyCommand.{BodyCommand}
-use Rattle.state.specs.State.{Own, own}
+use Rattle.state.specs.State.{Own, no_own}
 use Rattle.state.specs.Held.{memory_of}
 use Rattle.arrivals.specs.Releases.{unfinished?}
 use Rattle.machine.specs.Flat.{FlatMachine, no_job, waiting_count}
@@ -50,7 +50,7 @@ module _ (sheet : List ℕ) (program : List BodyCommand) (bounds : List ℕ) whe
   task_with p j t = task_of program (at 0 bounds (suc p)) (body_in program bounds p) j t
 
   abbrev pub task_in : List Own → List Job → ℕ → J.Task
-  task_in ts js p = task_with p (get_or js p no_job) (get_or ts p (own []))
+  task_in ts js p = task_with p (get_or js p no_job) (get_or ts p no_own)
 
   unfoldable pub tasks_of : List Own → List Job → List J.Task
   tasks_of ts js = tabulate 8 (λ p. declared_by (ltb p n) (task_in ts js p))
@@ -63,9 +63,9 @@ module _ (sheet : List ℕ) (program : List BodyCommand) (bounds : List ℕ) whe
   -- the records and jobs of eight tasks
   pub record TasksSound (ts : List Own) (js : List Job) : Type 0 where
     pub tasks : length ts ≡ 8
-    pub sized : (p : ℕ) → p < 8 → OwnSized (get_or ts p (own []))
+    pub sized : (p : ℕ) → p < 8 → OwnSized (get_or ts p no_own)
     pub jobs : length js ≡ 8
-    pub shape : (p : ℕ) → p < n → JobShape (at 0 bounds (suc p)) (get_or js p no_job) (get_or ts p (own [])) (get_or js p no_job).phase
+    pub shape : (p : ℕ) → p < n → JobShape (at 0 bounds (suc p)) (get_or js p no_job) (get_or ts p no_own) (get_or js p no_job).phase
     pub idle : (p : ℕ) → n ≤ p → busy js p ≡ false
 
   -- no job has ended with a release waiting, or that of one task has
@@ -103,25 +103,25 @@ module _ (sheet : List ℕ) (program : List BodyCommand) (bounds : List ℕ) whe
       pub job-set : get_or (set js p j) p no_job ≡ j
       job-set = get_or-set_same js p j no_job (omega (arith, f.jobs))
 
-      own-set : get_or (set ts p t) p (own []) ≡ t
-      own-set = get_or-set_same ts p t (own []) (omega (arith, f.tasks))
+      own-set : get_or (set ts p t) p no_own ≡ t
+      own-set = get_or-set_same ts p t no_own (omega (arith, f.tasks))
 
       pub tasks_changed : tasks_of (set ts p t) (set js p j) ≡ replace (tasks_of ts js) p (task_with p j t)
       unfolding tasks_of
       tasks_changed =
           tabulate_replace 8 (λ q. declared_by (ltb q n) (task_in ts js q)) (λ q. declared_by (ltb q n) (task_in (set ts p t) (set js p j) q)) p _
           (λ g. rw (lt-ltb p n h, job-set, own-set))
-          (λ q g d. rw (get_or-set_other js p q j no_job d, get_or-set_other ts p q t (own []) d))
+          (λ q g d. rw (get_or-set_other js p q j no_job d, get_or-set_other ts p q t no_own d))
 
       pub sound_changed : OwnSized t → JobShape (at 0 bounds (suc p)) j t j.phase → TasksSound (set ts p t) (set js p j)
       sound_changed z s =
           record {
             tasks = length-set ts p t ∙ f.tasks;
-            sized = λ q l. same? q p (λ e. rw (e, own-set) z) (λ d. rw (get_or-set_other ts p q t (own []) d) (f.sized q l));
+            sized = λ q l. same? q p (λ e. rw (e, own-set) z) (λ d. rw (get_or-set_other ts p q t no_own d) (f.sized q l));
             jobs = length-set js p j ∙ f.jobs;
             shape = λ q l. same? q p
                 (λ e. rw (e, job-set, own-set) s)
-                (λ d. rw (get_or-set_other js p q j no_job d, get_or-set_other ts p q t (own []) d) (f.shape q l));
+                (λ d. rw (get_or-set_other js p q j no_job d, get_or-set_other ts p q t no_own d) (f.shape q l));
             idle = λ q l. ap (λ (x : Job). unfinished? x.phase) (get_or-set_other js p q j no_job (λ e. omega arith)) ∙ f.idle q l;
           }
 
@@ -136,7 +136,7 @@ module _ (sheet : List ℕ) (program : List BodyCommand) (bounds : List ℕ) whe
     pub task_busy : (ts : List Own) (js : List Job) (p : ℕ) → p < n → working (tasks_of ts js) p ≡ busy js p
     task_busy ts js p h =
         ap (λ (t : J.Task). M.unfinished t.job.phase) (task-at ts js p h)
-        ∙ unfinished_view (at 0 bounds (suc p)) (get_or js p no_job) (get_or ts p (own [])) (get_or js p no_job).phase
+        ∙ unfinished_view (at 0 bounds (suc p)) (get_or js p no_job) (get_or ts p no_own) (get_or js p no_job).phase
 
     -- of a machine with these tasks
     module _ (m : M.Machine) (ts : List Own) (js : List Job) (is : m.tasks ≡ tasks_of ts js) (idle : (p : ℕ) → n ≤ p → busy js p ≡ false) where

@@ -20,7 +20,7 @@ use Rattle.model.proofs.Fit.Elements.{below?}
 use Rattle.model.proofs.Fit.Waiting.{Settled}
 use Rattle.model.proofs.Fit.Sheet.{BodyFit, SheetFit}
 use Rattle.commands.specs.declared.BodyCommand.{BodyCommand}
-use Rattle.state.specs.State.{Own, own}
+use Rattle.state.specs.State.{Own, no_own}
 use Rattle.state.specs.Held.{memory_of}
 use Rattle.jobs.specs.Jobs.{job_at, dropped, counted}
 use Rattle.arrivals.specs.Releases.{unfinished?, waiting_by, begun_by, zeroing, started_by, record_by}
@@ -99,7 +99,7 @@ module _ (sheet : List ℕ) (program : List BodyCommand) (bounds : List ℕ) (mo
 
   -- THE JOB IS UNFINISHED: jobs stay, and so do the records but for the count of a drop
   same-tasks : set w.tasks p (own_of w p) ≡ w.tasks
-  same-tasks = set-get_or w.tasks p (own [])
+  same-tasks = set-get_or w.tasks p no_own
 
   same-jobs : set w.jobs p (job_of w p) ≡ w.jobs
   same-jobs = set-get_or w.jobs p no_job

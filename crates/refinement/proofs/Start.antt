@@ -17,7 +17,7 @@ use Rattle.model.proofs.Fit.Elements.{below?}
 use Rattle.model.proofs.Fit.Sheet.{SheetFit}
 use Rattle.model.proofs.Fit.Start.{start_task, start-task, start_fit}
 use Rattle.commands.specs.declared.BodyCommand.{BodyCommand}
-use Rattle.state.specs.State.{Shared, Own, own}
+use Rattle.state.specs.State.{Shared, Own, no_own}
 use Rattle.machine.specs.Flat.{no_job, flat_in, paused_at}
 use Rattle.jobs.specs.declared.Job.{Job}
 use Rattle.program.specs.Program.{Programmed}
@@ -50,16 +50,16 @@ module _ (sheet : List ℕ) (program : List BodyCommand) (bounds : List ℕ) (he
   abbrev js : List Job
   js = replicate 8 no_job
 
-  idle-start : (p : ℕ) → p < n → task_with sheet program bounds p no_job (get_or ts p (own [])) ≡ start_task (at [] s.bodies p) p
+  idle-start : (p : ℕ) → p < n → task_with sheet program bounds p no_job (get_or ts p no_own) ≡ start_task (at [] s.bodies p) p
   unfolding at
   idle-start p h =
       let f = tasks.each p (omega (arith, c.bodies)) in
-      rw (held.bodies p h, f.registers, f.copies, f.counts, no_pairs (get_or ts p (own [])).entries)
+      rw (held.bodies p h, f.registers, f.copies, f.counts, no_pairs (get_or ts p no_own).entries)
 
   declared-start : (p : ℕ) → p < n → M.task_at (tasks_of sheet program bounds ts js) p ≡ M.task_at (start_machine s).tasks p
   declared-start p h =
       task-at sheet program bounds c.bodies ts js p h
-      ∙ ap (λ (j : Job). task_with sheet program bounds p j (get_or ts p (own []))) (no-job p) ∙ idle-start p h ∙ sym (start-task s p h)
+      ∙ ap (λ (j : Job). task_with sheet program bounds p j (get_or ts p no_own)) (no-job p) ∙ idle-start p h ∙ sym (start-task s p h)
 
   undeclared_start : (p : ℕ) → p < 8 → n ≤ p → M.task_at (tasks_of sheet program bounds ts js) p ≡ M.task_at (start_machine s).tasks p
   undeclared_start p l h =

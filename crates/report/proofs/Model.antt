@@ -1,7 +1,7 @@
 -- The text read off the records is the model's report of the machine that they hold, and a call's result the model's answer.
 use Prim.Native.Nat.{ℕ, ◌+◌, min, ◌≤◌, ◌<◌}
 use mathlib.Core.Path.{◌≡◌, sym, ap, ◌∙◌}
-use mathlib.Core.List.{List, [], ◌∷◌, ◌++◌}
+use mathlib.Core.List.{List, ◌∷◌, ◌++◌}
 use mathlib.Core.Bool.{true, false}
 use native.Mathlib.Omega.{arith}
 use lib.Dec.{leb}
@@ -12,7 +12,7 @@ use Rattle.model.specs.Sheet.{Sheet}
 use Rattle.model.specs.Machine.{Machine, task_at}
 use Rattle.model.specs.Report.{line, task_line, task_lines, report}
 use Rattle.model.specs.Answer.{Answer, written}
-use Rattle.state.specs.State.{Shared, Own, own}
+use Rattle.state.specs.State.{Shared, Own, no_own}
 use Rattle.report.specs.declared.Totals.{Totals}
 use Rattle.report.specs.Text.{task_lines_of, report_text, Reported, Holds, Within}
 use Rattle.report.proofs.Lines.{lines_equal}
@@ -37,7 +37,7 @@ module _ {s : Sheet} {f : Machine} {m : Shared} {ts : List Own} {t : Totals}
       each : (p : ℕ) → 0 ≤ p → p < 0 + length s.bodies → task_lines_of ts p ≡ task_lines f.tasks p
       each p low high =
           let inside : p < length s.bodies = omega arith in
-          ap (λ (l : List ℕ). line 0x54 (p ∷ l) ++ line 0x52 (p ∷ (get_or ts p (own [])).registers)) (sym (h.counts p inside))
+          ap (λ (l : List ℕ). line 0x54 (p ∷ l) ++ line 0x52 (p ∷ (get_or ts p no_own).registers)) (sym (h.counts p inside))
           ∙ ap (λ (l : List ℕ). task_line p (task_at f.tasks p) ++ line 0x52 (p ∷ l)) (sym (h.registers p inside))
 
 abbrev pub answer : ℕ → ℕ → List ℕ → Answer

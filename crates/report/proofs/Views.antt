@@ -1,4 +1,4 @@
--- The two arrays as the model sees them: the current value of a cell, a block store, a task's record.
+-- The records as the model sees them: the current value of a cell, a block store, a task's record.
 use Prim.Native.Nat.{ℕ, ◌+◌, ◌*◌, ◌<◌}
 use mathlib.Core.Path.{◌≡◌, refl, sym, ap}
 use mathlib.Core.Bool.{Bool, true, false}
@@ -13,7 +13,8 @@ use Rattle.model.specs.Transaction.{bank, version_of, store_of}
 use Rattle.model.specs.Report.{fields, line, word_line, block_line}
 use Rattle.state.specs.Packed.{unpack, value_of}
 use Rattle.state.specs.Rows.{row, rows}
-use Rattle.state.specs.State.{Shared, own}
+use Rattle.state.specs.State.{Shared, own, no_task}
+use Rattle.state.specs.declared.task.Task.{Task}
 use Rattle.state.specs.Held.{memory_of}
 use Rattle.state.specs.Sized.{SharedSized}
 use Rattle.state.proofs.Rows.{at_rows}
@@ -52,8 +53,8 @@ unfolding row
 store-text stores s h e f = rw (e, f, add-zero, at_rows 8 48 s stores h)
 
 -- the T line and the R line with the counts and registers found
-pub task-text : (tasks : List (List ℕ)) (p : ℕ) {counts registers before middle after : List ℕ} {i j k : ℕ} → counts ≡ (own (get_or tasks p [])).counts
-    → registers ≡ (own (get_or tasks p [])).registers → length registers ≡ 8 → Written 68 (line 0x54 (p ∷ take shown counts)) before middle i j
+pub task-text : (tasks : List Task) (p : ℕ) {counts registers before middle after : List ℕ} {i j k : ℕ} → counts ≡ (own (get_or tasks p no_task)).counts
+    → registers ≡ (own (get_or tasks p no_task)).registers → length registers ≡ 8 → Written 68 (line 0x54 (p ∷ take shown counts)) before middle i j
     → Written 101 (line 0x52 (p ∷ take 8 registers)) middle after j k → Written task_most (task_lines_of (map own tasks) p) before after i k
 task-text tasks p {registers = registers} e f whole u w =
-    rw (get_or-map own tasks p [], ← e, ← f) (rw (take_all 8 registers (omega arith)) at (then u w))
+    rw (get_or-map own tasks p no_task, ← e, ← f) (rw (take_all 8 registers (omega arith)) at (then u w))

@@ -6,7 +6,7 @@ use Rattle.model.specs.Job.{count_list}
 use Rattle.model.specs.Machine.{Machine, task_at}
 use Rattle.model.specs.Report.{line, lines, word_line, block_line}
 use Rattle.model.specs.Answer.{written}
-use Rattle.state.specs.State.{Shared, Own, own}
+use Rattle.state.specs.State.{Shared, Own, no_own}
 use Rattle.state.specs.Held.{memory_of}
 use Rattle.report.specs.declared.Totals.{Totals}
 
@@ -16,7 +16,7 @@ shown = 5
 
 -- a task's T line with the first of its counts, and its R line with its registers
 abbrev pub task_lines_of : List Own → ℕ → List ℕ
-task_lines_of ts p = line 0x54 (p ∷ take shown (get_or ts p (own [])).counts) ++ line 0x52 (p ∷ (get_or ts p (own [])).registers)
+task_lines_of ts p = line 0x54 (p ∷ take shown (get_or ts p no_own).counts) ++ line 0x52 (p ∷ (get_or ts p no_own).registers)
 
 -- its length at most: a T line of six numbers and an R line of nine, each number with its space 11 bytes at most
 abbrev pub task_most : ℕ
@@ -45,8 +45,8 @@ pub record Holds (s : Sheet) (f : Machine) (m : Shared) (ts : List Own) (t : Tot
   pub blocks : t.blocks ≡ length s.blocks
   pub tasks : t.tasks ≡ length s.bodies
   pub memory : f.memory ≡ memory_of m
-  pub registers : (p : ℕ) → p < length s.bodies → (task_at f.tasks p).job.registers ≡ (get_or ts p (own [])).registers
-  pub counts : (p : ℕ) → p < length s.bodies → count_list (task_at f.tasks p).counts ≡ take shown (get_or ts p (own [])).counts
+  pub registers : (p : ℕ) → p < length s.bodies → (task_at f.tasks p).job.registers ≡ (get_or ts p no_own).registers
+  pub counts : (p : ℕ) → p < length s.bodies → count_list (task_at f.tasks p).counts ≡ take shown (get_or ts p no_own).counts
   pub now : f.now ≡ t.now
 
 -- what the sheet check lets through

@@ -15,7 +15,7 @@ ghost use Rattle.report.specs.Text.{task_lines_of, task_most, report_text, repor
 
 use commands::ceilings::{SheetCeilings, TaskCeilings};
 use exchanges::{places, read};
-use state::{Memory, Task, shared, task};
+use state::{Memory, Task};
 
 // The most words, blocks and tasks that a report tells of.
 const WORDS: usize = SheetCeilings::WORDS as usize;
@@ -48,8 +48,8 @@ fn contents(memory: &Memory, cell: usize) -> u32
     requires { cell < 48 }
     ensures { result ≡ current_of (memory_of (shared memory.now)) cell }
 {
-    // The proof learns an array's length from its slice.
-    let _whole: &[u32] = memory;
+    // For the proof: a cell that there is, is in the array.
+    memory.sized();
     read::current(memory, cell)
 }
 
@@ -73,7 +73,7 @@ fn store_fields(buffer: &mut [u8], place: usize, memory: &Memory, store: u32) ->
     ensures { Written 89 (fields (at [] (memory_of (shared memory.now)).stores store)) buffer.old buffer.new place result }
 {
     if store < STORES {
-        let values = shared::stores(memory);
+        let values = memory.stores();
         return text::fields(&mut *buffer, place, values, places::slot(store, 0), VALUES);
     }
     text::put(&mut *buffer, place, b'\n')
@@ -109,9 +109,9 @@ fn task_line(buffer: &mut [u8], place: usize, tasks: &[Task; 8], p: usize) -> us
     ensures { Written task_most (task_lines_of (map own tasks.now) p) buffer.old buffer.new place result }
 {
     let task = &tasks[p];
-    let counts = task::counts(task);
+    let counts = task.counts();
     let next = text::row_line(&mut *buffer, place, b'T', p as u32, counts, SHOWN);
-    let registers = task::registers(task);
+    let registers = task.registers();
     text::row_line(&mut *buffer, next, b'R', p as u32, registers, REGISTERS)
 }
 

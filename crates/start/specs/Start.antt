@@ -1,8 +1,8 @@
 -- What the two records hold at the start of a run.
-use Rattle.std.specs.Prelude.{ℕ, ◌<◌, ◌≡◌, List, [], length, get_or}
+use Rattle.std.specs.Prelude.{ℕ, ◌<◌, ◌≡◌, List, length, get_or}
 use Rattle.model.specs.Sheet.{Sheet}
 use Rattle.model.specs.Start.{zeros, copies_of, start_memory}
-use Rattle.state.specs.State.{Shared, Own, own}
+use Rattle.state.specs.State.{Shared, Own, no_own}
 use Rattle.state.specs.Sized.{SharedSized, OwnSized}
 use Rattle.state.specs.Held.{memory_of}
 
@@ -20,4 +20,4 @@ pub record OwnStarts (p : ℕ) (t : Own) : Type 0 where
 
 pub record TasksStart (ts : List Own) : Type 0 where
   pub size : length ts ≡ 8
-  pub each : (p : ℕ) → p < 8 → OwnStarts p (get_or ts p (own []))
+  pub each : (p : ℕ) → p < 8 → OwnStarts p (get_or ts p no_own)

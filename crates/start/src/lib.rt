@@ -16,8 +16,6 @@ use state::{Memory, Task, Word};
 // The banks' cells stand after those of the words.
 const WORDS: usize = SheetCeilings::WORDS as usize;
 
-const CELLS: usize = 48;
-
 const VALUES: usize = SheetCeilings::BLOCK_VALUES;
 
 const TASKS: usize = SheetCeilings::TASKS as usize;
@@ -43,13 +41,7 @@ fn blank() -> Memory
     ensures { SharedStarts nothing (shared result) }
 {
     let word = fresh_cell(0);
-    let mut memory = [0u32; 552];
-    let mut c = 0;
-    while c < CELLS {
-        state::shared::set_cell(&mut memory, c, word);
-        c += 1;
-    }
-    memory
+    Memory::filled(word)
 }
 
 fn set_words(sheet: &[u8], n: Counts, memory: &mut Memory)
@@ -60,7 +52,7 @@ fn set_words(sheet: &[u8], n: Counts, memory: &mut Memory)
     let mut w = 0;
     while w < n.words {
         let cell = fresh_cell(sheet::index::word(sheet, w));
-        state::shared::set_cell(&mut *memory, w, cell);
+        memory.set_cell(w, cell);
         w += 1;
     }
 }
@@ -71,7 +63,7 @@ fn set_store(memory: &mut Memory, store: usize, values: [u32; VALUES])
 {
     let mut k = 0;
     while k < VALUES {
-        state::shared::set_value(&mut *memory, VALUES * store + k, values[k]);
+        memory.set_value(VALUES * store + k, values[k]);
         k += 1;
     }
 }
@@ -84,7 +76,7 @@ fn set_block(sheet: &[u8], n: Counts, memory: &mut Memory, b: usize)
     let store = COPIES * n.tasks + b;
     let version = sheet::index::version(sheet, n.words, b);
     let cell = fresh_cell(version * 256 + store as u32);
-    state::shared::set_cell(&mut *memory, WORDS + b, cell);
+    memory.set_cell(WORDS + b, cell);
     let values = sheet::index::block_values(sheet, n.words, b);
     set_store(&mut *memory, store, values);
 }
@@ -116,23 +108,16 @@ fn own_start(p: usize) -> Task
     requires { p < 8 }
     ensures { OwnStarts p (own result) }
 {
-    let mut task = [0u32; 109];
-    let mut k = 0;
-    while k < COPIES {
-        state::task::set_copy(&mut task, k, (COPIES * p + k) as u32);
-        k += 1;
-    }
-    task
+    let first = (COPIES * p) as u32;
+    Task::with_copies([first, first + 1, first + 2, first + 3])
 }
 
 pub fn tasks() -> [Task; TASKS]
     ensures { TasksStart (map own result) }
 {
-    let mut tasks = [[0u32; 109]; TASKS];
-    let mut p = 0;
-    while p < TASKS {
+    let mut tasks = [Task::with_copies([0; COPIES]); TASKS];
+    for p in 0..TASKS {
         tasks[p] = own_start(p);
-        p += 1;
     }
     tasks
 }

@@ -1,4 +1,4 @@
--- The model's memory that the shared array holds: packed cells, save places and stores in rows of eight; and the model's blocks of a
+-- The model's memory that the shared memory holds: packed cells, save places and stores in rows of eight; and the model's blocks of a
 -- transaction that a task's record holds.
 use Rattle.std.specs.Prelude.{ℕ, zero, suc, ◌/◌, ◌%◌, ◌^◌, Bool, true, false, List, [], ◌∷◌, map, eqb}
 use Rattle.model.specs.Lists.{at}

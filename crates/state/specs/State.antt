@@ -1,7 +1,8 @@
--- What the two arrays of a run hold: what all tasks share, and one task's own record.
-use Rattle.std.specs.Prelude.{ℕ, ◌%◌, List, [], ◌∷◌}
-use Rattle.model.specs.Lists.{at, replace}
-use Rattle.state.specs.Parts.{part, words}
+-- What the two records of a run hold: what all tasks share, and one task's own record.
+use Rattle.std.specs.Prelude.{ℕ, List, [], replicate}
+use Rattle.model.specs.Lists.{replace}
+use Rattle.state.specs.declared.memory.Memory.{Memory}
+use Rattle.state.specs.declared.task.Task.{Task}
 
 -- WHAT ALL SHARE: packed cells; status; save places; the values of the block stores
 pub record Shared : Type 0 where
@@ -10,19 +11,8 @@ pub record Shared : Type 0 where
   pub saves : List ℕ
   pub stores : List ℕ
 
--- how many numbers each part has; a word takes two
-abbrev pub shared_sizes : List ℕ
-shared_sizes = 96 ∷ 8 ∷ 64 ∷ 384 ∷ []
-
-unfoldable pub shared : List ℕ → Shared
-unfolding part words
-shared m =
-    record {
-      cells = words (part 0 96 m);
-      status = part 96 8 m;
-      saves = part 104 64 m;
-      stores = part 168 384 m;
-    }
+unfoldable pub shared : Memory → Shared
+shared m = record { cells = m.cells; status = m.status; saves = m.saves; stores = m.stores }
 
 abbrev pub set_cell : Shared → ℕ → ℕ → Shared
 set_cell m i x = record { cells = replace m.cells i x; status = m.status; saves = m.saves; stores = m.stores }
@@ -61,20 +51,15 @@ pub record Own : Type 0 where
   pub blocks : Blocks
   pub counts : List ℕ
 
-abbrev pub own_sizes : List ℕ
-own_sizes = 8 ∷ 8 ∷ 4 ∷ 8 ∷ 8 ∷ 8 ∷ 16 ∷ 8 ∷ 16 ∷ 16 ∷ 8 ∷ 1 ∷ []
-
-unfoldable pub own : List ℕ → Own
-unfolding part words at
+unfoldable pub own : Task → Own
 own t =
     record {
-      registers = part 0 8 t;
-      kept = part 8 8 t;
-      copies = part 16 4 t;
-      entries =
-          record { targets = part 20 8 t; olds = part 28 8 t; news = part 36 8 t; inits = words (part 44 16 t); overlapped = part 60 8 t };
-      blocks = record { touched = at 0 (part 108 1 t) 0 % 65536; slots = part 68 16 t; remembered = part 84 16 t };
-      counts = part 100 8 t;
+      registers = t.registers;
+      kept = t.kept;
+      copies = t.copies;
+      entries = record { targets = t.targets; olds = t.olds; news = t.news; inits = t.inits; overlapped = t.overlapped };
+      blocks = record { touched = t.touched; slots = t.slots; remembered = t.remembered };
+      counts = t.counts;
     }
 
 abbrev entries_with : List ℕ → List ℕ → List ℕ → List ℕ → List ℕ → Entries
@@ -158,3 +143,43 @@ set_remembered t i x = with_blocks t (in_remembered t.blocks i x)
 
 abbrev pub set_count : Own → ℕ → ℕ → Own
 set_count t i x = own_with t.registers t.kept t.copies t.entries t.blocks (replace t.counts i x)
+
+-- AT THE START
+abbrev zeros : ℕ → List ℕ
+zeros n = replicate n 0
+
+-- every cell holds that word, all else is 0
+abbrev pub filled_with : ℕ → Shared
+filled_with word = record { cells = replicate 48 word; status = zeros 8; saves = zeros 64; stores = zeros 384 }
+
+abbrev pub own_zeros : Own
+own_zeros =
+    record {
+      registers = zeros 8;
+      kept = zeros 8;
+      copies = zeros 4;
+      entries = record { targets = zeros 8; olds = zeros 8; news = zeros 8; inits = zeros 8; overlapped = zeros 8 };
+      blocks = record { touched = 0; slots = zeros 16; remembered = zeros 16 };
+      counts = zeros 8;
+    }
+
+-- no record: nothing is in it
+abbrev pub no_task : Task
+no_task =
+    record {
+      registers = [];
+      kept = [];
+      copies = [];
+      targets = [];
+      olds = [];
+      news = [];
+      inits = [];
+      overlapped = [];
+      slots = [];
+      remembered = [];
+      counts = [];
+      touched = 0;
+    }
+
+abbrev pub no_own : Own
+no_own = own no_task

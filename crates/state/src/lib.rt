@@ -1,19 +1,16 @@
 #![tactic(auto)]
 
-// A word packed into a number; the two arrays of a run by named parts (shared, task), and total accessors for a part: past its end an
-// element reads 0 and a store does nothing.
-ghost use Rattle.std.specs.Prelude.{◌≡◌, ◌+◌, ◌*◌, ◌≤◌, length};
-ghost use Rattle.model.specs.Lists.{at};
-ghost use Rattle.state.specs.Parts.{part, within, words, within_words};
+// A word packed into a number; what all tasks share, and one task's record. Past an array's end an element reads 0 and a store does
+// nothing, so that each accessor is total.
+ghost use Rattle.std.specs.Prelude.{◌≡◌};
+ghost use Rattle.model.specs.Lists.{at, replace};
 ghost use Rattle.state.specs.Packed.{fresh, packed, value_of, count_of, valid_of, task_of};
 
-// What all tasks share, and the record of one task.
-pub type Memory = [u32; 552];
+mod memory;
+mod task;
 
-pub type Task = [u32; 109];
-
-pub mod shared;
-pub mod task;
+pub use memory::Memory;
+pub use task::Task;
 
 #[derive(Clone, Copy)]
 pub struct Word {
@@ -73,62 +70,19 @@ pub fn task_of(word: u64) -> u32
     (word / 68719476736) as u32
 }
 
-// Element i of the n elements from place o on.
-fn number_in(s: &[u32], o: usize, n: usize, i: usize) -> u32
-    requires { o + n ≤ length s.now }
-    ensures { result ≡ at 0 (part o n s.now) i }
+// Past the end an element reads as `past`, and a store does nothing.
+#[tactic(auto, unfolding(model::specs::Lists::at))]
+fn element<T: Copy>(items: &[T], i: usize, past: T) -> T
+    ensures { result ≡ at past items.now i }
 {
-    if i < n {
-        return s[o + i];
-    }
-    0
+    items.get(i).copied().unwrap_or(past)
 }
 
-fn set_number_in(s: &mut [u32], o: usize, n: usize, i: usize, v: u32)
-    requires { o + n ≤ length s.old }
-    ensures { s.new ≡ within o n s.old i v }
+#[tactic(auto, unfolding(model::specs::Lists::replace))]
+fn store<T: Copy>(items: &mut [T], i: usize, v: T)
+    ensures { items.new ≡ replace items.old i v }
 {
-    if i < n {
-        s[o + i] = v;
-        return;
-    }
-}
-
-// The n elements from place o on, all at once.
-fn part_in(s: &[u32], o: usize, n: usize) -> &[u32]
-    requires { o + n ≤ length s.now }
-    ensures { result.now ≡ part o n s.now }
-{
-    let end = o + n;
-    &s[o..end]
-}
-
-fn joined(low: u32, high: u32) -> u64
-    ensures { result ≡ low + 4294967296 * high }
-{
-    (low as u64) + 4294967296 * (high as u64)
-}
-
-// Word i of the n words from place o on, two numbers each.
-fn word_in(s: &[u32], o: usize, n: usize, i: usize) -> u64
-    requires { o + 2 * n ≤ length s.now }
-    ensures { result ≡ at 0 (words (part o (2 * n) s.now)) i }
-{
-    if i < n {
-        let k = o + 2 * i;
-        return joined(s[k], s[k + 1]);
-    }
-    0
-}
-
-fn set_word_in(s: &mut [u32], o: usize, n: usize, i: usize, w: u64)
-    requires { o + 2 * n ≤ length s.old }
-    ensures { s.new ≡ within_words o (2 * n) s.old i w }
-{
-    if i < n {
-        let k = o + 2 * i;
-        s[k] = (w % 4294967296) as u32;
-        s[k + 1] = (w / 4294967296) as u32;
-        return;
+    if i < items.len() {
+        items[i] = v;
     }
 }

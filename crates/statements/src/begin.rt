@@ -8,7 +8,7 @@ use commands::{BodyCommand, Inside, Outside};
 use exchanges::read::Reading;
 use exchanges::{exchange, places, read};
 use jobs::{Inner, Job, Phase};
-use state::{Memory, Task, task};
+use state::{Memory, Task};
 use transactions::{accesses, commits};
 
 // A command that stands only outside a transaction.
@@ -22,8 +22,8 @@ fn outside(memory: &mut Memory, task: &mut Task, p: u8, job: Job, command: Outsi
             jobs::read_by(task, job, register, word, read)
         }
         Outside::Pair { word, old, new } => {
-            let o = task::register(task, old);
-            let n = task::register(task, new);
+            let o = task.register(old);
+            let n = task.register(new);
             jobs::enter(task, job.pairs, word as u32, o, n);
             jobs::done(job, places::next(job.pairs))
         }
@@ -46,7 +46,7 @@ fn plain_command(memory: &mut Memory, task: &mut Task, p: u8, job: Job, command:
 {
     match command {
         BodyCommand::Load { register, value } => {
-            task::set_register(task, register, value);
+            task.set_register(register, value);
             jobs::done(job, job.pairs)
         }
         BodyCommand::Add { register, other } => {
@@ -76,7 +76,7 @@ fn between(memory: &mut Memory, task: &mut Task, job: Job, command: BodyCommand)
 {
     match command {
         BodyCommand::Load { register, value } => {
-            task::set_register(task, register, value);
+            task.set_register(register, value);
             accesses::goes_on(job)
         }
         BodyCommand::Add { register, other } => {

@@ -1,11 +1,9 @@
 -- Each pass gathers one touched block, or takes its old store back: the lowest of those that are left.
-use Rattle.std.proofs.Common.{◌≡◌, ℕ, ◌+◌, ◌-◌, ◌<◌, Bool, true, false, ◌||◌, List, length, sym, refl, ap, ◌∙◌, mod-lt, arith, lit<}
+use Rattle.std.proofs.Common.{◌≡◌, ℕ, ◌+◌, ◌-◌, ◌<◌, Bool, true, false, ◌||◌, length, sym, refl, ap, ◌∙◌, arith}
 use lib.Bits.{bit_and}
 use lib.Count.{count_trailing_zeros}
-use Rattle.model.specs.Lists.{at}
 use Rattle.model.specs.Transaction.{taken_back}
-use Rattle.state.specs.Parts.{part}
-use Rattle.state.specs.State.{Own, own, with_entries, with_copies}
+use Rattle.state.specs.State.{Own, with_entries, with_copies}
 use Rattle.state.specs.Held.{blocks_of}
 use Rattle.exchanges.specs.Places.{noted}
 use Rattle.transactions.specs.Blocks.{touched_from, touched_blocks, spent_at, entered_bank, entering}
@@ -13,11 +11,6 @@ use Rattle.transactions.specs.Blocks.{gathering, gathered_one, gathered_over, ga
 use Rattle.transactions.specs.Commits.{gathered_in, Gathers}
 use Rattle.transactions.proofs.Mask.{lowest-first, fewer}
 use Rattle.transactions.proofs.Walks.{touched_few, counted, spent_over, spent-over, taken_over, taken-over}
-
--- a mask has a bit for each block
-pub mask_below : (l : List ℕ) → (own l).blocks.touched < 65536
-unfolding own
-mask_below l = mod-lt (at 0 (part 108 1 l) 0) (lit< tt)
 
 -- after n passes over the blocks of t, whose task is u by now and whose mask still to gather is `rest`
 pub record Passed (t u : Own) (rest n : ℕ) (spent : Bool) : Type 0 where

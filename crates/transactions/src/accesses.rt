@@ -13,7 +13,7 @@ use commands::ceilings::SheetCeilings;
 use exchanges::read::{Read, Reading};
 use exchanges::{places, read};
 use jobs::{Inner, Job, Phase};
-use state::{Memory, Task, shared, task};
+use state::{Memory, Task};
 
 const VALUES: u8 = SheetCeilings::BLOCK_VALUES as u8;
 
@@ -79,17 +79,17 @@ fn is_touched(mask: u16, b: u8) -> bool
 fn touch(task: &mut Task, b: u8, bank: u32)
     ensures { own task.new ≡ touching b bank (own task.old) }
 {
-    task::set_slot(&mut *task, b, 0);
-    task::set_remembered(&mut *task, b, bank);
-    let mask = task::touched(&*task) | bit(b);
-    task::set_touched(&mut *task, mask);
+    task.set_slot(b, 0);
+    task.set_remembered(b, bank);
+    let mask = task.touched() | bit(b);
+    task.set_touched(mask);
 }
 
 // No block is touched.
 pub fn clear(task: &mut Task)
     ensures { own task.new ≡ clearing (own task.old) }
 {
-    task::set_touched(&mut *task, 0);
+    task.set_touched(0);
 }
 
 pub fn first_read(task: &mut Task, job: Job, access: Access, read: Read) -> Job
@@ -110,11 +110,11 @@ pub fn first_read(task: &mut Task, job: Job, access: Access, read: Read) -> Job
 fn store_for(task: &Task, block: u8) -> u32
     ensures { result ≡ store_for (own task.now) block }
 {
-    let slot = task::slot(task, block);
+    let slot = task.slot(block);
     if slot == 0 {
-        return task::remembered(task, block) % 256;
+        return task.remembered(block) % 256;
     }
-    task::copy(task, (slot - 1) as usize)
+    task.copy((slot - 1) as usize)
 }
 
 fn get(memory: &Memory, task: &Task, job: Job, access: Access, block: u8, offset: u8) -> Job
@@ -123,7 +123,7 @@ fn get(memory: &Memory, task: &Task, job: Job, access: Access, block: u8, offset
     let place = places::slot(store_for(task, block), offset);
     inner(
         job,
-        Inner::Again(access, shared::value(memory, place), Reading::Load),
+        Inner::Again(access, memory.value(place), Reading::Load),
     )
 }
 
@@ -131,10 +131,10 @@ fn get(memory: &Memory, task: &Task, job: Job, access: Access, block: u8, offset
 pub fn copy(memory: &mut Memory, task: &Task, job: Job, access: Access, n: u8) -> Job
     ensures { went result (shared memory.new) ≡ after_copy (shared memory.old) (own task.now) job access n }
 {
-    let from = places::slot(task::remembered(task, block(access)) % 256, n);
-    let to = places::slot(task::copy(task, job.used as usize), n);
-    let value = shared::value(&*memory, from);
-    shared::set_value(&mut *memory, to, value);
+    let from = places::slot(task.remembered(block(access)) % 256, n);
+    let to = places::slot(task.copy(job.used as usize), n);
+    let value = memory.value(from);
+    memory.set_value(to, value);
     let done = places::next(n);
     if done == VALUES {
         return inner(job, Inner::Again(access, 0, Reading::Load));
@@ -146,8 +146,8 @@ fn put(memory: &mut Memory, task: &Task, job: Job, block: u8, offset: u8, regist
     ensures { went result (shared memory.new) ≡ after_put (shared memory.old) (own task.now) job block offset register }
 {
     let place = places::slot(store_for(task, block), offset);
-    let value = task::register(task, register);
-    shared::set_value(&mut *memory, place, value);
+    let value = task.register(register);
+    memory.set_value(place, value);
     goes_on(job)
 }
 
@@ -156,7 +156,7 @@ pub fn access(memory: &mut Memory, task: &mut Task, job: Job, access: Access) ->
     ensures { left result (shared memory.new) (own task.new) ≡ access_tick (shared memory.old) (own task.old) job access }
 {
     let b = block(access);
-    if is_touched(task::touched(&*task), b) {
+    if is_touched(task.touched(), b) {
         match access {
             Access::Get {
                 register: _,
@@ -170,7 +170,7 @@ pub fn access(memory: &mut Memory, task: &mut Task, job: Job, access: Access) ->
                 offset,
                 register,
             } => {
-                if task::slot(&*task, block) == 0 {
+                if task.slot(block) == 0 {
                     return copy(&mut *memory, &*task, job, access, 0);
                 }
                 return put(&mut *memory, &*task, job, block, offset, register);
@@ -201,7 +201,7 @@ fn check(task: &mut Task, job: Job, access: Access, value: u32) -> Job
             block: _,
             offset: _,
         } => {
-            task::set_register(&mut *task, register, value);
+            task.set_register(register, value);
             return goes_on(job);
         }
         Access::Put {
@@ -209,7 +209,7 @@ fn check(task: &mut Task, job: Job, access: Access, value: u32) -> Job
             offset: _,
             register: _,
         } => {
-            task::set_slot(&mut *task, block, (job.used as u32) + 1);
+            task.set_slot(block, (job.used as u32) + 1);
             return Job {
                 phase: Phase::Transaction(Inner::Between),
                 value: job.value,
@@ -230,7 +230,7 @@ pub fn again_read(task: &mut Task, job: Job, access: Access, value: u32, read: R
             return inner(job, Inner::Again(access, value, step));
         }
         Read::Gives(bank) => {
-            if bank / 256 == task::remembered(&*task, block(access)) / 256 {
+            if bank / 256 == task.remembered(block(access)) / 256 {
                 return check(&mut *task, job, access, value);
             }
             return lose_attempt(&mut *task, job);

@@ -10,7 +10,7 @@ use crate::accesses;
 use commands::ceilings::SheetCeilings;
 use exchanges::exchange::{Exchanged, Step};
 use jobs::{Inner, Job, Phase};
-use state::{Task, task};
+use state::Task;
 
 // A PUT block at the last version.
 fn is_spent(slot: u32, bank: u32) -> bool
@@ -29,7 +29,7 @@ fn new_bank(task: &Task, slot: u32, bank: u32) -> u32
     if slot == 0 {
         return bank;
     }
-    let store = task::copy(task, (slot - 1) as usize);
+    let store = task.copy((slot - 1) as usize);
     std::num::wrapping_add_u32(std::num::wrapping_add_u32((bank / 256) * 256, 256), store)
 }
 
@@ -37,8 +37,8 @@ fn new_bank(task: &Task, slot: u32, bank: u32) -> u32
 fn gather_one(task: &mut Task, b: u8, n: u8) -> bool
     ensures { (result ≡ spent_at (own task.old) b) × (own task.new ≡ entering b n (own task.old)) }
 {
-    let slot = task::slot(&*task, b);
-    let bank = task::remembered(&*task, b);
+    let slot = task.slot(b);
+    let bank = task.remembered(b);
     let new = new_bank(&*task, slot, bank);
     jobs::enter(
         &mut *task,
@@ -84,7 +84,7 @@ fn others(mask: u32) -> u32
 fn gather(task: &mut Task) -> Gathered
     ensures { Gathers (own task.old) result (own task.new) }
 {
-    let mut rest = task::touched(&*task) as u32;
+    let mut rest = task.touched() as u32;
     let mut passes: u8 = 0;
     let mut spent = false;
     while rest != 0 {
@@ -100,7 +100,7 @@ fn gather(task: &mut Task) -> Gathered
 pub fn commit(task: &mut Task, job: Job) -> Job
     ensures { noted result (own task.new) ≡ commit_by (own task.old) job }
 {
-    if task::touched(&*task) == 0 {
+    if task.touched() == 0 {
         return jobs::done(job, 0);
     }
     let gathered = gather(&mut *task);
@@ -122,19 +122,19 @@ pub fn commit(task: &mut Task, job: Job) -> Job
 fn take_one(task: &mut Task, b: u8)
     ensures { own task.new ≡ taking_one b (own task.old) }
 {
-    let slot = task::slot(&*task, b);
+    let slot = task.slot(b);
     if slot == 0 {
         return;
     }
-    let store = task::remembered(&*task, b) % 256;
-    task::set_copy(&mut *task, (slot - 1) as usize, store);
+    let store = task.remembered(b) % 256;
+    task.set_copy((slot - 1) as usize, store);
 }
 
 // The k-th used copy slot takes the replaced block's old store.
 fn take_back(task: &mut Task)
     ensures { own task.new ≡ taking_back (own task.old) }
 {
-    let mut left = task::touched(&*task) as u32;
+    let mut left = task.touched() as u32;
     while left != 0 {
         take_one(&mut *task, lowest(left) as u8);
         left = others(left);

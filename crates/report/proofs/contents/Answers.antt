@@ -1,9 +1,7 @@
--- The rule for the current value, of an array of the right length, is the model's.
-use mathlib.Core.Path.{◌∙◌}
-use borrow.Author.Rules.{rules}
-use Rattle.state.proofs.Sized.{shared-sized}
+-- The rule for the current value is the model's.
+use Rattle.std.proofs.Common.{◌∙◌}
 use Rattle.report.proofs.Views.{current-in}
 use Rattle.report.proofs.contents.Goals as goal
 
 pub returns : goal.returns
-returns c = c.current.ensures ∙ current-in (shared-sized c.args.memory.now (search rules)) c.args.cell c.requires
+returns c = c.current.ensures ∙ current-in c.sized.ensures c.args.cell c.requires

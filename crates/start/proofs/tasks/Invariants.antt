@@ -1,10 +1,6 @@
 -- `tasks` meets its contract.
-use Prim.Native.Nat.{◌-◌}
 use Rattle.start.proofs.Loops.{Started}
 use Rattle.start.proofs.tasks.Given as goal
 
 abbrev pub invariant-loop-p : goal.invariant-loop-p
 invariant-loop-p l = Started l.p l.tasks
-
-abbrev pub decreases-loop-p : goal.decreases-loop-p
-decreases-loop-p l = 8 - l.p

@@ -8,7 +8,6 @@ use Rattle.jobs.specs.declared.Inner.TheVariants.{Committing}
 use Rattle.jobs.specs.declared.Phase.TheVariants.{Transaction}
 use Rattle.transactions.specs.Commits.{commit_by}
 use Rattle.transactions.proofs.Walks.{nothing-touched, something_touched}
-use Rattle.transactions.proofs.Gathers.{mask_below}
 use Rattle.transactions.proofs.commits.commit.Goals as goal
 
 pub returns-then-touched-eq0 : goal.returns-then-touched-eq0
@@ -21,7 +20,7 @@ returns-then-touched-eq0 c = let t = own c.args.task.now in rw (
 pub returns-then-gathered : goal.returns-then-gathered
 unfolding commit_by
 returns-then-gathered c = let t = own c.args.task.now in let g = c.gather-gathered.ensures in rw (
-  something_touched t.blocks (omega (arith, c.touched.ensures, c.if-touched-eq0.false)) (mask_below _),
+  something_touched t.blocks (omega (arith, c.touched.ensures, c.if-touched-eq0.false)) (rw c.touched.ensures at c.touched.type_inv),
   ← g.spent,
   c.if-gathered.true,
   ← c.job_at.ensures,
@@ -32,7 +31,7 @@ returns-then-gathered c = let t = own c.args.task.now in let g = c.gather-gather
 pub returns : goal.returns
 unfolding commit_by
 returns c = let a = c.args in let g = c.gather-gathered.ensures in rw (
-  something_touched (own a.task.now).blocks (omega (arith, c.touched.ensures, c.if-touched-eq0.false)) (mask_below _),
+  something_touched (own a.task.now).blocks (omega (arith, c.touched.ensures, c.if-touched-eq0.false)) (rw c.touched.ensures at c.touched.type_inv),
   ← g.spent,
   c.if-gathered.false,
 )

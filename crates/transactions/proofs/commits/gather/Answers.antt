@@ -3,13 +3,13 @@ use Rattle.std.proofs.Common.{◌≡◌, ℕ, false, sym, subst, arith}
 use lib.Count.{trailing_le}
 use Rattle.state.specs.State.{own}
 use Rattle.transactions.proofs.Mask.{fewer}
-use Rattle.transactions.proofs.Gathers.{Passed, mask_below, passed_none, passed-room, passed_more, passed-all}
+use Rattle.transactions.proofs.Gathers.{Passed, passed_none, passed-room, passed_more, passed-all}
 use Rattle.transactions.proofs.commits.gather.Goals as goal
 
 pub loop-rest-init : goal.loop-rest-init
 loop-rest-init c =
     let t = own c.args.task.now in
-    subst (λ (rest : ℕ). Passed t t rest 0 false) (sym c.touched-rest.ensures) (passed_none t (mask_below _))
+    subst (λ (rest : ℕ). Passed t t rest 0 false) (sym c.touched-rest.ensures) (passed_none t (rw c.touched-rest.ensures at c.touched-rest.type_inv))
 
 pub overflow_cast-b : goal.overflow_cast-b
 overflow_cast-b c = omega (arith, c.lowest-b.ensures, trailing_le 32 c.loop-rest.rest)

@@ -2,11 +2,11 @@
 use Rattle.std.proofs.Common.{◌≡◌, arith}
 use lib.Count.{trailing_le}
 use Rattle.transactions.proofs.Mask.{fewer}
-use Rattle.transactions.proofs.Gathers.{mask_below, taken_none, taken_more, taken-all}
+use Rattle.transactions.proofs.Gathers.{taken_none, taken_more, taken-all}
 use Rattle.transactions.proofs.commits.take_back.Goals as goal
 
 pub loop-left-init : goal.loop-left-init
-loop-left-init c = rw c.touched-left.ensures (taken_none _ (mask_below _))
+loop-left-init c = rw c.touched-left.ensures (taken_none _ (rw c.touched-left.ensures at c.touched-left.type_inv))
 
 pub overflow_cast-lowest : goal.overflow_cast-lowest
 overflow_cast-lowest c = omega (arith, c.lowest.ensures, trailing_le 32 c.loop-left.left)

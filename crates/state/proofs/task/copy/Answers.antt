@@ -1,7 +1,0 @@
--- `copy` meets its contract.
-use Rattle.state.specs.State.{own}
-use Rattle.state.proofs.task.copy.Goals as goal
-
-pub returns : goal.returns
-unfolding own
-returns c = c.number_in.ensures

@@ -1,7 +1,0 @@
--- `count` meets its contract.
-use Rattle.state.specs.State.{own}
-use Rattle.state.proofs.task.count.Goals as goal
-
-pub returns : goal.returns
-unfolding own
-returns c = c.number_in.ensures

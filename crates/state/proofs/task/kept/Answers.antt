@@ -1,7 +1,0 @@
--- `kept` meets its contract.
-use Rattle.state.specs.State.{own}
-use Rattle.state.proofs.task.kept.Goals as goal
-
-pub returns : goal.returns
-unfolding own
-returns c = c.number_in.ensures

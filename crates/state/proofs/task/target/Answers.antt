@@ -1,7 +1,0 @@
--- `target` meets its contract.
-use Rattle.state.specs.State.{own}
-use Rattle.state.proofs.task.target.Goals as goal
-
-pub returns : goal.returns
-unfolding own
-returns c = c.number_in.ensures
