@@ -60,13 +60,12 @@ pub fn begun(mask: u32, i: usize, phase: Phase) -> u32
     }
 }
 
+#[tactic(auto, unfolding(jobs::specs::Jobs::zeroed))]
 fn zero(task: &mut Task)
     ensures { own task.new ≡ zeroing 8 (own task.old) }
 {
-    let mut n: u8 = 0;
-    while n < TaskCeilings::REGISTERS {
+    for n in 0..TaskCeilings::REGISTERS {
         task.set_register(n, 0);
-        n += 1;
     }
 }
 
