@@ -3,4 +3,4 @@ use Rattle.start.proofs.Loops.{all_blanked}
 use Rattle.start.proofs.blank.Goals as goal
 
 pub returns : goal.returns
-returns c = all_blanked _ c.fresh_cell-word.ensures c.filled.ensures
+returns c = all_blanked _ c.fresh_cell.ensures c.filled.ensures
