@@ -1,22 +1,13 @@
 -- What stands where releases are read: the next release, that it lies within the sheet, and that each one that comes leaves less to come.
 use Rattle.std.proofs.Common.{◌≡◌, ℕ, suc, ◌+◌, ◌-◌, ◌*◌, ◌<◌, ◌≤◌, Bool, true, false, eqb, ltb, leb, List, length, get_or, sym, refl, ◌∙◌, arith, leb-true}
-use mathlib.Core.Option.{Option, none, some}
+use mathlib.Core.Option.{none, some}
+use mathlib.Core.Option as Found
+use Rattle.std.specs.Prelude.{Option, Some, None}
 use Rattle.model.specs.Command as M
-use Rattle.commands.specs.View.{view_command}
-use Rattle.commands.specs.declared.Command.{Command}
-use Rattle.commands.specs.declared.Command.TheVariants as C
-use Rattle.arrivals.specs.Releases.{pending_by, pending_at, due_by, coming_of, nobody, coming_by}
+use Rattle.arrivals.specs.Releases.{pending_at, due_by, coming_of, coming_by}
 use Rattle.arrivals.specs.declared.releases.Pending.{Pending}
 use Rattle.arrivals.specs.declared.releases.Coming.{Coming}
-use Rattle.arrivals.specs.declared.releases.Coming.TheVariants.{Nothing, Due}
-
-pub pending_view : (vs : List ℕ) (c : Command) (next : ℕ) → pending_at (M.found (view_command vs c) next) ≡ pending_by c next
-pending_view vs (C.Word v) next = refl
-pending_view vs (C.Block v) next = refl
-pending_view vs C.Task next = refl
-pending_view vs (C.Release r) next = refl
-pending_view vs C.End next = refl
-pending_view vs (C.Body c) next = refl
+use Rattle.arrivals.specs.declared.releases.Coming.TheVariants.{Due}
 
 -- a command found lies within the sheet
 module _ (sheet : List ℕ) (place : ℕ) (c : M.Command) (next : ℕ) where
@@ -32,7 +23,7 @@ module _ (sheet : List ℕ) (place : ℕ) (c : M.Command) (next : ℕ) where
           (omega arith, omega arith)
       whole r false e q = let z : ◌≡◌ {A = ℕ} 0 1 = cc in (omega arith, omega arith)
 
-      row : (o : Option M.Row) → M.found_row sheet place o ≡ M.found c next → (place < next) × (next ≤ length sheet)
+      row : (o : Found.Option M.Row) → M.found_row sheet place o ≡ M.found c next → (place < next) × (next ≤ length sheet)
       row none q = let z : ◌≡◌ {A = ℕ} 0 1 = cc in (omega arith, omega arith)
       row (some r) q = whole r (leb (suc place + M.total r.widths) (length sheet)) refl q
 
@@ -41,51 +32,46 @@ module _ (sheet : List ℕ) (place : ℕ) (c : M.Command) (next : ℕ) where
       byte false q = let z : ◌≡◌ {A = ℕ} 0 1 = cc in (omega arith, omega arith)
 
 -- WHAT IS TO COME: the sheet's rest, and one that waits behind a job that has ended
-abbrev pub waits : Bool → ℕ
-waits true = 1
-waits false = 0
+abbrev pub waits : Option ℕ → ℕ
+waits (Some task) = 1
+waits None = 0
 
-abbrev pub to_come : List ℕ → ℕ → ℕ → ℕ
-to_come sheet place ready = 2 * (length sheet - place) + waits (ltb ready nobody)
+abbrev pub to_come : List ℕ → ℕ → Option ℕ → ℕ
+to_come sheet place ready = 2 * (length sheet - place) + waits ready
 
-pub waits-most : (b : Bool) → waits b ≤ 1
-waits-most true = omega arith
-waits-most false = omega arith
+pub waits-most : (ready : Option ℕ) → waits ready ≤ 1
+waits-most (Some task) = omega arith
+waits-most None = omega arith
 
 -- each release that comes leaves less of it: one of the sheet is a command found there, and one that waited does not come again
-module _ (sheet : List ℕ) (ready place tick task next : ℕ) where
+module _ (sheet : List ℕ) (place tick task next : ℕ) where
   in_sheet : coming_of (pending_at (M.command_at sheet place)) tick ≡ Due task next
       → (place < next) × (next ≤ length sheet)
   in_sheet e = go (M.command_at sheet place) refl e
     where
-      no : {P : Type 0} → Nothing ≡ Due task next → P
-      no e = let z : ◌≡◌ {A = ℕ} 0 1 = cc in absurd (omega arith)
-
       same : (b : Bool) (n : ℕ) (q : ℕ) → due_by b q n ≡ Due task next → n ≡ next
       same true n q e = cc
-      same false n q e = let z : ◌≡◌ {A = ℕ} 0 1 = cc in absurd (omega arith)
+      same false n q e = cc
 
       go : (f : M.Found) → M.command_at sheet place ≡ f → coming_of (pending_at f) tick ≡ Due task next
           → (place < next) × (next ≤ length sheet)
-      go (M.refused f p) q e = no e
+      go (M.refused f p) q e = cc
       go (M.found (M.RELEASE r) n) q e =
           let here = found_within sheet place (M.RELEASE r) n q in
           let s : n ≡ next = same (eqb r.tick tick) n r.task e in
           (omega arith, omega arith)
-      go (M.found (M.WORD v) n) q e = no e
-      go (M.found (M.BLOCK b) n) q e = no e
-      go (M.found M.TASK n) q e = no e
-      go (M.found M.END n) q e = no e
-      go (M.found (M.body c) n) q e = no e
+      go (M.found (M.WORD v) n) q e = cc
+      go (M.found (M.BLOCK b) n) q e = cc
+      go (M.found M.TASK n) q e = cc
+      go (M.found M.END n) q e = cc
+      go (M.found (M.body c) n) q e = cc
 
-  in_order : (b : Bool) → ltb ready nobody ≡ b → coming_by ready place (pending_at (M.command_at sheet place)) tick ≡ Due task next
-      → to_come sheet next nobody < to_come sheet place ready
-  in_order true f e =
-      let waited : Due ready place ≡ Due task next = rw f at e in
-      let same : place ≡ next = cc in
-      rw (f, same) (omega arith)
-  in_order false f e = let d = in_sheet (rw f at e) in rw f (omega (arith, d.0, d.1))
+  in_order : (ready : Option ℕ) → coming_by ready place (pending_at (M.command_at sheet place)) tick ≡ Due task next
+      → to_come sheet next None < to_come sheet place ready
+  in_order (Some y) e = let same : place ≡ next = cc in rw same (omega arith)
+  in_order None e = let d = in_sheet e in omega (arith, d.0, d.1)
 
-  pub due_less : (q : Pending) {c : Coming} → q ≡ pending_at (M.command_at sheet place) → c ≡ coming_by ready place q tick → c ≡ Due task next
-      → to_come sheet next nobody < to_come sheet place ready
-  due_less q e1 e2 e3 = in_order (ltb ready nobody) refl (rw e1 at (sym e2 ∙ e3))
+  pub due_less : (ready : Option ℕ) (q : Option Pending) {c : Coming} → q ≡ pending_at (M.command_at sheet place)
+      → c ≡ coming_by ready place q tick → c ≡ Due task next
+      → to_come sheet next None < to_come sheet place ready
+  due_less ready q e1 e2 e3 = in_order ready (rw e1 at (sym e2 ∙ e3))

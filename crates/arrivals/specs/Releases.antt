@@ -1,6 +1,6 @@
 -- The next release, and what a release does to its task: it waits behind an unfinished job, or is dropped and counted, or a job starts.
-use Rattle.std.specs.Prelude.{ℕ, ◌+◌, ◌-◌, ◌%◌, ◌^◌, Bool, true, false, ◌==◌, nat_lt}
-use Rattle.model.specs.Ceilings.{max_tasks, max_waiting}
+use Rattle.std.specs.Prelude.{ℕ, ◌+◌, ◌-◌, ◌%◌, ◌^◌, Bool, true, false, ◌==◌, nat_lt, Option, Some, None}
+use Rattle.model.specs.Ceilings.{max_waiting}
 use Rattle.model.specs.Command as M
 use Rattle.commands.specs.declared.Command.{Command}
 use Rattle.commands.specs.declared.Command.TheVariants as C
@@ -23,48 +23,39 @@ unfinished? (P.Exchange r s) = true
 unfinished? (P.Transaction i) = true
 
 -- THE NEXT RELEASE, by the command at the place where releases are read
-abbrev pub no_release : Pending
-no_release = record { some = false; tick = 0; task = 0; after = 0 }
+abbrev pub release_after : ℕ → ℕ → ℕ → Option Pending
+release_after tick task next = Some (record { tick = tick; task = task; after = next })
 
-abbrev pub release_after : ℕ → ℕ → ℕ → Pending
-release_after tick task next = record { some = true; tick = tick; task = task; after = next }
-
-abbrev pub pending_by : Command → ℕ → Pending
-pending_by (C.Word v) next = no_release
-pending_by (C.Block v) next = no_release
-pending_by C.Task next = no_release
+abbrev pub pending_by : Command → ℕ → Option Pending
+pending_by (C.Word v) next = None
+pending_by (C.Block v) next = None
+pending_by C.Task next = None
 pending_by (C.Release r) next = release_after r.tick r.task next
-pending_by C.End next = no_release
-pending_by (C.Body c) next = no_release
+pending_by C.End next = None
+pending_by (C.Body c) next = None
 
-abbrev pub pending_at : M.Found → Pending
-pending_at (M.refused f place) = no_release
+abbrev pub pending_at : M.Found → Option Pending
+pending_at (M.refused f place) = None
 pending_at (M.found (M.RELEASE r) next) = release_after r.tick r.task next
-pending_at (M.found (M.WORD v) next) = no_release
-pending_at (M.found (M.BLOCK b) next) = no_release
-pending_at (M.found M.TASK next) = no_release
-pending_at (M.found M.END next) = no_release
-pending_at (M.found (M.body c) next) = no_release
+pending_at (M.found (M.WORD v) next) = None
+pending_at (M.found (M.BLOCK b) next) = None
+pending_at (M.found M.TASK next) = None
+pending_at (M.found M.END next) = None
+pending_at (M.found (M.body c) next) = None
 
 -- whether it is due at a tick
 abbrev pub due_by : Bool → ℕ → ℕ → Coming
 due_by true task next = Due task next
 due_by false task next = Later
 
-abbrev pub coming_for : Bool → Pending → ℕ → Coming
-coming_for true q tick = due_by (q.tick == tick) q.task q.after
-coming_for false q tick = Nothing
-
-abbrev pub coming_of : Pending → ℕ → Coming
-coming_of q tick = coming_for q.some q tick
-
--- no task: no number of one
-abbrev pub nobody : ℕ
-nobody = max_tasks
+abbrev pub coming_of : Option Pending → ℕ → Coming
+coming_of (Some q) tick = due_by (q.tick == tick) q.task q.after
+coming_of None tick = Nothing
 
 -- WHAT COMES NEXT: ahead of a tick's releases, one that waits behind a job that has ended
-abbrev pub coming_by : ℕ → ℕ → Pending → ℕ → Coming
-coming_by ready place q tick = if (nat_lt ready nobody) (Due ready place) (coming_of q tick)
+abbrev pub coming_by : Option ℕ → ℕ → Option Pending → ℕ → Coming
+coming_by (Some ready) place q tick = Due ready place
+coming_by None place q tick = coming_of q tick
 
 abbrev pub stops_by : Coming → ℕ → Bool
 stops_by Nothing mask = mask == 0
@@ -72,15 +63,12 @@ stops_by Later mask = false
 stops_by (Due task next) mask = false
 
 -- the tick up to which no release comes, at most the limit
-abbrev pub until_by : Bool → Pending → ℕ → ℕ
-until_by true q limit = if (nat_lt q.tick limit) q.tick limit
-until_by false q limit = limit
-
-abbrev pub until_of : Pending → ℕ → ℕ
-until_of q limit = until_by q.some q limit
+abbrev pub until_of : Option Pending → ℕ → ℕ
+until_of (Some q) limit = if (nat_lt q.tick limit) q.tick limit
+until_of None limit = limit
 
 -- the tick after an idle one: all before a release's are idle
-abbrev pub idled_by : Pending → ℕ → ℕ → ℕ
+abbrev pub idled_by : Option Pending → ℕ → ℕ → ℕ
 idled_by q tick limit = if (nat_lt tick (until_of q limit)) (until_of q limit) (tick + 1)
 
 -- A RELEASE to task p arrives. By: the task's job is unfinished. Then it waits, or is dropped where as many wait as may, and the task

@@ -11,37 +11,27 @@ use state::Task;
 
 pub mod releases;
 
-const POWERS: [u32; 8] = [1, 2, 4, 8, 16, 32, 64, 128];
-
 // The bit of a task in the mask of unfinished jobs.
 pub fn bit(i: usize) -> u32
     requires { i < 8 }
     ensures { result ≡ 2 ^ i }
 {
-    POWERS[i]
+    1 << i
 }
 
 pub fn unfinished(phase: Phase) -> bool
     ensures { result ≡ unfinished? phase }
 {
-    match phase {
-        Phase::Idle => false,
-        Phase::Plain => true,
-        Phase::Read(_, _, _) => true,
-        Phase::Exchange(_, _) => true,
-        Phase::Transaction(_) => true,
-    }
+    !matches!(phase, Phase::Idle)
 }
 
 // A release to a task whose job is unfinished waits behind it, and is dropped where as many wait as may: the task counts it.
 pub fn drop_by(task: &mut Task, waiting: u8, phase: Phase)
     ensures { own task.new ≡ dropped_by (unfinished? phase) waiting (own task.old) }
 {
-    if unfinished(phase) {
-        let full = TaskCeilings::WAITING <= waiting;
-        if full {
-            jobs::count(&mut *task, Counter::Dropped);
-        }
+    let full = TaskCeilings::WAITING <= waiting;
+    if full && unfinished(phase) {
+        jobs::count(task, Counter::Dropped);
     }
 }
 
@@ -49,16 +39,13 @@ pub fn drop_by(task: &mut Task, waiting: u8, phase: Phase)
 pub fn wait_by(waiting: u8, phase: Phase) -> u8
     ensures { result ≡ waiting_by (unfinished? phase) waiting }
 {
-    if unfinished(phase) {
-        if waiting < TaskCeilings::WAITING {
-            return waiting + 1;
-        }
-        return waiting;
+    if !unfinished(phase) {
+        waiting.saturating_sub(1)
+    } else if waiting < TaskCeilings::WAITING {
+        waiting + 1
+    } else {
+        waiting
     }
-    if waiting == 0 {
-        return 0;
-    }
-    waiting - 1
 }
 
 // Else a job starts, with all registers 0.
@@ -67,36 +54,35 @@ pub fn begun(mask: u32, i: usize, phase: Phase) -> u32
     ensures { result ≡ begun_by (unfinished? phase) mask i }
 {
     if unfinished(phase) {
-        return mask;
+        mask
+    } else {
+        mask.wrapping_add(bit(i))
     }
-    std::num::wrapping_add_u32(mask, bit(i))
 }
 
+#[tactic(auto, unfolding(jobs::specs::Jobs::zeroed))]
 fn zero(task: &mut Task)
     ensures { own task.new ≡ zeroing 8 (own task.old) }
 {
-    let mut n: u8 = 0;
-    while n < TaskCeilings::REGISTERS {
+    for n in 0..TaskCeilings::REGISTERS {
         task.set_register(n, 0);
-        n += 1;
     }
 }
 
 pub fn zero_by(task: &mut Task, phase: Phase)
     ensures { own task.new ≡ zeroed_by (unfinished? phase) (own task.old) }
 {
-    if unfinished(phase) {
-        return;
+    if !unfinished(phase) {
+        zero(task);
     }
-    zero(&mut *task);
 }
 
 pub fn started(job: Job, line: usize) -> Job
     ensures { result ≡ started_by (unfinished? job.phase) job line }
 {
-    let phase = job.phase;
-    if unfinished(phase) {
-        return job;
+    if unfinished(job.phase) {
+        job
+    } else {
+        Job::new(Phase::Plain, line, 0)
     }
-    Job::new(Phase::Plain, line, 0)
 }

@@ -2,11 +2,11 @@
 use Prim.Native.Nat.{ℕ, zero, suc, ◌+◌, ◌%◌, ◌<◌, ◌≤◌}
 use mathlib.Core.Path.{◌≡◌, refl, sym, ap, ◌∙◌, subst}
 use mathlib.Core.Bool.{Bool, true, false, false≢true, ◌&&◌, ◌||◌}
-use mathlib.Core.Logic.{◌⊎◌, inl, inr}
 use mathlib.Core.List.{List, [], ◌∷◌, map}
 use native.Mathlib.Omega.{arith}
 use borrow.Author.Tests.{ne_eqb, ltb-true, ltb-false}
 use lib.Dec.{ltb}
+use Rattle.std.specs.Prelude.{Option, Some, None}
 use lib.ListN.{length, get_or, set}
 use lib.Seq.{set-get_or, set-set, get_or-set_same}
 use Rattle.model.specs.Lists.{at, replace}
@@ -17,11 +17,11 @@ use Rattle.state.specs.State.{Shared, shared, Own, own, no_own, no_task}
 use Rattle.state.specs.declared.memory.Memory.{Memory}
 use Rattle.state.specs.declared.task.Task.{Task}
 use Rattle.commands.specs.declared.BodyCommand.TheVariants as B
-use Rattle.exchanges.specs.Places.{Noted, noted, Left, left}
+use Rattle.exchanges.specs.Places.{if, Noted, noted, Left, left}
 use Rattle.jobs.specs.declared.Phase.{Phase}
 use Rattle.jobs.specs.declared.Job.{Job}
 use Rattle.statements.specs.Statements.{begin_tick, step_tick, starting?, line_of, statement}
-use Rattle.arrivals.specs.Releases.{unfinished?, pending_at, nobody, coming_for, coming_by, stops_by, until_by, until_of}
+use Rattle.arrivals.specs.Releases.{unfinished?, pending_at, coming_by, stops_by, until_of}
 use Rattle.arrivals.specs.Releases.{dropped_by, waiting_by, begun_by, zeroed_by, started_by}
 use Rattle.arrivals.specs.declared.releases.Pending.{Pending}
 use Rattle.arrivals.specs.declared.releases.Coming.{Coming}
@@ -59,20 +59,20 @@ module _ (sheet : List ℕ) (program : List BodyCommand) (bounds : List ℕ) (li
   pub same-machine : v ≡ w → (u : FlatMachine) → Ends sheet program bounds limit v u → Ends sheet program bounds limit w u
   same-machine e u r = subst (λ (x : FlatMachine). Ends sheet program bounds limit x u) e r
 
-module _ (m : Shared) (ts : List Own) (jobs : List Job) (k : Job) (n : ℕ) (ws : List ℕ) (y r t p q : ℕ) where
+module _ (m : Shared) (ts : List Own) (jobs : List Job) (k : Job) (n : ℕ) (ws : List ℕ) (y : Option ℕ) (r t p q : ℕ) where
   pub switched : flat m ts (set (set jobs p k) q (get_or (set jobs p k) q no_job)) n ws y r t ≡ flat m ts (set jobs p k) n ws y r t
   switched = rw (set-get_or (set jobs p k) q no_job)
 
 -- the job of task 0 taken out of the jobs and held apart is still the same machine
 pub resumed : (sheet : List ℕ) (program : List BodyCommand) (bounds : List ℕ) (limit : ℕ) (m : Shared) (ts : List Own) (js : List Job)
-    (n : ℕ) (ws : List ℕ) (y r t : ℕ) (u : FlatMachine)
+    (n : ℕ) (ws : List ℕ) (y : Option ℕ) (r t : ℕ) (u : FlatMachine)
     → Ends sheet program bounds limit (flat m ts (set js 0 (get_or js 0 no_job)) n ws y r t) u
     → Ends sheet program bounds limit (flat m ts js n ws y r t) u
 resumed sheet program bounds limit m ts js n ws y r t u e = rw (set-get_or js 0 no_job) at e
 
 -- A RELEASE to task p: its job, and whether that is still at work
 module _ (bounds : List ℕ) (m : Shared) (ts : List Task) (jobs : List Job) (k : Job) (n : ℕ) (ws : List ℕ)
-    (y r t task next q p : ℕ) where
+    (y : Option ℕ) (r t task next q p : ℕ) where
   abbrev found : Job
   found = get_or (set jobs q k) p no_job
 
@@ -87,7 +87,7 @@ module _ (bounds : List ℕ) (m : Shared) (ts : List Task) (jobs : List Job) (k 
       → own z ≡ zeroed_by works? (own (get_or (set ts p x) p no_task))
       → line ≡ at 0 bounds p
       → j ≡ started_by works? found line
-      → flat m (map own (set (set ts p x) p z)) (set (set jobs q k) p j) n' (set ws p b) nobody next t
+      → flat m (map own (set (set ts p x) p z)) (set (set jobs q k) p j) n' (set ws p b) None next t
       ≡ released bounds (flat m (map own ts) (set jobs q k) n ws y r t) task next
   unfolding released
   release-turn x z e1 e2 e3 e4 e5 e6 e7 =
@@ -98,11 +98,6 @@ module _ (bounds : List ℕ) (m : Shared) (ts : List Task) (jobs : List Job) (k 
 pub finished-tick : (end : ℕ) {s j : Job} {m : Shared} {x y : Own} {l : Left Job} → left s m x ≡ l → noted j y ≡ finished end x s
     → left j m y ≡ tick_of end l
 finished-tick end {m = m} e f = rw (← e) (ap (λ (w : Noted Job). left w.next m w.task) f)
-
--- two ways to a tick
-pub either : {A B C : Type 0} → (A → C) → (B → C) → A ⊎ B → C
-either f g (inl a) = f a
-either f g (inr b) = g b
 
 pub came : (end : ℕ) (x : Task) {i j : Job} {a b : Memory} {k l : Left Job} → j ≡ i → b ≡ a → left i (shared a) (own x) ≡ tick_of end k → k ≡ l
     → left j (shared b) (own x) ≡ tick_of end l
@@ -120,7 +115,7 @@ module _ (program : List BodyCommand) (m : Shared) (t : Own) (p : ℕ) (k : Job)
   step-statement e = rw e
 
 module _ (program : List BodyCommand) (bounds : List ℕ) (m : Shared) (ts : List Task) (jobs : List Job) (k : Job) (n : ℕ) (ws : List ℕ)
-    (y r t p : ℕ) where
+    (y : Option ℕ) (r t p : ℕ) where
   abbrev after : Left Job → FlatMachine
   after l =
       flat l.memory (set (map own ts) p l.task) (set (set jobs p k) p l.next) (left_by (unfinished? l.next.phase) n p) ws
@@ -141,13 +136,13 @@ module _ (program : List BodyCommand) (bounds : List ℕ) (m : Shared) (ts : Lis
       is-ticked = rw (ne_eqb n 0 work, ← top, get_or-set_same jobs p k no_job lt, record_at ts p, ← e1)
 
 -- THE RUN'S STEPS, by the next release, decoded once
-module _ (sheet : List ℕ) (program : List BodyCommand) (bounds : List ℕ) (limit : ℕ) (w : FlatMachine) (q : Pending)
+module _ (sheet : List ℕ) (program : List BodyCommand) (bounds : List ℕ) (limit : ℕ) (w : FlatMachine) (q : Option Pending)
     (here : q ≡ pending_at (command_at sheet w.place)) where
   abbrev coming : Coming
   coming = coming_by w.ready w.place q w.ticks
 
   comes : coming ≡ coming_in sheet w
-  comes = ap (λ (z : Pending). coming_by w.ready w.place z w.ticks) here
+  comes = ap (λ (z : Option Pending). coming_by w.ready w.place z w.ticks) here
 
   pub after-release : (v : FlatMachine) {c : Coming} (task next : ℕ) → w.ticks < limit → c ≡ coming → c ≡ Due task next
       → v ≡ released bounds w task next
@@ -177,38 +172,33 @@ going true true = refl
 going true false = refl
 going false x = refl
 
-module _ (q : Pending) (limit t : ℕ) where
-  below_until : (some? less : Bool) → ltb q.tick limit ≡ less → t < until_by some? q limit → t < limit
-  below_until true true e h = omega (arith, ltb-true q.tick limit e, rw e at h)
-  below_until true false e h = rw e at h
-  below_until false less e h = h
-
-  pub until_limit : t < until_of q limit → t < limit
-  until_limit h = below_until q.some (ltb q.tick limit) refl h
-
-  below_tick : (less : Bool) → ltb q.tick limit ≡ less → t < until_by true q limit → t < q.tick
-  below_tick true e h = rw e at h
-  below_tick false e h = omega (arith, ltb-false q.tick limit e, rw e at h)
-
-  nothing-due : (some? : Bool) → t < until_by some? q limit → (task next : ℕ) → coming_for some? q t ≡ Due task next → ⊥
-  nothing-due true h task next e =
-      let less : t < q.tick = below_tick (ltb q.tick limit) refl h in
-      later (rw (ne_eqb q.tick t (λ e. omega arith)) at e)
+module _ (limit t : ℕ) where
+  pub until_limit : (q : Option Pending) → t < until_of q limit → t < limit
+  until_limit (Some q) h = by (ltb q.tick limit) refl h
     where
-      later : Later ≡ Due task next → ⊥
-      later e = let z : ◌≡◌ {A = ℕ} 0 1 = cc in omega arith
-  nothing-due false h task next e = let z : ◌≡◌ {A = ℕ} 0 1 = cc in omega arith
+      by : (less : Bool) → ltb q.tick limit ≡ less → t < (if less q.tick limit) → t < limit
+      by true e h = omega (arith, ltb-true q.tick limit e)
+      by false e h = h
+  until_limit None h = h
 
-  pub until_due : (y r : ℕ) → ltb y nobody ≡ false → t < until_of q limit → (task next : ℕ) → coming_by y r q t ≡ Due task next → ⊥
-  until_due y r none h task next e = nothing-due q.some h task next (rw none at e)
+  pub until_due : (q : Option Pending) {y : Option ℕ} (r : ℕ) → y ≡ None → t < until_of q limit → (task next : ℕ)
+      → coming_by y r q t ≡ Due task next → ⊥
+  until_due (Some q) r none h task next e =
+      let less : t < q.tick = by (ltb q.tick limit) refl h in
+      later (rw (none, ne_eqb q.tick t (λ e. omega arith)) at e)
+    where
+      by : (less : Bool) → ltb q.tick limit ≡ less → t < (if less q.tick limit) → t < q.tick
+      by true e h = h
+      by false e h = omega (arith, ltb-false q.tick limit e)
+
+      later : Later ≡ Due task next → ⊥
+      later e = cc
+  until_due None r none h task next e = let no : Nothing ≡ Due task next = rw none at e in cc
 
 -- where nothing is due, nobody's job has ended with a release waiting
-pub none-ready : (y r : ℕ) (q : Pending) (t : ℕ) → ((task next : ℕ) → coming_by y r q t ≡ Due task next → ⊥) → ltb y nobody ≡ false
-none-ready y r q t h = by (ltb y nobody) refl
-  where
-    by : (b : Bool) → ltb y nobody ≡ b → ltb y nobody ≡ false
-    by true e = absurd (h y r (rw e))
-    by false e = e
+pub none-ready : (y : Option ℕ) (r : ℕ) (q : Option Pending) (t : ℕ) → ((task next : ℕ) → coming_by y r q t ≡ Due task next → ⊥) → y ≡ None
+none-ready (Some p) r q t h = absurd (h p r refl)
+none-ready None r q t h = refl
 
 both : (a b : Bool) → a && b ≡ true → b ≡ true
 both true b e = e
@@ -220,7 +210,7 @@ goes_before f t until e h = ltb-true t until (both (unfinished? f) (ltb t until)
 
 -- one statement more
 module _ (sheet : List ℕ) (program : List BodyCommand) (bounds : List ℕ) (limit : ℕ) (m : Shared) (ts : List Task) (jobs : List Job) (k : Job)
-    (n : ℕ) (ws : List ℕ) (y r t p : ℕ) (q : Pending) where
+    (n : ℕ) (ws : List ℕ) (y : Option ℕ) (r t p : ℕ) (q : Option Pending) where
   pub stretch : (x : Task) (until : ℕ) {ts' : List Task} {end : ℕ} {m' : Shared} {j : Job} {b : Bool}
       → (n ≡ 0 → ⊥) → p ≡ top_of 8 n → p < length jobs → end ≡ at 0 bounds (p + 1)
       → t < limit → q ≡ pending_at (command_at sheet r) → ((task next : ℕ) → coming_by y r q t ≡ Due task next → ⊥)

@@ -1,7 +1,7 @@
 -- THE FLAT MACHINE, the code's: what all tasks share, each task's own record and job, the mask of unfinished jobs, how many releases wait
 -- behind each job, the task whose job has ended with one waiting, the place of the next release in the sheet and the ticks done.
 use Rattle.std.specs.Prelude.{ℕ, zero, suc, ◌+◌, ◌-◌, ◌/◌, ◌%◌, ◌^◌, ◌<◌, ◌≤◌, ◌≡◌, Bool, true, false, ◌&&◌, eqb}
-use Rattle.std.specs.Prelude.{List, get_or, set, replicate}
+use Rattle.std.specs.Prelude.{List, get_or, set, replicate, Option, Some, None}
 use Rattle.model.specs.Lists.{at}
 use Rattle.model.specs.Command.{command_at}
 use Rattle.commands.specs.declared.BodyCommand.{BodyCommand}
@@ -12,7 +12,7 @@ use Rattle.jobs.specs.Jobs as count
 use Rattle.statements.specs.Statements.{plain?, statement}
 use Rattle.jobs.specs.declared.Phase.TheVariants as P
 use Rattle.jobs.specs.declared.Job.{Job}
-use Rattle.arrivals.specs.Releases.{unfinished?, pending_at, nobody, coming_by, stops_by, waiting_by, begun_by, started_by, record_by}
+use Rattle.arrivals.specs.Releases.{unfinished?, pending_at, coming_by, stops_by, waiting_by, begun_by, started_by, record_by}
 use Rattle.arrivals.specs.declared.releases.Coming.{Coming}
 use Rattle.arrivals.specs.declared.releases.Coming.TheVariants.{Due}
 use Rattle.machine.specs.declared.run.Paused.{Paused}
@@ -29,11 +29,11 @@ pub record FlatMachine : Type 0 where
   pub jobs : List Job
   pub mask : ℕ
   pub waiting : List ℕ
-  pub ready : ℕ
+  pub ready : Option ℕ
   pub place : ℕ
   pub ticks : ℕ
 
-abbrev pub flat : Shared → List Own → List Job → ℕ → List ℕ → ℕ → ℕ → ℕ → FlatMachine
+abbrev pub flat : Shared → List Own → List Job → ℕ → List ℕ → Option ℕ → ℕ → ℕ → FlatMachine
 flat m ts js k ws y r n = record { memory = m; tasks = ts; jobs = js; mask = k; waiting = ws; ready = y; place = r; ticks = n }
 
 abbrev pub no_job : Job
@@ -57,7 +57,7 @@ released_by bounds w p next j =
     (set w.jobs p (started_by (unfinished? j.phase) j (at 0 bounds p)))
     (begun_by (unfinished? j.phase) w.mask p)
     (set w.waiting p (waiting_by (unfinished? j.phase) (waiting_count w p)))
-    nobody
+    None
     next
     w.ticks
 
@@ -86,9 +86,9 @@ left_by true mask i = mask
 left_by false mask i = mask - 2 ^ i
 
 -- the task that ran, if its job has ended and a release waits behind it
-abbrev pub ready_by : Bool → ℕ → ℕ → ℕ → ℕ
+abbrev pub ready_by : Bool → ℕ → ℕ → Option ℕ → Option ℕ
 ready_by true waiting p ready = ready
-ready_by false waiting p ready = if (eqb waiting 0) ready p
+ready_by false waiting p ready = if (eqb waiting 0) ready (Some p)
 
 -- task p has done a statement that left the shared memory so, its own record and its job
 abbrev pub ticked_with : FlatMachine → ℕ → Shared → Noted Job → FlatMachine
@@ -140,4 +140,4 @@ flat_in m ts q = flat m ts q.jobs q.mask q.waiting q.ready q.place q.ticks
 -- no job has run
 abbrev pub paused_at : ℕ → Paused
 paused_at place =
-    record { jobs = replicate 8 no_job; mask = 0; waiting = replicate 8 0; ready = nobody; place = place; ticks = 0 }
+    record { jobs = replicate 8 no_job; mask = 0; waiting = replicate 8 0; ready = None; place = place; ticks = 0 }

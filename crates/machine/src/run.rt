@@ -1,6 +1,5 @@
 // The run: releases arrive, the highest task with an unfinished job does its statements, until the run stops.
-ghost use Rattle.std.specs.Prelude.{◌≡◌, ◌&&◌, map, ◌-◌, ◌^◌, ◌%◌, ◌<◌, ltb, length};
-ghost use Rattle.model.specs.Lists.{at};
+ghost use Rattle.std.specs.Prelude.{◌≡◌, ◌&&◌, map, ◌<◌, ltb, length};
 ghost use Rattle.state.specs.State.{shared, own};
 ghost use Rattle.exchanges.specs.Places.{noted, left};
 ghost use Rattle.statements.specs.Statements.{begin_tick, step_tick, starting?, line_of};
@@ -20,13 +19,13 @@ const TASKS: usize = SheetCeilings::TASKS as usize;
 const COMMANDS: usize = SheetCeilings::COMMANDS as usize;
 
 // A run between two ticks: the jobs, the mask of unfinished ones, how many releases wait behind each, the task whose job has ended with one
-// waiting, or NOBODY, the place of the next release and the ticks done.
+// waiting, the place of the next release and the ticks done.
 #[derive(Clone, Copy)]
 pub struct Paused {
     pub jobs: [Job; TASKS],
     pub mask: u32,
     pub waiting: [u8; TASKS],
-    pub ready: u8,
+    pub ready: Option<u8>,
     pub place: usize,
     pub ticks: u32,
 }
@@ -47,8 +46,8 @@ impl Paused {
             }; TASKS],
             mask: 0,
             waiting: [0; TASKS],
-            ready: releases::NOBODY,
-            place: place,
+            ready: None,
+            place,
             ticks: 0,
         }
     }
@@ -58,88 +57,47 @@ impl Paused {
 fn starting(phase: Phase) -> bool
     ensures { result ≡ starting? phase }
 {
-    match phase {
-        Phase::Idle => false,
-        Phase::Plain => true,
-        Phase::Read(_, _, _) => false,
-        Phase::Exchange(_, _) => false,
-        Phase::Transaction(inner) => match inner {
-            Inner::Between => true,
-            Inner::First(_, _) => false,
-            Inner::Copying(_, _) => false,
-            Inner::Again(_, _, _) => false,
-            Inner::Committing(_) => false,
-        },
-    }
+    matches!(phase, Phase::Plain | Phase::Transaction(Inner::Between))
 }
 
 // The highest task of a mask, 0 if there is none.
 fn top(mask: u32) -> u8
-    ensures { (result ≡ top_of 8 mask) × (result < 8) }
+    ensures highest { result ≡ top_of 8 mask }
+    ensures in_range { result < 8 }
 {
     if mask == 0 {
-        return 0;
+        0
+    } else {
+        mask.min(255).ilog2() as u8
     }
-    if 255 < mask {
-        return 7;
-    }
-    (31 - u32::leading_zeros(mask)) as u8
-}
-
-// A task's number, of eight.
-fn task_number(n: u8) -> u8
-    ensures { (result ≡ n % 8) × (result < 8) }
-{
-    n % SheetCeilings::TASKS
-}
-
-// Where body i starts in the program, and body i - 1 ends.
-fn bound(bounds: &[usize; 9], i: usize) -> usize
-    ensures { result ≡ at 0 bounds.now i }
-{
-    bound_in(bounds, i)
-}
-
-fn bound_in(s: &[usize], i: usize) -> usize
-    ensures { result ≡ at 0 s.now i }
-{
-    if i < s.len() {
-        return s[i];
-    }
-    0
 }
 
 // A line of the program, the last one for a line that there is not.
 fn line(n: usize) -> usize
-    ensures { (result ≡ line_of n) × (result < 512) }
+    ensures value { result ≡ line_of n }
+    ensures in_range { result < 512 }
 {
-    if n < COMMANDS {
-        return n;
-    }
-    COMMANDS - 1
+    n.min(COMMANDS - 1)
 }
 
 // A job that stands where its body ends is finished.
 fn close(task: &mut Task, job: Job, end: usize) -> Job
     ensures { noted result (own task.new) ≡ closed end (own task.old) job }
 {
-    let phase = job.phase;
-    if begin::is_plain(phase) {
-        if job.at == end {
-            jobs::count(&mut *task, Counter::Finished);
-            return job.in_phase(Phase::Idle);
-        }
-        return job;
+    if begin::is_plain(job.phase) && job.at == end {
+        jobs::count(task, Counter::Finished);
+        job.in_phase(Phase::Idle)
+    } else {
+        job
     }
-    job
 }
 
 // A statement is done: its tick is counted.
 fn finish(task: &mut Task, job: Job, end: usize) -> Job
     ensures { noted result (own task.new) ≡ finished end (own task.old) job }
 {
-    let after = close(&mut *task, job, end);
-    jobs::count(&mut *task, Counter::Ticks);
+    let after = close(task, job, end);
+    jobs::count(task, Counter::Ticks);
     after
 }
 
@@ -154,25 +112,22 @@ fn begin_tick(
 ) -> Job
     ensures { left result (shared memory.new) (own task.new) ≡ tick_of end (begin_tick (shared memory.old) (own task.old) p job command) }
 {
-    let after = begin::begin(&mut *memory, &mut *task, p, job, command);
-    finish(&mut *task, after, end)
+    let after = begin::begin(memory, task, p, job, command);
+    finish(task, after, end)
 }
 
 fn step_tick(memory: &mut Memory, task: &mut Task, p: u8, job: Job, end: usize) -> Job
     ensures { left result (shared memory.new) (own task.new) ≡ tick_of end (step_tick (shared memory.old) (own task.old) p job job.phase) }
 {
-    let after = step::step(&mut *memory, &mut *task, p, job);
-    finish(&mut *task, after, end)
+    let after = step::step(memory, task, p, job);
+    finish(task, after, end)
 }
 
 // The task that runs goes on: its job is unfinished, and until that tick no other can run.
 fn goes_on(phase: Phase, tick: u32, until: u32) -> bool
     ensures { result ≡ (unfinished? phase && ltb tick until) }
 {
-    if arrivals::unfinished(phase) {
-        return tick < until;
-    }
-    false
+    arrivals::unfinished(phase) && tick < until
 }
 
 // The mask without a task whose job is not unfinished any more.
@@ -181,31 +136,21 @@ fn leaving(mask: u32, i: usize, phase: Phase) -> u32
     ensures { result ≡ left_by (unfinished? phase) mask i }
 {
     if arrivals::unfinished(phase) {
-        return mask;
+        mask
+    } else {
+        mask.saturating_sub(arrivals::bit(i))
     }
-    lowered(mask, arrivals::bit(i))
 }
 
 // The task that runs, if its job has ended and a release waits behind it.
-fn ready_by(ready: u8, p: u8, waiting: u8, phase: Phase) -> u8
+fn ready_by(ready: Option<u8>, p: u8, waiting: u8, phase: Phase) -> Option<u8>
     ensures { result ≡ ready_by (unfinished? phase) waiting p ready }
 {
-    if arrivals::unfinished(phase) {
-        return ready;
+    if arrivals::unfinished(phase) || waiting == 0 {
+        ready
+    } else {
+        Some(p)
     }
-    if waiting == 0 {
-        return ready;
-    }
-    p
-}
-
-fn lowered(mask: u32, bit: u32) -> u32
-    ensures { result ≡ mask - bit }
-{
-    if mask < bit {
-        return 0;
-    }
-    mask - bit
 }
 
 // The run of a program whose bodies lie within those bounds, on from where it was paused. The sheet is read for its releases.
@@ -218,10 +163,13 @@ pub fn run(
     from: Paused,
     limit: u32,
 ) -> Paused
-    requires { (length from.jobs ≡ 8) × (length from.waiting ≡ 8) × (length program ≡ 512) }
-    ensures { Ends sheet.now program bounds.now limit
-        (flat_in (shared memory.old) (map own tasks.old) from) (flat_in (shared memory.new) (map own tasks.new) result)
-        × (length result.jobs ≡ 8) × (length result.waiting ≡ 8) }
+    requires jobs { length from.jobs ≡ 8 }
+    requires waiting { length from.waiting ≡ 8 }
+    requires program { length program ≡ 512 }
+    ensures ends { Ends sheet.now program bounds.now limit
+        (flat_in (shared memory.old) (map own tasks.old) from) (flat_in (shared memory.new) (map own tasks.new) result) }
+    ensures jobs { length result.jobs ≡ 8 }
+    ensures waiting { length result.waiting ≡ 8 }
 {
     let mut jobs = from.jobs;
     // The job of task p, which ran last, is held apart, and goes back when another task runs.
@@ -237,7 +185,7 @@ pub fn run(
         let release = releases::coming_at(next, tick, ready, place);
         if let Coming::Due(task, after) = release {
             jobs[p as usize] = job;
-            p = task_number(task);
+            p = task % SheetCeilings::TASKS;
             let i = p as usize;
             let found = jobs[i];
             let phase = found.phase;
@@ -246,8 +194,8 @@ pub fn run(
             waiting[i] = arrivals::wait_by(behind, phase);
             mask = arrivals::begun(mask, i, phase);
             arrivals::zero_by(&mut tasks[i], phase);
-            job = arrivals::started(found, bound(bounds, i));
-            ready = releases::NOBODY;
+            job = arrivals::started(found, bounds[i]);
+            ready = None;
             place = after;
             next = releases::pending_at(sheet, place);
             continue;
@@ -278,16 +226,16 @@ pub fn run(
         // The highest task does one statement a tick; only a release or the end of its job can change who is highest.
         let i = p as usize;
         let until = releases::until(next, limit);
-        let end = bound(bounds, i + 1);
+        let end = bounds[i + 1];
         let mut busy = true;
         while busy {
             let phase = job.phase;
             if starting(phase) {
                 let at = line(job.at);
                 let command = program[at];
-                job = begin_tick(&mut *memory, &mut tasks[i], p, job, command, end);
+                job = begin_tick(memory, &mut tasks[i], p, job, command, end);
             } else {
-                job = step_tick(&mut *memory, &mut tasks[i], p, job, end);
+                job = step_tick(memory, &mut tasks[i], p, job, end);
             }
             tick += 1;
             let after = job.phase;

@@ -6,11 +6,11 @@ use mathlib.Core.Bool.{Bool, true, false, true≢false}
 use mathlib.Core.List.{List, [], ◌∷◌, map}
 use native.Mathlib.Omega.{arith}
 use lib.Dec.{ltb}
+use Rattle.std.specs.Prelude.{Some, None}
 use lib.ListN.{length, get_or, set, length-set}
 use lib.Seq.{get_or-set_same, get_or-set_other}
 use borrow.Author.Tests.{lt-ltb, le-ltb}
 use Rattle.model.specs.Lists.{at, replace}
-use Rattle.model.specs.Ceilings.{max_tasks}
 use Rattle.model.specs.Command.{Release}
 use Rattle.model.specs.Job as J
 use Rattle.model.specs.Machine as M
@@ -70,9 +70,9 @@ module _ (sheet : List ℕ) (program : List BodyCommand) (bounds : List ℕ) whe
 
   -- no job has ended with a release waiting, or that of one task has
   pub data ReadySound (ws : List (List Release)) (w : FlatMachine) : Type 0 where
-    none_ready : max_tasks ≤ w.ready → Settled (machine_of ws w) → ReadySound ws w
-    one_ready : (r : Release) (l : List Release) → w.ready < n → busy w.jobs w.ready ≡ false → M.waiting_at ws w.ready ≡ r ∷ l
-        → ((q : ℕ) → q ≢ w.ready → SettledAt (machine_of ws w) q) → ReadySound ws w
+    none_ready : w.ready ≡ None → Settled (machine_of ws w) → ReadySound ws w
+    one_ready : (p : ℕ) (r : Release) (l : List Release) → w.ready ≡ Some p → p < n → busy w.jobs p ≡ false → M.waiting_at ws p ≡ r ∷ l
+        → ((q : ℕ) → q ≢ p → SettledAt (machine_of ws w) q) → ReadySound ws w
 
   pub record Sound (ws : List (List Release)) (w : FlatMachine) : Type 0 where
     pub memory : SharedSized w.memory

@@ -6,6 +6,7 @@ use mathlib.Core.Bool.{Bool, true, false, false≢true}
 use mathlib.Core.List.{List, [], ◌∷◌, ◌++◌, map}
 use native.Mathlib.Omega.{arith}
 use lib.Dec.{ltb}
+use Rattle.std.specs.Prelude.{None}
 use lib.ListN.{length, set, length-append}
 use lib.Seq.{set-get_or}
 use Rattle.model.specs.Lists.{at, replace}
@@ -22,7 +23,7 @@ use Rattle.commands.specs.declared.BodyCommand.{BodyCommand}
 use Rattle.state.specs.State.{Own, no_own}
 use Rattle.state.specs.Held.{memory_of}
 use Rattle.jobs.specs.Jobs.{job_at, dropped, counted}
-use Rattle.arrivals.specs.Releases.{unfinished?, nobody, waiting_by, begun_by, zeroing, started_by, record_by}
+use Rattle.arrivals.specs.Releases.{unfinished?, waiting_by, begun_by, zeroing, started_by, record_by}
 use Rattle.machine.specs.Flat.{FlatMachine, flat, no_job, job_of, own_of, released}
 use Rattle.jobs.specs.declared.Phase.TheVariants as Phase
 use Rattle.jobs.specs.declared.Job.{Job}
@@ -74,7 +75,7 @@ module _ (sheet : List ℕ) (program : List BodyCommand) (bounds : List ℕ) (mo
       (set w.jobs p (started_by b (job_of w p) (at 0 bounds p)))
       (begun_by b w.mask p)
       (set w.waiting p (waiting_by b k))
-      nobody
+      None
       next
       w.ticks
 
@@ -129,7 +130,7 @@ module _ (sheet : List ℕ) (program : List BodyCommand) (bounds : List ℕ) (mo
               (shape_counted (own_of w p) dropped (at 0 bounds (suc p)) (job_of w p) (job_of w p).phase (f.each.shape p below)));
           mask = rw same-jobs f.mask;
           waiting = rw room (queue_changed queue refl ∙ ap (map length) queue_same);
-          ready = none_ready (omega arith) (subst Settled (sym is) settled);
+          ready = none_ready refl (subst Settled (sym is) settled);
         };
         unfinished = rw same-jobs e;
       }
@@ -149,7 +150,7 @@ module _ (sheet : List ℕ) (program : List BodyCommand) (bounds : List ℕ) (mo
           each = rw (room, same-tasks, same-jobs) f.each;
           mask = rw same-jobs f.mask;
           waiting = rw room (queue_changed l (sym (length-append queue (r ∷ []))));
-          ready = none_ready (omega arith) (subst Settled (sym is) settled);
+          ready = none_ready refl (subst Settled (sym is) settled);
         };
         unfinished = rw same-jobs e;
       }
@@ -196,7 +197,7 @@ module _ (sheet : List ℕ) (program : List BodyCommand) (bounds : List ℕ) (mo
               (registers-sized sized _ (zeroed-size 8 (own_of w p).registers ∙ sized.registers)) start_shape;
           mask = rw f.mask (begun-mask _ _ _ sum small);
           waiting = queue_changed l fewer;
-          ready = none_ready (omega arith) (subst Settled (sym is) settled);
+          ready = none_ready refl (subst Settled (sym is) settled);
         };
         unfinished = ap (λ (x : Job). unfinished? x.phase) (job-set sheet program bounds most w.tasks w.jobs f.each p t j below);
       }

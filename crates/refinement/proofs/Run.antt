@@ -1,13 +1,14 @@
 -- The run of the flat machine ends in the model's final machine.
-use Prim.Native.Nat.{ℕ, zero, suc, ◌+◌, ◌-◌, ◌%◌, ◌<◌, ◌≤◌}
+use Prim.Native.Nat.{ℕ, zero, suc, ◌+◌, ◌-◌, ◌%◌, ◌<◌}
 use mathlib.Core.Path.{◌≡◌, refl, sym, ap, ◌∙◌, subst}
 use mathlib.Core.Logic.{◌≢◌}
 use mathlib.Core.Bool.{Bool, true, false, true≢false, false≢true, ◌&&◌}
 use mathlib.Core.List.{List, ◌∷◌}
 use native.Mathlib.Omega.{arith}
 use lib.Dec.{eqb}
+use Rattle.std.specs.Prelude.{Some, None}
 use lib.ListN.{length}
-use borrow.Author.Tests.{eqb-true, eqb-false, lt-ltb, le-ltb}
+use borrow.Author.Tests.{eqb-true, eqb-false}
 use Rattle.model.specs.Ceilings.{max_tasks}
 use Rattle.model.specs.Command.{Release, command_at}
 use Rattle.model.specs.Sheet.{Sheet, sheet_of}
@@ -29,7 +30,7 @@ use Rattle.model.proofs.Fit.RangesStatement.{entering-range, tick-range}
 use Rattle.commands.specs.declared.BodyCommand.{BodyCommand}
 use Rattle.exchanges.specs.Places.{if}
 use Rattle.jobs.specs.Jobs.{dropped}
-use Rattle.arrivals.specs.Releases.{pending_at, coming_of, nobody, stops_by}
+use Rattle.arrivals.specs.Releases.{pending_at, coming_of, stops_by}
 use Rattle.arrivals.specs.declared.releases.Coming.{Coming}
 use Rattle.arrivals.specs.declared.releases.Coming.TheVariants.{Nothing, Later, Due}
 use Rattle.machine.specs.Flat.{top_of, FlatMachine, own_of, ticked_for, passed, coming_in, released, ticked}
@@ -64,13 +65,13 @@ module _ (sheet : List ℕ) (program : List BodyCommand) (bounds : List ℕ) (he
   viewed ws w = machine_of sheet program bounds ws w
 
   -- WHAT COMES NEXT: a release of the sheet while no job has ended with one waiting, else that one
-  sheet_comes : (w : FlatMachine) → max_tasks ≤ w.ready → coming_in sheet w ≡ coming_of (pending_at (command_at sheet w.place)) w.ticks
-  sheet_comes w h = rw (le-ltb w.ready nobody h)
+  sheet_comes : (w : FlatMachine) → w.ready ≡ None → coming_in sheet w ≡ coming_of (pending_at (command_at sheet w.place)) w.ticks
+  sheet_comes w h = rw h
 
-  waiting_comes : (w : FlatMachine) → w.ready < length s.bodies → coming_in sheet w ≡ Due w.ready w.place
-  waiting_comes w h = rw (lt-ltb w.ready nobody (omega (arith, c.bodies)))
+  waiting_comes : (w : FlatMachine) (p : ℕ) → w.ready ≡ Some p → coming_in sheet w ≡ Due p w.place
+  waiting_comes w p h = rw h
 
-  sheet_coming : (w : FlatMachine) → max_tasks ≤ w.ready → ComingAt sheet w.place w.ticks (coming_in sheet w)
+  sheet_coming : (w : FlatMachine) → w.ready ≡ None → ComingAt sheet w.place w.ticks (coming_in sheet w)
   sheet_coming w h = subst (ComingAt sheet w.place w.ticks) (sym (sheet_comes w h)) (coming-at sheet w.place w.ticks)
 
   -- WHETHER THE RUN IS OVER
@@ -183,11 +184,10 @@ module _ (sheet : List ℕ) (program : List BodyCommand) (bounds : List ℕ) (he
         eight refl after)
 
     -- one that waited
-    waiting-step : (r : Release) (l : List Release) → w.ready < length s.bodies → busy w.jobs w.ready ≡ false → M.waiting_at ws w.ready ≡ r ∷ l
-        → ((q : ℕ) → q ≢ w.ready → SettledAt m q) → Onward (suc k) (suc k) ws w (released bounds w w.ready w.place)
+    waiting-step : (p : ℕ) (r : Release) (l : List Release) → p < length s.bodies → busy w.jobs p ≡ false → M.waiting_at ws p ≡ r ∷ l
+        → ((q : ℕ) → q ≢ p → SettledAt m q) → Onward (suc k) (suc k) ws w (released bounds w p w.place)
     unfolding M.oldest_by
-    waiting-step r l h idle queue others =
-        let p = w.ready in
+    waiting-step p r l h idle queue others =
         let eight : p < max_tasks = omega (arith, c.bodies) in
         let u : M.unfinished_at m p ≡ false = task_busy sheet program bounds c.bodies w.tasks w.jobs p h ∙ idle in
         let is : M.start_oldest p m ≡ M.starting p (M.behind p l m) = rw (u, queue) in
@@ -196,7 +196,7 @@ module _ (sheet : List ℕ) (program : List BodyCommand) (bounds : List ℕ) (he
         (waited_fits sheet program bounds c.bodies ws w g p w.place (few p h) h (starts_inside sheet program bounds held c p h) l idle
         (rw queue (omega arith)) (subst Settled is (one_settled m p fit.tasks others eight)))
 
-    tick-step : max_tasks ≤ w.ready → Settled m → w.ticks < 4294967295 → ((task next : ℕ) → coming_in sheet w ≡ Due task next → ⊥)
+    tick-step : w.ready ≡ None → Settled m → w.ticks < 4294967295 → ((task next : ℕ) → coming_in sheet w ≡ Due task next → ⊥)
         → stops_by (coming_in sheet w) w.mask ≡ false → Onward k (suc k) ws w (ticked program bounds w)
     unfolding M.tick
     tick-step ready settled small due stops =
@@ -235,20 +235,20 @@ module _ (sheet : List ℕ) (program : List BodyCommand) (bounds : List ℕ) (he
         go : ReadySound sheet program bounds ws w → Onward (suc k) (suc k) ws w (released bounds w task next)
         go (none_ready h f) =
             release-step ws w g fit range k f task next (subst (ComingAt sheet w.place w.ticks) e (sheet_coming w h))
-        go (one_ready r l h i q o) =
-            let due : Due w.ready w.place ≡ Due task next = sym (waiting_comes w h) ∙ e in
-            let same-task : w.ready ≡ task = cc in
+        go (one_ready p r l y h i q o) =
+            let due : Due p w.place ≡ Due task next = sym (waiting_comes w p y) ∙ e in
+            let same-task : p ≡ task = cc in
             let same_place : w.place ≡ next = cc in
             subst (λ (z : ℕ). Onward (suc k) (suc k) ws w (released bounds w task z)) same_place
-            (subst (λ (z : ℕ). Onward (suc k) (suc k) ws w (released bounds w z w.place)) same-task (waiting-step ws w g fit range k r l h i q o))
+            (subst (λ (z : ℕ). Onward (suc k) (suc k) ws w (released bounds w z w.place)) same-task (waiting-step ws w g fit range k p r l h i q o))
 
     -- where nothing is due no job has ended with one waiting
-    unready : ((task next : ℕ) → coming_in sheet w ≡ Due task next → ⊥) → (max_tasks ≤ w.ready) × Settled (viewed ws w)
+    unready : ((task next : ℕ) → coming_in sheet w ≡ Due task next → ⊥) → (w.ready ≡ None) × Settled (viewed ws w)
     unready d = go g.ready
       where
-        go : ReadySound sheet program bounds ws w → (max_tasks ≤ w.ready) × Settled (viewed ws w)
+        go : ReadySound sheet program bounds ws w → (w.ready ≡ None) × Settled (viewed ws w)
         go (none_ready h f) = (h, f)
-        go (one_ready r l h i q o) = absurd (d w.ready w.place (waiting_comes w h))
+        go (one_ready p r l y h i q o) = absurd (d p w.place (waiting_comes w p y))
 
   stops_undue : (k : Coming) (mask : ℕ) → stops_by k mask ≡ true → (task next : ℕ) → k ≡ Due task next → ⊥
   stops_undue k mask e task next d = false≢true (rw d at e)

@@ -92,5 +92,5 @@ module _ (sheet : List ℕ) (program : List BodyCommand) (bounds : List ℕ) (he
         };
         mask = refl;
         waiting = refl;
-        ready = none_ready (omega arith) (λ p i. no_queue p);
+        ready = none_ready refl (λ p i. no_queue p);
       }

@@ -1,5 +1,5 @@
 -- A tick in which no release is due: the highest task with an unfinished job does one statement, or nobody does.
-use Prim.Native.Nat.{ℕ, zero, suc, ◌+◌, ◌^◌, ◌<◌, ◌≤◌}
+use Prim.Native.Nat.{ℕ, zero, suc, ◌+◌, ◌^◌, ◌<◌}
 use mathlib.Core.Path.{◌≡◌, refl, sym, ap, ◌∙◌, subst}
 use mathlib.Core.Bool.{Bool, true, false, true≢false}
 use mathlib.Core.Logic.{◌≢◌}
@@ -7,8 +7,8 @@ use mathlib.Core.List.{List, [], ◌∷◌}
 use native.Mathlib.Omega.{arith}
 use borrow.Author.Tests.{eq-eqb, ne_eqb}
 use lib.ListN.{length}
+use Rattle.std.specs.Prelude.{Some, None}
 use Rattle.model.specs.Lists.{at, replace}
-use Rattle.model.specs.Ceilings.{max_tasks}
 use Rattle.model.specs.Command as C
 use Rattle.model.specs.Sheet.{Sheet, sheet_of}
 use Rattle.model.specs.Job as J
@@ -47,7 +47,7 @@ left-mask false m k p h = omega arith
 
 module _ (sheet : List ℕ) (program : List BodyCommand) (bounds : List ℕ) (held : Programmed sheet program bounds)
     (c : SheetFit (sheet_of sheet)) (ws : List (List C.Release)) (w : FlatMachine) (g : Sound sheet program bounds ws w)
-    (none-ready : max_tasks ≤ w.ready) (settled : Settled (machine_of sheet program bounds ws w)) where
+    (none-ready : w.ready ≡ None) (settled : Settled (machine_of sheet program bounds ws w)) where
   abbrev s : Sheet
   s = sheet_of sheet
 
@@ -170,11 +170,11 @@ module _ (sheet : List ℕ) (program : List BodyCommand) (bounds : List ℕ) (he
         here = task_busy sheet program bounds c.bodies v.tasks v.jobs p declared ∙ busy_here
 
         go : (b : Bool) → unfinished? o.next.phase ≡ b → (l : List C.Release) → M.waiting_at ws p ≡ l → ReadySound sheet program bounds ws v
-        go true e l k = none_ready (omega (arith, none-ready, ready-is true l e k)) (all_settled (λ i. absurd (true≢false (sym e ∙ sym here ∙ i))))
-        go false e [] k = none_ready (omega (arith, none-ready, ready-is false [] e k)) (all_settled (λ i. k))
+        go true e l k = none_ready (ready-is true l e k ∙ none-ready) (all_settled (λ i. absurd (true≢false (sym e ∙ sym here ∙ i))))
+        go false e [] k = none_ready (ready-is false [] e k ∙ none-ready) (all_settled (λ i. k))
         go false e (r ∷ l) k =
-            let z : v.ready ≡ p = ready-is false (r ∷ l) e k ∙ rw (ne_eqb (suc (length l)) 0 (λ e. omega arith)) in
-            one_ready r l (rw z declared) (rw z (busy_here ∙ e)) (rw z k) (λ q d. others_settled q (rw z at d))
+            let z : v.ready ≡ Some p = ready-is false (r ∷ l) e k ∙ rw (ne_eqb (suc (length l)) 0 (λ e. omega arith)) in
+            one_ready p r l z declared (busy_here ∙ e) k others_settled
 
     statement_fits : TickedFits v
     statement_fits =

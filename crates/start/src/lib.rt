@@ -40,8 +40,7 @@ fn fresh_cell(value: u32) -> u64
 fn blank() -> Memory
     ensures { SharedStarts nothing (shared result) }
 {
-    let word = fresh_cell(0);
-    Memory::filled(word)
+    Memory::filled(fresh_cell(0))
 }
 
 fn set_words(sheet: &[u8], n: Counts, memory: &mut Memory)
@@ -49,11 +48,8 @@ fn set_words(sheet: &[u8], n: Counts, memory: &mut Memory)
     requires shared_starts { SharedStarts (declaring (sheet_of sheet.now) 0 0) (shared memory.old) }
     ensures { SharedStarts (declaring (sheet_of sheet.now) n.words 0) (shared memory.new) }
 {
-    let mut w = 0;
-    while w < n.words {
-        let cell = fresh_cell(sheet::index::word(sheet, w));
-        memory.set_cell(w, cell);
-        w += 1;
+    for w in 0..n.words {
+        memory.set_cell(w, fresh_cell(sheet::index::word(sheet, w)));
     }
 }
 
@@ -61,10 +57,8 @@ fn set_store(memory: &mut Memory, store: usize, values: [u32; VALUES])
     requires { Before (shared memory.old) store values }
     ensures { Stored (shared memory.old) store values (shared memory.new) }
 {
-    let mut k = 0;
-    while k < VALUES {
-        memory.set_value(VALUES * store + k, values[k]);
-        k += 1;
+    for (k, value) in values.iter().enumerate() {
+        memory.set_value(VALUES * store + k, *value);
     }
 }
 
@@ -75,10 +69,8 @@ fn set_block(sheet: &[u8], n: Counts, memory: &mut Memory, b: usize)
 {
     let store = COPIES * n.tasks + b;
     let version = sheet::index::version(sheet, n.words, b);
-    let cell = fresh_cell(version * 256 + store as u32);
-    memory.set_cell(WORDS + b, cell);
-    let values = sheet::index::block_values(sheet, n.words, b);
-    set_store(&mut *memory, store, values);
+    memory.set_cell(WORDS + b, fresh_cell(version * 256 + store as u32));
+    set_store(memory, store, sheet::index::block_values(sheet, n.words, b));
 }
 
 fn set_blocks(sheet: &[u8], n: Counts, memory: &mut Memory)
@@ -86,10 +78,8 @@ fn set_blocks(sheet: &[u8], n: Counts, memory: &mut Memory)
     requires shared_starts { SharedStarts (declaring (sheet_of sheet.now) n.words 0) (shared memory.old) }
     ensures { SharedStarts (declaring (sheet_of sheet.now) n.words n.blocks) (shared memory.new) }
 {
-    let mut b = 0;
-    while b < n.blocks {
-        set_block(sheet, n, &mut *memory, b);
-        b += 1;
+    for b in 0..n.blocks {
+        set_block(sheet, n, memory, b);
     }
 }
 
@@ -115,9 +105,5 @@ fn own_start(p: usize) -> Task
 pub fn tasks() -> [Task; TASKS]
     ensures { TasksStart (map own result) }
 {
-    let mut tasks = [Task::with_copies([0; COPIES]); TASKS];
-    for p in 0..TASKS {
-        tasks[p] = own_start(p);
-    }
-    tasks
+    std::array::from_fn(own_start)
 }

@@ -1,6 +1,6 @@
 -- One statement of a task: it takes up the command at work, outside or inside a transaction, or goes on inside a command, by the
 -- phase of its job.
-use Rattle.std.specs.Prelude.{ℕ, Bool, true, false, List, ltb, get_or}
+use Rattle.std.specs.Prelude.{ℕ, Bool, true, false, List, ltb, get_or, Option, Some, None}
 use Rattle.model.specs.Lists.{at}
 use Rattle.commands.specs.declared.Outside.{Outside}
 use Rattle.commands.specs.declared.Outside.TheVariants as O
@@ -19,8 +19,6 @@ use Rattle.transactions.specs.Commits.{commit_by, committed_by}
 use Rattle.exchanges.specs.declared.read.Reading.TheVariants.{Load}
 use Rattle.exchanges.specs.declared.exchange.Step.{Step}
 use Rattle.exchanges.specs.declared.exchange.Exchanged.{Exchanged}
-use Rattle.statements.specs.declared.step.Exchanging.{Exchanging}
-use Rattle.statements.specs.declared.step.Exchanging.TheVariants.{At, No}
 use Rattle.jobs.specs.declared.Inner.{Inner}
 use Rattle.jobs.specs.declared.Inner.TheVariants.{Between, First, Copying, Again, Committing}
 use Rattle.jobs.specs.declared.Phase.{Phase}
@@ -86,18 +84,18 @@ other_tick m t j (P.Exchange r s) = left j m t
 other_tick m t j (P.Transaction i) = transact_tick m t j i
 
 -- the step of an exchange that a job is at
-abbrev pub inner_step : Inner → Exchanging
-inner_step Between = No
-inner_step (First a s) = No
-inner_step (Copying a n) = No
-inner_step (Again a v s) = No
-inner_step (Committing s) = At s
+abbrev pub inner_step : Inner → Option Step
+inner_step Between = None
+inner_step (First a s) = None
+inner_step (Copying a n) = None
+inner_step (Again a v s) = None
+inner_step (Committing s) = Some s
 
-unfoldable pub exchange_step : Phase → Exchanging
-exchange_step P.Idle = No
-exchange_step P.Plain = No
-exchange_step (P.Read r w s) = No
-exchange_step (P.Exchange r s) = At s
+unfoldable pub exchange_step : Phase → Option Step
+exchange_step P.Idle = None
+exchange_step P.Plain = None
+exchange_step (P.Read r w s) = None
+exchange_step (P.Exchange r s) = Some s
 exchange_step (P.Transaction i) = inner_step i
 
 -- what a tick of its exchange makes of the job of SWAP, and of COMMIT

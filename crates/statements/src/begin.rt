@@ -12,108 +12,95 @@ use state::{Memory, Task};
 use transactions::{accesses, commits};
 
 // A command that stands only outside a transaction.
+#[tactic(auto, unfolding(crate::specs::Statements::outside_tick))]
 fn outside(memory: &mut Memory, task: &mut Task, p: u8, job: Job, command: Outside) -> Job
     ensures { left result (shared memory.new) (own task.new) ≡ outside_tick (shared memory.old) (own task.old) p job command }
 {
     match command {
         Outside::Read { register, word } => {
-            let read = read::read_tick(&*memory, word as usize, Reading::Load);
-            return jobs::read_by(&mut *task, job, register, word, read);
+            let read = read::read_tick(memory, word as usize, Reading::Load);
+            jobs::read_by(task, job, register, word, read)
         }
         Outside::Pair { word, old, new } => {
             let o = task.register(old);
             let n = task.register(new);
-            jobs::enter(&mut *task, job.pairs, word as u32, o, n);
-            return job.done(places::next(job.pairs));
+            jobs::enter(task, job.pairs, word as u32, o, n);
+            job.done(places::next(job.pairs))
         }
         Outside::Swap(register) => {
-            let step = exchange::start(&mut *memory, p);
-            return job.in_phase(Phase::Exchange(register, step));
+            let step = exchange::start(memory, p);
+            job.in_phase(Phase::Exchange(register, step))
         }
         Outside::Begin => {
-            jobs::keep(&mut *task);
-            accesses::clear(&mut *task);
-            return Job::new(Phase::Transaction(Inner::Between), job.next_line(), 0);
+            jobs::keep(task);
+            accesses::clear(task);
+            Job::new(Phase::Transaction(Inner::Between), job.next_line(), 0)
         }
     }
 }
 
 // Outside a transaction; the sheet check lets none of inside stand there.
+#[tactic(auto, unfolding(crate::specs::Statements::plain_tick))]
 fn plain_command(memory: &mut Memory, task: &mut Task, p: u8, job: Job, command: BodyCommand) -> Job
     ensures { left result (shared memory.new) (own task.new) ≡ plain_tick (shared memory.old) (own task.old) p job command }
 {
     match command {
         BodyCommand::Load { register, value } => {
             task.set_register(register, value);
-            return job.done(job.pairs);
+            job.done(job.pairs)
         }
         BodyCommand::Add { register, other } => {
-            jobs::add(&mut *task, register, other);
-            return job.done(job.pairs);
+            jobs::add(task, register, other);
+            job.done(job.pairs)
         }
-        BodyCommand::Outside(c) => {
-            return outside(&mut *memory, &mut *task, p, job, c);
-        }
-        BodyCommand::Inside(_) => {
-            return job;
-        }
+        BodyCommand::Outside(c) => outside(memory, task, p, job, c),
+        BodyCommand::Inside(_) => job,
     }
 }
 
 // A command that stands only inside a transaction.
+#[tactic(auto, unfolding(crate::specs::Statements::inside_tick))]
 fn inside(memory: &mut Memory, task: &mut Task, job: Job, command: Inside) -> Job
     ensures { left result (shared memory.new) (own task.new) ≡ inside_tick (shared memory.old) (own task.old) job command }
 {
     match command {
-        Inside::Access(access) => {
-            return accesses::access(&mut *memory, &mut *task, job, access);
-        }
-        Inside::Commit => {
-            return commits::commit(&mut *task, job);
-        }
+        Inside::Access(access) => accesses::access(memory, task, job, access),
+        Inside::Commit => commits::commit(task, job),
     }
 }
 
 // Inside a transaction, between its inner steps; the sheet check lets none of outside stand there.
+#[tactic(auto, unfolding(crate::specs::Statements::between_tick))]
 fn between(memory: &mut Memory, task: &mut Task, job: Job, command: BodyCommand) -> Job
     ensures { left result (shared memory.new) (own task.new) ≡ between_tick (shared memory.old) (own task.old) job command }
 {
     match command {
         BodyCommand::Load { register, value } => {
             task.set_register(register, value);
-            return accesses::goes_on(job);
+            accesses::goes_on(job)
         }
         BodyCommand::Add { register, other } => {
-            jobs::add(&mut *task, register, other);
-            return accesses::goes_on(job);
+            jobs::add(task, register, other);
+            accesses::goes_on(job)
         }
-        BodyCommand::Inside(c) => {
-            return inside(&mut *memory, &mut *task, job, c);
-        }
-        BodyCommand::Outside(_) => {
-            return job;
-        }
+        BodyCommand::Inside(c) => inside(memory, task, job, c),
+        BodyCommand::Outside(_) => job,
     }
 }
 
 pub fn is_plain(phase: Phase) -> bool
     ensures { result ≡ plain? phase }
 {
-    match phase {
-        Phase::Idle => false,
-        Phase::Plain => true,
-        Phase::Read(_, _, _) => false,
-        Phase::Exchange(_, _) => false,
-        Phase::Transaction(_) => false,
-    }
+    matches!(phase, Phase::Plain)
 }
 
+#[tactic(auto, unfolding(crate::specs::Statements::begin_tick))]
 pub fn begin(memory: &mut Memory, task: &mut Task, p: u8, job: Job, command: BodyCommand) -> Job
     ensures { left result (shared memory.new) (own task.new) ≡ begin_tick (shared memory.old) (own task.old) p job command }
 {
-    let phase = job.phase;
-    if is_plain(phase) {
-        return plain_command(&mut *memory, &mut *task, p, job, command);
+    if is_plain(job.phase) {
+        plain_command(memory, task, p, job, command)
+    } else {
+        between(memory, task, job, command)
     }
-    between(&mut *memory, &mut *task, job, command)
 }

@@ -10,78 +10,48 @@ use jobs::{Inner, Job, Phase};
 use state::{Memory, Task};
 use transactions::{accesses, commits};
 
-// Whether a job is at a step of an exchange, of SWAP or of COMMIT.
-#[derive(Clone, Copy)]
-pub enum Exchanging {
-    At(Step),
-    No,
-}
-
-fn exchange_step(phase: Phase) -> Exchanging
+// The step of an exchange that a job is at, of SWAP or of COMMIT.
+#[tactic(auto, unfolding(crate::specs::Statements::exchange_step))]
+fn exchange_step(phase: Phase) -> Option<Step>
     ensures { result ≡ exchange_step phase }
 {
     match phase {
-        Phase::Idle => Exchanging::No,
-        Phase::Plain => Exchanging::No,
-        Phase::Read(_, _, _) => Exchanging::No,
-        Phase::Exchange(_, step) => Exchanging::At(step),
-        Phase::Transaction(inner) => match inner {
-            Inner::Between => Exchanging::No,
-            Inner::First(_, _) => Exchanging::No,
-            Inner::Copying(_, _) => Exchanging::No,
-            Inner::Again(_, _, _) => Exchanging::No,
-            Inner::Committing(step) => Exchanging::At(step),
-        },
+        Phase::Exchange(_, step) | Phase::Transaction(Inner::Committing(step)) => Some(step),
+        _ => None,
     }
 }
 
 // A statement inside a transaction that is not its exchange's.
+#[tactic(auto, unfolding(crate::specs::Statements::transact_tick))]
 fn transact(memory: &mut Memory, task: &mut Task, job: Job, inner: Inner) -> Job
     ensures { left result (shared memory.new) (own task.new) ≡ transact_tick (shared memory.old) (own task.old) job inner }
 {
     match inner {
-        Inner::Between => {
-            return job;
-        }
         Inner::First(access, step) => {
-            let read = read::read_tick(&*memory, accesses::bank(accesses::block(access)), step);
-            return accesses::first_read(&mut *task, job, access, read);
+            let read = read::read_tick(memory, accesses::bank(accesses::block(access)), step);
+            accesses::first_read(task, job, access, read)
         }
-        Inner::Copying(access, n) => {
-            return accesses::copy(&mut *memory, &*task, job, access, n);
-        }
+        Inner::Copying(access, n) => accesses::copy(memory, task, job, access, n),
         Inner::Again(access, value, step) => {
-            let read = read::read_tick(&*memory, accesses::bank(accesses::block(access)), step);
-            return accesses::again_read(&mut *task, job, access, value, read);
+            let read = read::read_tick(memory, accesses::bank(accesses::block(access)), step);
+            accesses::again_read(task, job, access, value, read)
         }
-        Inner::Committing(_) => {
-            return job;
-        }
+        Inner::Between | Inner::Committing(_) => job,
     }
 }
 
 // A statement that is no exchange's.
+#[tactic(auto, unfolding(crate::specs::Statements::other_tick))]
 fn other(memory: &mut Memory, task: &mut Task, job: Job) -> Job
     ensures { left result (shared memory.new) (own task.new) ≡ other_tick (shared memory.old) (own task.old) job job.phase }
 {
-    let phase = job.phase;
-    match phase {
-        Phase::Idle => {
-            return job;
-        }
-        Phase::Plain => {
-            return job;
-        }
+    match job.phase {
         Phase::Read(register, word, step) => {
-            let read = read::read_tick(&*memory, word as usize, step);
-            return jobs::read_by(&mut *task, job, register, word, read);
+            let read = read::read_tick(memory, word as usize, step);
+            jobs::read_by(task, job, register, word, read)
         }
-        Phase::Exchange(_, _) => {
-            return job;
-        }
-        Phase::Transaction(inner) => {
-            return transact(&mut *memory, &mut *task, job, inner);
-        }
+        Phase::Transaction(inner) => transact(memory, task, job, inner),
+        Phase::Idle | Phase::Plain | Phase::Exchange(_, _) => job,
     }
 }
 
@@ -89,21 +59,13 @@ fn other(memory: &mut Memory, task: &mut Task, job: Job) -> Job
 pub fn step(memory: &mut Memory, task: &mut Task, p: u8, job: Job) -> Job
     ensures { left result (shared memory.new) (own task.new) ≡ step_tick (shared memory.old) (own task.old) p job job.phase }
 {
-    let phase = job.phase;
-    let at = exchange_step(phase);
-    if let Exchanging::At(step) = at {
-        let exchanged = exchange::exchange_tick(
-            &mut *memory,
-            &mut *task,
-            p,
-            job.pairs,
-            job.value,
-            step,
-        );
-        if let Phase::Exchange(register, _) = phase {
-            return jobs::swap_by(&mut *task, job, register, exchanged);
-        }
-        return commits::committed_by(&mut *task, job, exchanged);
+    let Some(step) = exchange_step(job.phase) else {
+        return other(memory, task, job);
+    };
+    let exchanged = exchange::exchange_tick(memory, task, p, job.pairs, job.value, step);
+    if let Phase::Exchange(register, _) = job.phase {
+        jobs::swap_by(task, job, register, exchanged)
+    } else {
+        commits::committed_by(task, job, exchanged)
     }
-    other(&mut *memory, &mut *task, job)
 }

@@ -1,11 +1,8 @@
 -- `zero` meets its contract.
-use Rattle.std.proofs.Common.{◌≡◌, ◌-◌, ◌≤◌}
+use Rattle.std.proofs.Common.{◌≡◌}
 use Rattle.state.specs.State.{own}
 use Rattle.arrivals.specs.Releases.{zeroing}
 use Rattle.arrivals.proofs.zero.Given as goal
 
 abbrev pub invariant-loop-n : goal.invariant-loop-n
-invariant-loop-n l = (l.n ≤ 8) × (own l.task ≡ zeroing l.n (own l.initial.task))
-
-abbrev pub decreases-loop-n : goal.decreases-loop-n
-decreases-loop-n l = 8 - l.n
+invariant-loop-n l = own l.task ≡ zeroing l.n (own l.initial.task)

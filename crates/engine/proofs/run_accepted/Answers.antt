@@ -3,10 +3,17 @@ use Rattle.std.proofs.Common.{refl}
 use Rattle.engine.proofs.Flat.{ran_by}
 use Rattle.engine.proofs.run_accepted.Goals as goal
 
-pub run-ended-requires : goal.run-ended-requires
-run-ended-requires c = (rw c.start-from.ensures refl, rw c.start-from.ensures refl, c.program-program.ensures.size)
+pub run-ended-requires-clause-jobs : goal.run-ended-requires-clause-jobs
+run-ended-requires-clause-jobs c = rw c.start-from.ensures refl
+
+pub run-ended-requires-clause-waiting : goal.run-ended-requires-clause-waiting
+run-ended-requires-clause-waiting c = rw c.start-from.ensures refl
 
 pub returns : goal.returns
-returns c =
-    ran_by c.index-x.ensures c.memory-memory.ensures c.tasks-tasks.ensures c.program-program.ensures c.start-from.ensures c.run-ended.ensures.0
+returns c = ran_by c.index-x.ensures
+    c.memory-memory.ensures
+    c.tasks-tasks.ensures
+    c.program-program.ensures
+    c.start-from.ensures
+    c.run-ended.ensures.ends
     (rw (c.into.ensures, c.into-2.ensures, c.into-3.ensures) at c.report.ensures)

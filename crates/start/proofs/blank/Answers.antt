@@ -4,4 +4,4 @@ use Rattle.start.proofs.Loops.{all_blanked}
 use Rattle.start.proofs.blank.Goals as goal
 
 pub returns : goal.returns
-returns c = search (rules, all_blanked)
+returns c = all_blanked c.fresh_cell.result c.fresh_cell.ensures (search rules)

@@ -24,13 +24,13 @@ pub overflow_add-b : goal.overflow_add-b
 overflow_add-b c = record { fits = omega (arith, block_range c.requires) }
 
 pub set_store-requires : goal.set_store-requires
-set_store-requires c = let pre = c.requires in store-ready pre _ c.set_cell.ensures c.block_values-values.ensures
+set_store-requires c = let pre = c.requires in store-ready pre _ c.set_cell.ensures c.block_values.ensures
 
 pub returns : goal.returns
 returns c =
     let pre = c.requires in
     let version = c.version-version.ensures in
-    let bank = rw version at c.fresh_cell-cell.ensures in
+    let bank = rw version at c.fresh_cell.ensures in
     let cell = c.set_cell.ensures in
-    let stored = rw (cell, c.block_values-values.ensures) at c.set_store.ensures in
+    let stored = rw (cell, c.block_values.ensures) at c.set_store.ensures in
     block_done pre _ bank stored

@@ -16,33 +16,36 @@ use Rattle.machine.proofs.run.run.Given as goal
 
 -- while one task runs: with busy, what the next statement needs; the mask still has the task, and no release behind its job is ready
 abbrev pub invariant-loop-busy : goal.invariant-loop-busy
-invariant-loop-busy l =
-    (l.busy ≡ true → l.tick < l.limit)
-    × (l.busy ≡ true → (task after : ℕ) → coming_by l.ready l.place l.next l.tick ≡ Due task after → ⊥)
-    × (l.initial.tick ≤ l.tick)
-    × (l.busy ≡ false → l.initial.tick < l.tick)
-    × ((u : FlatMachine)
-    → Ends l.sheet l.program l.bounds l.limit
-    (flat (shared l.memory) (map own l.tasks) (set l.jobs l.p l.job) (left_by (l.busy || unfinished? l.job.phase) l.mask l.p) l.waiting
-    (ready_by (l.busy || unfinished? l.job.phase) (get_or l.waiting l.p 0) l.p l.ready) l.place l.tick) u
-    → Ends l.sheet l.program l.bounds l.limit
-    (flat (shared l.initial.memory) (map own l.initial.tasks) (set l.jobs l.p l.initial.job) l.mask l.waiting l.ready l.place
-    l.initial.tick) u)
+invariant-loop-busy l = record {
+  within : l.busy ≡ true → l.tick < l.limit;
+  undue : l.busy ≡ true → (task after : ℕ) → coming_by l.ready l.place l.next l.tick ≡ Due task after → ⊥;
+  onward : l.initial.tick ≤ l.tick;
+  later : l.busy ≡ false → l.initial.tick < l.tick;
+  ends : (u : FlatMachine)
+      → Ends l.sheet l.program l.bounds l.limit
+      (flat (shared l.memory) (map own l.tasks) (set l.jobs l.p l.job) (left_by (l.busy || unfinished? l.job.phase) l.mask l.p) l.waiting
+      (ready_by (l.busy || unfinished? l.job.phase) (get_or l.waiting l.p 0) l.p l.ready) l.place l.tick) u
+      → Ends l.sheet l.program l.bounds l.limit
+      (flat (shared l.initial.memory) (map own l.initial.tasks) (set l.jobs l.p l.initial.job) l.mask l.waiting l.ready l.place
+      l.initial.tick) u;
+}
 
 abbrev pub decreases-loop-busy : goal.decreases-loop-busy
-decreases-loop-busy l =
-    l.limit - l.tick
+decreases-loop-busy l = l.limit - l.tick
 
 abbrev pub invariant-loop-tick : goal.invariant-loop-tick
-invariant-loop-tick l =
-    (l.p < 8) × (length l.jobs ≡ 8) × (length l.waiting ≡ 8) × (l.next ≡ pending_at (command_at l.sheet l.place))
-    × ((u : FlatMachine)
-    → Ends l.sheet l.program l.bounds l.limit
-    (flat (shared l.memory) (map own l.tasks) (set l.jobs l.p l.job) l.mask l.waiting l.ready l.place l.tick) u
-    → Ends l.sheet l.program l.bounds l.limit
-    (flat (shared l.initial.memory) (map own l.initial.tasks) (set l.initial.jobs l.initial.p l.initial.job) l.initial.mask
-    l.initial.waiting l.initial.ready l.initial.place l.initial.tick) u)
+invariant-loop-tick l = record {
+  in_range : l.p < 8;
+  jobs_size : length l.jobs ≡ 8;
+  waiting_size : length l.waiting ≡ 8;
+  pending : l.next ≡ pending_at (command_at l.sheet l.place);
+  ends : (u : FlatMachine)
+      → Ends l.sheet l.program l.bounds l.limit
+      (flat (shared l.memory) (map own l.tasks) (set l.jobs l.p l.job) l.mask l.waiting l.ready l.place l.tick) u
+      → Ends l.sheet l.program l.bounds l.limit
+      (flat (shared l.initial.memory) (map own l.initial.tasks) (set l.initial.jobs l.initial.p l.initial.job) l.initial.mask
+      l.initial.waiting l.initial.ready l.initial.place l.initial.tick) u;
+}
 
 abbrev pub decreases-loop-tick : goal.decreases-loop-tick
-decreases-loop-tick l =
-    4 * (l.limit - l.tick) + 2 * to_come l.sheet l.place l.ready + apart (eqb (top_of 8 l.mask) l.p)
+decreases-loop-tick l = 4 * (l.limit - l.tick) + 2 * to_come l.sheet l.place l.ready + apart (eqb (top_of 8 l.mask) l.p)

@@ -1,30 +1,17 @@
 -- `top` meets its contract.
-use Rattle.machine.specs.Flat.{top_of}
-use Prim.Native.Nat.{◌<◌}
-use native.Mathlib.Omega.{arith}
-use mathlib.Core.Path.{sym, ap, ◌∙◌}
-use Rattle.machine.proofs.Mask.{top-of, top_none, top_past}
+use Rattle.std.proofs.Common.{◌≡◌, min, rules}
+use Rattle.machine.proofs.Mask.{none-highest, highest-small, highest-is}
 use Rattle.machine.proofs.run.top.Goals as goal
 
-pub returns-then-mask-eq0 : goal.returns-then-mask-eq0
-returns-then-mask-eq0 c = (sym (ap (top_of 8) c.if-mask-eq0.true ∙ top_none), omega arith)
+pub returns-then-mask-eq0-clause-highest : goal.returns-then-mask-eq0-clause-highest
+returns-then-mask-eq0-clause-highest c = none-highest _ c.if-mask-eq0.true
 
-pub returns-then-mask-gt255 : goal.returns-then-mask-gt255
-returns-then-mask-gt255 c = (sym (top_past _ c.if-mask-gt255.true), omega arith)
+pub returns-else-mask-eq0-clause-highest : goal.returns-else-mask-eq0-clause-highest
+returns-else-mask-eq0-clause-highest c =
+    let capped : c.min.result ≡ min c.args.mask 255 = search rules in
+    highest-is _ _ _ capped c.ilog2.ensures.power_le c.ilog2.ensures.next_power_gt
 
-pub overflow_sub-result : goal.overflow_sub-result
-overflow_sub-result c =
-    let ne = c.if-mask-eq0.false in
-    let le = c.if-mask-gt255.false in
-    let pos : 0 < c.args.mask = omega arith in
-    let less : c.args.mask < 256 = omega arith in
-    (top-of c.args.mask pos less).0
-
-pub returns : goal.returns
-returns c =
-    let ne = c.if-mask-eq0.false in
-    let le = c.if-mask-gt255.false in
-    let pos : 0 < c.args.mask = omega arith in
-    let less : c.args.mask < 256 = omega arith in
-    let t = top-of c.args.mask pos less in
-    (t.2, t.1)
+pub returns-else-mask-eq0-clause-in_range : goal.returns-else-mask-eq0-clause-in_range
+returns-else-mask-eq0-clause-in_range c =
+    let capped : c.min.result ≡ min c.args.mask 255 = search rules in
+    highest-small _ _ _ capped c.ilog2.ensures.power_le c.ilog2.ensures.next_power_gt
