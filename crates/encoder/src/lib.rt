@@ -13,6 +13,8 @@ use commands::ceilings::SheetCeilings;
 use commands::table::entry_of;
 use commands::{Access, BodyCommand, Command, Inside, Outside};
 
+// Free functions, not methods: the commands' types are of another crate.
+
 fn byte_of_outside(c: Outside) -> u8
     ensures { result ≡ byte_of (body (outside (view_outside c))) }
 {
@@ -161,13 +163,12 @@ fn operands(buffer: &mut [u8], c: Command, values: &[u32])
             put(buffer, &version.to_be_bytes());
             put_values(&mut buffer[4..], values);
         }
-        Command::Task => {}
+        Command::Task | Command::End => {}
         Command::Release(r) => {
             // Two bytes hold the tick.
             let [_, _, high, low] = r.tick.to_be_bytes();
             put(buffer, &[high, low, r.task]);
         }
-        Command::End => {}
         Command::Body(b) => operands_body(buffer, b),
     }
 }
