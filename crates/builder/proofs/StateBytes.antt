@@ -1,77 +1,43 @@
--- The state in 64 bytes: each part of it by the bytes that hold it.
-use Prim.Native.Nat.{ℕ, zero, suc, ◌+◌, ◌*◌, ◌/◌, ◌%◌, ◌≤◌}
-use mathlib.Core.Path.{◌≡◌, refl, sym, ap, ◌∙◌}
+-- The state in 64 bytes: std's numbers of several bytes are the model's.
+use Prim.Native.Nat.{ℕ, ◌<◌, ◌^◌}
+use mathlib.Core.Path.{◌≡◌, refl, sym, ◌∙◌}
 use mathlib.Core.Bool.{Bool, true, false, not}
 use mathlib.Core.List.{List, [], ◌∷◌}
 use native.Mathlib.Omega.{arith}
-use borrow.Author.Tests.{eq-eqb, ne_eqb}
-use lib.Dec.{eqb}
-use lib.ListN.{length, get_or, take, replicate}
-use lib.Seq.{take_all}
+use lib.ListN.{take, replicate}
+use Rattle.std.specs.Int.{w16, w32, w64, to_be_bytes, from_be_bytes}
+use Rattle.std.proofs.lemmas.Nat.{from_be_bytes-to_be_bytes_2, from_be_bytes-to_be_bytes_4, from_be_bytes-to_be_bytes_8}
 use Rattle.model.specs.Command.{big_endian}
-use Rattle.model.specs.Fault.{Section, release_section, SheetCounts, Body}
-use Rattle.model.specs.Builder.{BuilderState, nothing_filled}
-use Rattle.builder.specs.Packed.{section_of, some?, counts_of, body_of, row, state_of}
+use Rattle.model.specs.Builder.{nothing_filled}
+use Rattle.builder.specs.Packed.{some?, body_of, state_of}
+use mir.Val.{bool_byte}
 
--- NUMBERS OF SEVERAL BYTES
-pub two_bytes : (s : List ℕ) (p : ℕ) → big_endian s p 2 ≡ get_or s p 0 * 256 + get_or s (p + 1) 0
+two_bytes : (s : List ℕ) → from_be_bytes w16 s ≡ big_endian s 0 2
 unfolding big_endian
-two_bytes s p = let e : p + 0 ≡ p = omega arith in rw e (omega arith)
+two_bytes s = omega arith
 
-pub eight-bytes : (s : List ℕ) → big_endian s 0 8 ≡ big_endian s 0 4 * 4294967296 + big_endian s 4 4
+four-bytes : (s : List ℕ) → from_be_bytes w32 s ≡ big_endian s 0 4
+unfolding big_endian
+four-bytes s = omega arith
+
+eight-bytes : (s : List ℕ) → from_be_bytes w64 s ≡ big_endian s 0 8
 unfolding big_endian
 eight-bytes s = omega arith
 
--- UNPACKED
-pub past-bodies : (b : ℕ) → (b ≡ 0 → ⊥) → (b ≡ 1 → ⊥) → (b ≡ 2 → ⊥) → release_section ≡ section_of b
-past-bodies zero e f g = absurd (e refl)
-past-bodies (suc zero) e f g = absurd (f refl)
-past-bodies (suc (suc zero)) e f g = absurd (g refl)
-past-bodies (suc (suc (suc b))) e f g = refl
+-- what a row of a number's bytes gives back
+pub two_back : (n : ℕ) → n < 2 ^ 16 → big_endian (to_be_bytes w16 n) 0 2 ≡ n
+two_back n h = sym (two_bytes (to_be_bytes w16 n)) ∙ from_be_bytes-to_be_bytes_2 n h
 
-pub counts_are : (s : List ℕ) (w b t c d r q : ℕ) → w ≡ get_or s 1 0 → b ≡ get_or s 2 0 → t ≡ get_or s 3 0 → c ≡ get_or s 4 0 → d ≡ get_or s 5 0 → r ≡ get_or s 6 0
-    → q ≡ get_or s 7 0
-    → ◌≡◌ {A = SheetCounts} (record { words = w; blocks = b; tasks = t; commands = c * 256 + d; releases = r * 256 + q }) (counts_of s)
-unfolding counts_of
-counts_are s w b t c d r q e1 e2 e3 e4 e5 e6 e7 = rw (e1, e2, e3, e4, e5, e6, e7, two_bytes s 4, two_bytes s 6) refl
+pub four_back : (n : ℕ) → n < 2 ^ 32 → big_endian (to_be_bytes w32 n) 0 4 ≡ n
+four_back n h = sym (four-bytes (to_be_bytes w32 n)) ∙ from_be_bytes-to_be_bytes_4 n h
 
--- a byte as a flag
-pub is_zero : (x : ℕ) → eqb x 0 ≡ not (some? x)
-is_zero zero = eq-eqb 0 0 refl
-is_zero (suc x) = ne_eqb (suc x) 0 (λ e. absurd (omega (arith, e)))
+pub eight_back : (n : ℕ) → n < 2 ^ 64 → big_endian (to_be_bytes w64 n) 0 8 ≡ n
+eight_back n h = sym (eight-bytes (to_be_bytes w64 n)) ∙ from_be_bytes-to_be_bytes_8 n h
 
-pub is_some : (x : ℕ) → not (eqb x 0) ≡ some? x
-is_some zero = ap not (eq-eqb 0 0 refl)
-is_some (suc x) = ap not (is_zero (suc x))
-
-pub body_is : (r pairs touched puts : List ℕ) (a n b m o : ℕ) → a ≡ get_or r 0 0 → n ≡ get_or r 1 0 → b ≡ get_or r 2 0 → m ≡ get_or r 3 0 → o ≡ get_or r 4 0
-    → ◌≡◌ {A = Body} (record { empty = eqb a 0; pairs = take n pairs; inside = not (eqb b 0); touched = take m touched; puts = take o puts })
-    (body_of r pairs touched puts)
-unfolding body_of
-body_is r pairs touched puts a n b m o e1 e2 e3 e4 e5 = rw (e1, e2, e3, e4, e5, is_zero (get_or r 0 0), is_some (get_or r 2 0)) refl
-
-pub state-is : (s : List (List ℕ)) (x : Section) (n : SheetCounts) (b : Body) (tick task filled end : ℕ) → x ≡ section_of (get_or (row s 0) 0 0)
-    → n ≡ counts_of (row s 0) → b ≡ body_of (row s 1) (row s 4) (row s 5) (row s 6) → tick ≡ big_endian (row s 2) 0 4 → task ≡ get_or (row s 1) 5 0
-    → filled ≡ big_endian (row s 3) 0 8 → end ≡ get_or (row s 1) 6 0
-    → ◌≡◌ {A = BuilderState} (record {
-      known = record { section = x; counts = n; body = b; last = record { tick = tick; task = task } };
-      filled = filled;
-      ended = not (eqb end 0);
-    }) (state_of s)
-unfolding state_of
-state-is s x n b tick task filled end e1 e2 e3 e4 e5 e6 e7 = rw (e1, e2, e3, e4, e5, e6, e7, is_some (get_or (row s 1) 6 0)) refl
-
-pub all-places : (values : List ℕ) (count : ℕ) → length values ≡ 8 → 8 ≤ count → take 8 values ≡ take count values
-all-places values count e h = take_all 8 values (omega arith) ∙ sym (take_all count values (omega arith))
-
--- PACKED
-pub counts_back : (x w b t c r : ℕ)
-    → counts_of (x ∷ w ∷ b ∷ t ∷ c / 256 ∷ c % 256 ∷ r / 256 ∷ r % 256 ∷ []) ≡ record { words = w; blocks = b; tasks = t; commands = c; releases = r }
-unfolding counts_of
-counts_back x w b t c r =
-    let commands : (0 * 256 + c / 256) * 256 + c % 256 ≡ c = omega arith in
-    let releases : (0 * 256 + r / 256) * 256 + r % 256 ≡ r = omega arith in
-    rw (commands, releases) refl
+-- a flag as a byte
+pub flagged : (b : Bool) → some? (bool_byte b) ≡ b
+flagged true = refl
+flagged false = refl
 
 pub body_back : (pairs touched puts p t u : List ℕ) (e i : Bool) (f n g m o x y z : ℕ) → some? f ≡ not e → take n pairs ≡ p → some? g ≡ i
     → take m touched ≡ t → take o puts ≡ u
@@ -82,24 +48,6 @@ body_back pairs touched puts p t u e i f n g m o x y z a b c d h = rw (a, b, c, 
     twice : (e : Bool) → not (not e) ≡ e
     twice true = refl
     twice false = refl
-
-pub tick_back : (t : ℕ) → big_endian (t / 256 / 256 / 256 ∷ t / 256 / 256 % 256 ∷ t / 256 % 256 ∷ t % 256 ∷ 0 ∷ 0 ∷ 0 ∷ 0 ∷ []) 0 4 ≡ t
-unfolding big_endian
-tick_back t = omega arith
-
-pub filled_back : (f : ℕ)
-    → big_endian (f / 256 / 256 / 256 / 256 / 256 / 256 / 256 ∷ f / 256 / 256 / 256 / 256 / 256 / 256 % 256 ∷ f / 256 / 256 / 256 / 256 / 256 % 256
-    ∷ f / 256 / 256 / 256 / 256 % 256 ∷ f / 256 / 256 / 256 % 256 ∷ f / 256 / 256 % 256 ∷ f / 256 % 256 ∷ f % 256 ∷ []) 0 8 ≡ f
-unfolding big_endian
-filled_back f = omega arith
-
-pub state_back : (r0 r1 r2 r3 r4 r5 r6 r7 : List ℕ) (x : Section) (n : SheetCounts) (b : Body) (tick task filled : ℕ) (e : Bool)
-    → section_of (get_or r0 0 0) ≡ x → counts_of r0 ≡ n → body_of r1 r4 r5 r6 ≡ b → big_endian r2 0 4 ≡ tick → get_or r1 5 0 ≡ task → big_endian r3 0 8 ≡ filled
-    → some? (get_or r1 6 0) ≡ e
-    → state_of (r0 ∷ r1 ∷ r2 ∷ r3 ∷ r4 ∷ r5 ∷ r6 ∷ r7 ∷ [])
-    ≡ record { known = record { section = x; counts = n; body = b; last = record { tick = tick; task = task } }; filled = filled; ended = e }
-unfolding state_of
-state_back r0 r1 r2 r3 r4 r5 r6 r7 x n b tick task filled e e1 e2 e3 e4 e5 e6 e7 = rw (e1, e2, e3, e4, e5, e6, e7) refl
 
 -- nothing is filled where all bytes are 0
 pub start_is : state_of (replicate 8 (replicate 8 0)) ≡ nothing_filled

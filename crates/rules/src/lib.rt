@@ -5,12 +5,12 @@ ghost use Rattle.std.specs.Prelude.{◌≡◌, [], ◌≤◌};
 ghost use Rattle.model.specs.Ceilings.{max_touched};
 ghost use Rattle.model.specs.Command.{access};
 ghost use Rattle.model.specs.Fault as rule;
-ghost use Rattle.commands.specs.View.{view_release, view_access, view_outside, view_inside, view_body_command, view_command};
+ghost use Rattle.commands.specs.View.{view_access, view_outside, view_inside, view_body_command, view_command};
 ghost use Rattle.rules.specs.View.{view_counts, view_numbers, view_body, view_known, view_fault};
 
 use crate::known::{Known, Numbers, SheetCounts, Task};
 use commands::ceilings::{SheetCeilings, TaskCeilings};
-use commands::{Access, BodyCommand, Command, Inside, Outside, Refusal, Release};
+use commands::{Access, BodyCommand, Command, Inside, Outside, Refusal};
 
 pub mod known;
 pub mod place;
@@ -163,12 +163,6 @@ impl SheetCounts {
     }
 }
 
-fn before(a: Release, b: Release) -> bool
-    ensures { result ≡ rule.before (view_release a) (view_release b) }
-{
-    a.tick < b.tick || a.tick == b.tick && a.task < b.task
-}
-
 impl Known {
     #[tactic(auto, unfolding(model::specs::Fault::under_ceiling))]
     fn under_ceiling(self, c: Command) -> bool
@@ -192,7 +186,7 @@ impl Known {
         ensures { result ≡ rule.rising (view_known self) (view_command [] c) }
     {
         match c {
-            Command::Release(r) => self.counts.releases == 0 || before(self.last, r),
+            Command::Release(r) => self.counts.releases == 0 || self.last < r,
             _ => true,
         }
     }

@@ -1,7 +1,8 @@
 -- `filled_of` meets its contract.
-use mathlib.Core.Path.{sym}
-use Rattle.builder.proofs.StateBytes.{eight-bytes}
+use Rattle.std.proofs.Common.{arith}
+use Rattle.model.specs.Command.{big_endian}
 use Rattle.builder.proofs.packed.filled_of.Goals as goal
 
 pub returns : goal.returns
-returns c = rw (c.value.ensures, c.value-2.ensures) (sym (eight-bytes c.args.row))
+unfolding big_endian
+returns c = omega (arith, c.from_be_bytes.ensures)
