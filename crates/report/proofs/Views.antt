@@ -43,7 +43,8 @@ module _ {m : Shared} (s : SharedSized m) where
 pub word-text : (m : Memory) (w : ℕ) {v : ℕ} → v ≡ current_of m w → line 0x57 (w ∷ v ∷ []) ≡ word_line m w
 word-text m w e = ap (λ (x : ℕ). line 0x57 (w ∷ x ∷ [])) e
 
-pub block_text : (m : Memory) (b : ℕ) {v : ℕ} → v ≡ current_of m (bank b) → line 0x42 (b ∷ version_of v ∷ at [] m.stores (store_of v)) ≡ block_line m b
+pub block_text : (m : Memory) (b : ℕ) {v : ℕ} → v ≡ current_of m (bank b)
+    → line 0x42 (b ∷ version_of v ∷ at [] m.stores (store_of v)) ≡ block_line m b
 block_text m b e = ap (λ (x : ℕ). line 0x42 (b ∷ version_of x ∷ at [] m.stores (store_of x))) e
 
 -- the values of a block store that there is, from where they begin to where they end
@@ -55,11 +56,13 @@ store_values stores s k h e f =
     rw (n, e, f, add-zero, at_rows 8 48 s stores h)
 
 -- the T line and the R line with the counts and registers found
-pub task_text : (ts : List Task) (p : ℕ) {t : Task} → t ≡ get_or ts p no_task → lines_of_task p (own t) ≡ task_lines_of (map own ts) p
+pub task_text : (ts : List Task) (p : ℕ) {t : Task} → t ≡ get_or ts p no_task
+    → lines_of_task p (own t) ≡ task_lines_of (map own ts) p
 unfolding own
 task_text ts p e = ap (λ (t : Task). lines_of_task p (own t)) e ∙ ap (lines_of_task p) (sym (get_or-map own ts p no_task))
 
-pub task_lines : {m : ℕ} (p : ℕ) (t : Own) {counts registers : List ℕ} {u v w : Writer} → counts ≡ t.counts → registers ≡ t.registers → length registers ≡ 8
+pub task_lines : {m : ℕ} (p : ℕ) (t : Own) {counts registers : List ℕ} {u v w : Writer}
+    → counts ≡ t.counts → registers ≡ t.registers → length registers ≡ 8
     → Wrote m (line 0x54 (p ∷ take shown counts)) u v → Wrote (11 * (1 + length registers) + 2) (line 0x52 (p ∷ registers)) v w
     → m ≤ 68 → Wrote task_most (lines_of_task p t) u w
 task_lines p t e f whole a b small =

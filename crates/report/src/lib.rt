@@ -90,6 +90,7 @@ fn write(buffer: &mut [u8], memory: &Memory, tasks: &[Task; 8], totals: Totals) 
 {
     let words = totals.words.min(WORDS);
     let mut out = Writer::new(buffer);
+    // A loop each: one that takes the line as a closure needs clauses on what every call may need and write, longer than the three.
     for w in 0..words {
         out.line(b'W', &[w as u32, contents(memory, w)], &[]);
     }
