@@ -10,8 +10,9 @@ use std::io::{self, Read, Write};
 fn answer(rt: &HostRuntime, sheet: &[u8]) -> io::Result<()> {
     let mut report = [0u8; 3925];
     match engine::run(sheet, 65535, &mut report) {
-        // The report's length is at most the buffer's: the contract of `run` says so by the model's answer alone.
-        Ok(length) => rt.stdout().write_all(report.get(..length).unwrap_or_default()),
+        Ok(length) => rt
+            .stdout()
+            .write_all(report.get(..length).unwrap_or_default()),
         Err(fault) => println!(rt; "X {fault}"),
     }
 }

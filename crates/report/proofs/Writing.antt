@@ -57,7 +57,8 @@ pub all-bytes : {u w : Writer} (l : List ℕ) → Wrote (length l) (take (length
 all-bytes l a = rw (take-length l) at a
 
 -- one more number of a line
-pub number_more : {t u v w : Writer} (l : List ℕ) (value : ℕ) → Wrote (11 * length l) (spaced l) t u → Wrote 1 (0x20 ∷ []) u v → Wrote 10 (decimal value) v w
+pub number_more : {t u v w : Writer} (l : List ℕ) (value : ℕ) → Wrote (11 * length l) (spaced l) t u
+    → Wrote 1 (0x20 ∷ []) u v → Wrote 10 (decimal value) v w
     → Wrote (11 * length (l ++ (value ∷ []))) (spaced (l ++ (value ∷ []))) t w
 number_more l value a b c =
     as_text (sym (spaced-last l value)) (omega (arith, length-append l (value ∷ []))) (then a (then b c))

@@ -25,9 +25,7 @@ const BLOCKS: usize = SheetCeilings::BLOCKS as usize;
 
 const TASKS: usize = SheetCeilings::TASKS as usize;
 
-// How many block stores there are, and values in one.
-const STORES: u32 = 48;
-
+// How many values there are in a block store.
 const VALUES: usize = SheetCeilings::BLOCK_VALUES;
 
 // How many of a task's counts its T line shows.
@@ -57,12 +55,11 @@ fn values(memory: &Memory, store: u32) -> &[u32]
     ensures values { result.now ≡ at [] (memory_of (shared memory.now)).stores store }
     ensures most { length result.now ≤ 8 }
 {
-    if store < STORES {
-        let start = places::slot(store, 0);
-        &memory.stores()[start..start + VALUES]
-    } else {
-        &[]
-    }
+    let start = places::slot(store, 0);
+    memory
+        .stores()
+        .get(start..start + VALUES)
+        .unwrap_or_default()
 }
 
 // Version and values by the bank word's current value.
@@ -90,6 +87,7 @@ fn write(buffer: &mut [u8], memory: &Memory, tasks: &[Task; 8], totals: Totals) 
 {
     let words = totals.words.min(WORDS);
     let mut out = Writer::new(buffer);
+    // A loop each: one that takes the line as a closure needs clauses on what every call may need and write, longer than the three.
     for w in 0..words {
         out.line(b'W', &[w as u32, contents(memory, w)], &[]);
     }

@@ -13,6 +13,7 @@ const INPUT: u64 = 65536;
 
 const SHEET: usize = 8192;
 
+// `to_digit` would take small letters too; here they count as 0.
 fn digit(c: u8) -> u8
     ensures { result < 16 }
 {

@@ -1,12 +1,7 @@
 -- The values of a store that there is, and none of one that there is not.
-use Rattle.std.proofs.Common.{sym}
-use Rattle.state.proofs.Held.{past-rows}
-use Rattle.report.proofs.Views.{store_values}
+use Rattle.report.proofs.Views.{got_values}
 use Rattle.report.proofs.values.Goals as goal
 
-pub returns-then-store-lt-STORES-clause-values : goal.returns-then-store-lt-STORES-clause-values
-returns-then-store-lt-STORES-clause-values c =
-    store_values _ _ _ c.if-store-lt-STORES.true c.stores.ensures.0 c.slot-start.ensures
-
-pub returns-else-store-lt-STORES-clause-values : goal.returns-else-store-lt-STORES-clause-values
-returns-else-store-lt-STORES-clause-values c = sym (past-rows 8 48 _ _ c.if-store-lt-STORES.false)
+pub returns-clause-values : goal.returns-clause-values
+returns-clause-values c =
+    got_values _ _ c.slot-start.ensures c.stores.ensures.0 c.stores.ensures.1 c.get.result c.get.ensures.lookup c.unwrap_or_default.result c.unwrap_or_default.ensures

@@ -13,7 +13,8 @@ loop-value-preserved c = number_more _ _ c.loop-value.invariant c.put-in-loop-va
 
 pub returns : goal.returns
 returns c =
-    let source = YieldsList-from_chain (YieldsList-from_slice c.args.first.now (search rules)) (YieldsList-from_slice c.args.others.now (search rules)) (search rules) (search rules) in
-    let all = YieldsList-from_copied source in
+    let first = YieldsList-from_slice c.args.first.now (search rules) in
+    let others = YieldsList-from_slice c.args.others.now (search rules) in
+    let all = YieldsList-from_copied (YieldsList-from_chain first others (search rules) (search rules)) in
     let end = YieldsList-end all c.loop-value.yielded _ c.loop-value.yielded_by _ _ c.in-None.is c.next.ensures.steps in
     whole_line _ _ _ end.0 c.put.ensures c.loop-value.invariant c.put-2.ensures
