@@ -57,7 +57,12 @@ impl Reading {
 }
 
 // The reading after what was handed out at a place.
-fn read_on(sheet: &[u8], at: usize, reading: Reading, d: Result<(Command, usize), Fault>) -> Reading
+fn read_on(
+    sheet: &[u8],
+    at: usize,
+    reading: Reading,
+    d: Result<(Command, usize), Fault>,
+) -> Reading
     requires { Reached sheet.now at (view_known reading.known) × HandsOut sheet.now at d }
     ensures { CameTo sheet.now at (after at (view_decoded [] d)) result }
 {
