@@ -1,8 +1,7 @@
 -- `entry_at` meets its contract.
-use Rattle.std.proofs.Common.{◌≡◌, ◌<◌, ◌≤◌, length, arith, Some, None}
+use Rattle.std.proofs.Common.{◌≡◌, length, arith, Some, None}
 use Rattle.std.proofs.lemmas.Result.{err_from_is_err_and}
 use Rattle.commands.specs.Table.{entry_of}
-use Rattle.commands.specs.declared.Fault.{Fault}
 use Rattle.commands.specs.declared.Refusal.TheVariants.{CutShort, NoCommand}
 use Rattle.commands.proofs.Decoding.{by-entry, cut, named-says, no-row, past_the_end}
 use Rattle.commands.proofs.entry_at.Goals as goal
