@@ -17,22 +17,18 @@ use Rattle.builder.specs.Packed.{state_of}
 use Rattle.builder.specs.Contract.{ComposesFor, ComposesBytes}
 use Rattle.builder.proofs.StateBytes.{start_is}
 
+left : (s : B.BuilderState) (r : Result BuilderState Fault) (after : List ℕ) → after ≡ (answered s r after).buffer
+left s (Ok next) after = refl
+left s (Err f) after = refl
+
 pub composes : (s : B.BuilderState) (r : Result BuilderState Fault) (after : List ℕ) (a : B.Composed) → answered s r after ≡ a
     → ComposesFor a (answered s r after).number (answered s r after).place (answered s r after).state after
-composes s (Ok next) after a e =
+composes s r after a e =
     record {
       number = ap (λ (x : B.Composed). x.number) e;
       place = ap (λ (x : B.Composed). x.place) e;
       state = ap (λ (x : B.Composed). x.state) e;
-      buffer = ap (λ (x : B.Composed). x.buffer) e;
-      story = story;
-    }
-composes s (Err f) after a e =
-    record {
-      number = ap (λ (x : B.Composed). x.number) e;
-      place = ap (λ (x : B.Composed). x.place) e;
-      state = ap (λ (x : B.Composed). x.state) e;
-      buffer = ap (λ (x : B.Composed). x.buffer) e;
+      buffer = left s r after ∙ ap (λ (x : B.Composed). x.buffer) e;
       story = story;
     }
 

@@ -24,7 +24,8 @@ pub struct SheetCounts {
     pub releases: u16,
 }
 
-// As many numbers as a task may name of one kind: the first `count` of the array.
+// As many numbers as a task may name of one kind: the first `count` of the array, all of them where `count` is more.
+// No Model: it is Copy, so its list would have to give back what lies past `count`, and any bytes of the builder's 64 are one.
 #[derive(Clone, Copy)]
 pub struct Numbers {
     pub values: [u8; TaskCeilings::TOUCHED],
