@@ -98,7 +98,7 @@ pub fn is_plain(phase: Phase) -> bool
 pub fn begin(memory: &mut Memory, task: &mut Task, p: u8, job: Job, command: BodyCommand) -> Job
     ensures { left result (shared memory.new) (own task.new) ≡ begin_tick (shared memory.old) (own task.old) p job command }
 {
-    // An early return and no `if` expression, where the phase would be packed anew: 10 instructions a tick of a plain command.
+    // An early return and no `if` expression, in which the phase is packed anew: up to 10 instructions a tick.
     if is_plain(job.phase) {
         return plain_command(memory, task, p, job, command);
     }
