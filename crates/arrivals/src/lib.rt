@@ -60,6 +60,7 @@ pub fn begun(mask: u32, i: usize, phase: Phase) -> u32
     }
 }
 
+// One register after another: the record's fields are private to its crate.
 #[tactic(auto, unfolding(jobs::specs::Jobs::zeroed))]
 fn zero(task: &mut Task)
     ensures { own task.new ≡ zeroing 8 (own task.old) }

@@ -22,7 +22,7 @@ const TASKS: usize = SheetCeilings::TASKS as usize;
 
 const COPIES: usize = 4;
 
-// How many words, blocks and tasks the sheet declares.
+// How many words, blocks and tasks the sheet declares; made by the engine from the index, whose numbers are bytes.
 #[derive(Clone, Copy)]
 pub struct Counts {
     pub words: usize,
