@@ -15,7 +15,7 @@ pub fn hizgrael_compose(
 ) -> u8
     ensures { ComposesBytes state.old buffer.old command operands.now result place.new state.new buffer.new }
 {
-    match compose_handed(unpack(*state), &mut *buffer, command, operands) {
+    match compose_handed(unpack(*state), buffer, command, operands) {
         Ok(next) => {
             *place = next.filled as u64;
             *state = pack(next);

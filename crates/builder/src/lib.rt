@@ -28,7 +28,7 @@ pub fn compose(
 ) -> Result<BuilderState, Fault>
     ensures { Composes (view_state state) buffer.old (view_command values c) result buffer.new }
 {
-    composing::compose(state, &mut *buffer, c, values)
+    composing::compose(state, buffer, c, values)
 }
 
 // The same by byte and operands: 1 where the byte names no command.
@@ -41,7 +41,7 @@ pub fn compose_handed(
     ensures { ComposesHanded (view_state state) buffer.old (builder.handed b operands.now) result buffer.new }
 {
     if let Some(c) = handed::command(b, operands) {
-        return composing::compose(state, &mut *buffer, c, handed::values(operands));
+        return composing::compose(state, buffer, c, handed::values(operands));
     }
     if state.ended {
         return Err(state.refused(Refusal::ByteAfterEnd));

@@ -17,5 +17,5 @@ pub extern "C" fn hizgrael_compose(
 ) -> u8
     ensures { ComposesBytes state.old buffer.old command operands.now result place.new state.new buffer.new }
 {
-    exports::hizgrael_compose(&mut *state, &mut *buffer, command, operands, &mut *place)
+    exports::hizgrael_compose(state, buffer, command, operands, place)
 }

@@ -69,7 +69,7 @@ pub fn compose(
     if is_full(buffer.len(), state.filled, size) {
         return Err(state.refused(Refusal::BufferFull));
     }
-    encoder::write(&mut *buffer, state.filled, c, values);
+    encoder::write(buffer, state.filled, c, values);
     Ok(BuilderState {
         known: learned::after(state.known, c),
         filled: state.filled + size,
