@@ -49,11 +49,9 @@ fn set_words(sheet: &[u8], n: Counts, memory: &mut Memory)
     requires shared_starts { SharedStarts (declaring (sheet_of sheet.now) 0 0) (shared memory.old) }
     ensures { SharedStarts (declaring (sheet_of sheet.now) n.words 0) (shared memory.new) }
 {
-    let mut w = 0;
-    while w < n.words {
+    for w in 0..n.words {
         let cell = fresh_cell(sheet::index::word(sheet, w));
         memory.set_cell(w, cell);
-        w += 1;
     }
 }
 
@@ -61,10 +59,8 @@ fn set_store(memory: &mut Memory, store: usize, values: [u32; VALUES])
     requires { Before (shared memory.old) store values }
     ensures { Stored (shared memory.old) store values (shared memory.new) }
 {
-    let mut k = 0;
-    while k < VALUES {
+    for k in 0..VALUES {
         memory.set_value(VALUES * store + k, values[k]);
-        k += 1;
     }
 }
 
@@ -78,7 +74,7 @@ fn set_block(sheet: &[u8], n: Counts, memory: &mut Memory, b: usize)
     let cell = fresh_cell(version * 256 + store as u32);
     memory.set_cell(WORDS + b, cell);
     let values = sheet::index::block_values(sheet, n.words, b);
-    set_store(&mut *memory, store, values);
+    set_store(memory, store, values);
 }
 
 fn set_blocks(sheet: &[u8], n: Counts, memory: &mut Memory)
@@ -86,10 +82,8 @@ fn set_blocks(sheet: &[u8], n: Counts, memory: &mut Memory)
     requires shared_starts { SharedStarts (declaring (sheet_of sheet.now) n.words 0) (shared memory.old) }
     ensures { SharedStarts (declaring (sheet_of sheet.now) n.words n.blocks) (shared memory.new) }
 {
-    let mut b = 0;
-    while b < n.blocks {
-        set_block(sheet, n, &mut *memory, b);
-        b += 1;
+    for b in 0..n.blocks {
+        set_block(sheet, n, memory, b);
     }
 }
 

@@ -1,5 +1,5 @@
 -- `set_blocks` meets its contract.
-use Prim.Native.Nat.{◌≤◌, ◌-◌}
+use Prim.Native.Nat.{◌≤◌}
 use Rattle.model.specs.Sheet.{sheet_of}
 use Rattle.state.specs.State.{shared}
 use Rattle.start.specs.Start.{SharedStarts}
@@ -8,6 +8,3 @@ use Rattle.start.proofs.set_blocks.Given as goal
 
 abbrev pub invariant-loop-b : goal.invariant-loop-b
 invariant-loop-b l = (l.b ≤ l.n.blocks) × SharedStarts (declaring (sheet_of l.sheet) l.n.words l.b) (shared l.memory)
-
-abbrev pub decreases-loop-b : goal.decreases-loop-b
-decreases-loop-b l = l.n.blocks - l.b

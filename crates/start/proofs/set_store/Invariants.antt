@@ -1,5 +1,5 @@
 -- `set_store` meets its contract.
-use Prim.Native.Nat.{◌≤◌, ◌-◌}
+use Prim.Native.Nat.{◌≤◌}
 use Rattle.state.specs.State.{shared}
 use Rattle.start.specs.Declaring.{Stored}
 use Rattle.start.proofs.Stores.{placed}
@@ -7,6 +7,3 @@ use Rattle.start.proofs.set_store.Given as goal
 
 abbrev pub invariant-loop-k : goal.invariant-loop-k
 invariant-loop-k l = (l.k ≤ 8) × Stored (shared l.initial.memory) l.store (placed (shared l.initial.memory) l.store l.values l.k) (shared l.memory)
-
-abbrev pub decreases-loop-k : goal.decreases-loop-k
-decreases-loop-k l = 8 - l.k

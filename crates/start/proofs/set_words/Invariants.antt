@@ -1,5 +1,5 @@
 -- `set_words` meets its contract.
-use Prim.Native.Nat.{◌≤◌, ◌-◌}
+use Prim.Native.Nat.{◌≤◌}
 use Rattle.model.specs.Sheet.{sheet_of}
 use Rattle.state.specs.State.{shared}
 use Rattle.start.specs.Start.{SharedStarts}
@@ -7,7 +7,4 @@ use Rattle.start.specs.Declaring.{declaring}
 use Rattle.start.proofs.set_words.Given as goal
 
 abbrev pub invariant-loop-w : goal.invariant-loop-w
-invariant-loop-w l = (l.w ≤ l.n.words) × SharedStarts (declaring (sheet_of l.sheet) l.w 0) (shared l.memory)
-
-abbrev pub decreases-loop-w : goal.decreases-loop-w
-decreases-loop-w l = l.n.words - l.w
+invariant-loop-w l = (l.w ≤ l.fn.n.words) × SharedStarts (declaring (sheet_of l.sheet) l.w 0) (shared l.memory)
