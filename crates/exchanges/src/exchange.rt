@@ -7,6 +7,7 @@ ghost use Rattle.exchanges.specs.Exchange.{after_start, after_test, after_load, 
 ghost use Rattle.exchanges.specs.Exchange.{after_mark, after_install, cleaning, after_commit, onward, as_new, marked, installed_at};
 ghost use Rattle.exchanges.specs.Exchange.{after_clean, after_clean_mark, after_exchange};
 
+// Memory, task and p stay apart: the machine lends one task of its eight for a statement, and p is that task's number.
 use crate::{places, read};
 use state::{Memory, Task, Word};
 

@@ -1,8 +1,10 @@
 -- What the two records of a run hold: what all tasks share, and one task's own record.
-use Rattle.std.specs.Prelude.{ℕ, List, [], replicate}
+use Rattle.std.specs.Prelude.{ℕ, List, [], replicate, map}
 use Rattle.model.specs.Lists.{replace}
 use Rattle.state.specs.declared.memory.Memory.{Memory}
 use Rattle.state.specs.declared.task.Task.{Task}
+use Rattle.state.specs.declared.task.Entry.{Entry}
+use Rattle.state.specs.declared.task.Block.{Block}
 
 -- WHAT ALL SHARE: packed cells; status; save places; the values of the block stores
 pub record Shared : Type 0 where
@@ -51,14 +53,28 @@ pub record Own : Type 0 where
   pub blocks : Blocks
   pub counts : List ℕ
 
+-- by fields
+abbrev pub entries_of : List Entry → Entries
+entries_of l =
+    record {
+      targets = map (λ (e : Entry). e.target) l;
+      olds = map (λ (e : Entry). e.old) l;
+      news = map (λ (e : Entry). e.new) l;
+      inits = map (λ (e : Entry). e.init) l;
+      overlapped = map (λ (e : Entry). e.overlapped) l;
+    }
+
+abbrev pub blocks_by : ℕ → List Block → Blocks
+blocks_by mask l = record { touched = mask; slots = map (λ (b : Block). b.slot) l; remembered = map (λ (b : Block). b.remembered) l }
+
 unfoldable pub own : Task → Own
 own t =
     record {
       registers = t.registers;
       kept = t.kept;
       copies = t.copies;
-      entries = record { targets = t.targets; olds = t.olds; news = t.news; inits = t.inits; overlapped = t.overlapped };
-      blocks = record { touched = t.touched; slots = t.slots; remembered = t.remembered };
+      entries = entries_of t.entries;
+      blocks = blocks_by t.touched t.blocks;
       counts = t.counts;
     }
 
@@ -163,6 +179,13 @@ own_zeros =
       counts = zeros 8;
     }
 
+-- past the end
+abbrev pub no_entry : Entry
+no_entry = record { target = 0; old = 0; new = 0; overlapped = 0; init = 0 }
+
+abbrev pub no_block : Block
+no_block = record { slot = 0; remembered = 0 }
+
 -- no record: nothing is in it
 abbrev pub no_task : Task
 no_task =
@@ -170,13 +193,8 @@ no_task =
       registers = [];
       kept = [];
       copies = [];
-      targets = [];
-      olds = [];
-      news = [];
-      inits = [];
-      overlapped = [];
-      slots = [];
-      remembered = [];
+      entries = [];
+      blocks = [];
       counts = [];
       touched = 0;
     }

@@ -46,6 +46,7 @@ impl Word {
     }
 }
 
+// A packed word is a plain number, as a cell holds it and `==` compares it; so its fields are read by functions.
 pub fn value_of(word: u64) -> u32
     ensures { result ≡ value_of word }
 {
@@ -70,7 +71,7 @@ pub fn task_of(word: u64) -> u32
     (word / 68719476736) as u32
 }
 
-// Past the end an element reads as `past`, and a store does nothing.
+// Past the end an element reads as `past`, and a store does nothing. By the index, for `get_mut` says nothing of the slice afterwards.
 #[tactic(auto, unfolding(model::specs::Lists::at))]
 fn element<T: Copy>(items: &[T], i: usize, past: T) -> T
     ensures { result ≡ at past items.now i }

@@ -1,23 +1,52 @@
 // One task's own record.
 ghost use Rattle.std.specs.Prelude.{◌≡◌, ◌∷◌, [], length};
 ghost use Rattle.model.specs.Lists.{at};
+ghost use Rattle.state.specs.State.{no_entry, no_block};
 ghost use Rattle.state.specs.State.{own, with_registers, with_kept, with_copies, own_zeros, set_register, set_kept, set_copy, set_target, set_old, set_new};
 ghost use Rattle.state.specs.State.{set_init, set_overlapped, set_slot, set_remembered, set_count, set_touched};
 
-// 8 registers, 8 that BEGIN kept, 4 copy stores; 8 entries of an exchange, each a target cell, old and new value, the word loaded and
-// whether that was overlapped; 16 blocks, each its copy slot and the bank word remembered; 8 counts; the mask of touched blocks.
+// An entry of an exchange: its target cell, old and new value, the packed word loaded there, and whether that was overlapped.
+#[derive(Clone, Copy)]
+struct Entry {
+    target: u32,
+    old: u32,
+    new: u32,
+    overlapped: u32,
+    init: u64,
+}
+
+impl Entry {
+    const EMPTY: Entry = Entry {
+        target: 0,
+        old: 0,
+        new: 0,
+        overlapped: 0,
+        init: 0,
+    };
+}
+
+// A block of a transaction: its copy slot and the bank word remembered.
+#[derive(Clone, Copy)]
+struct Block {
+    slot: u32,
+    remembered: u32,
+}
+
+impl Block {
+    const EMPTY: Block = Block {
+        slot: 0,
+        remembered: 0,
+    };
+}
+
+// 8 registers, 8 that BEGIN kept, 4 copy stores; the entries and the blocks; 8 counts; the mask of touched blocks.
 #[derive(Clone, Copy)]
 pub struct Task {
     registers: [u32; 8],
     kept: [u32; 8],
     copies: [u32; 4],
-    targets: [u32; 8],
-    olds: [u32; 8],
-    news: [u32; 8],
-    inits: [u64; 8],
-    overlapped: [u32; 8],
-    slots: [u32; 16],
-    remembered: [u32; 16],
+    entries: [Entry; 8],
+    blocks: [Block; 16],
     counts: [u32; 8],
     touched: u16,
 }
@@ -32,13 +61,8 @@ impl Task {
             registers: [0; 8],
             kept: [0; 8],
             copies,
-            targets: [0; 8],
-            olds: [0; 8],
-            news: [0; 8],
-            inits: [0; 8],
-            overlapped: [0; 8],
-            slots: [0; 16],
-            remembered: [0; 16],
+            entries: [Entry::EMPTY; 8],
+            blocks: [Block::EMPTY; 16],
             counts: [0; 8],
             touched: 0,
         }
@@ -100,88 +124,128 @@ impl Task {
         crate::store(&mut self.copies, i, v);
     }
 
+    fn entry(&self, i: u8) -> Entry
+        ensures { result ≡ at no_entry self.now.entries i }
+    {
+        crate::element(&self.entries, i as usize, Entry::EMPTY)
+    }
+
+    fn block(&self, i: u8) -> Block
+        ensures { result ≡ at no_block self.now.blocks i }
+    {
+        crate::element(&self.blocks, i as usize, Block::EMPTY)
+    }
+
     pub fn target(&self, i: u8) -> u32
         ensures { result ≡ at 0 (own self.now).entries.targets i }
     {
-        crate::element(&self.targets, i as usize, 0)
+        self.entry(i).target
     }
 
     pub fn set_target(&mut self, i: u8, v: u32)
         ensures { own self.new ≡ set_target (own self.old) i v }
     {
-        crate::store(&mut self.targets, i as usize, v);
+        let entry = Entry {
+            target: v,
+            ..self.entry(i)
+        };
+        crate::store(&mut self.entries, i as usize, entry);
     }
 
     pub fn old(&self, i: u8) -> u32
         ensures { result ≡ at 0 (own self.now).entries.olds i }
     {
-        crate::element(&self.olds, i as usize, 0)
+        self.entry(i).old
     }
 
     pub fn set_old(&mut self, i: u8, v: u32)
         ensures { own self.new ≡ set_old (own self.old) i v }
     {
-        crate::store(&mut self.olds, i as usize, v);
+        let entry = Entry {
+            old: v,
+            ..self.entry(i)
+        };
+        crate::store(&mut self.entries, i as usize, entry);
     }
 
     pub fn new(&self, i: u8) -> u32
         ensures { result ≡ at 0 (own self.now).entries.news i }
     {
-        crate::element(&self.news, i as usize, 0)
+        self.entry(i).new
     }
 
     pub fn set_new(&mut self, i: u8, v: u32)
         ensures { own self.new ≡ set_new (own self.old) i v }
     {
-        crate::store(&mut self.news, i as usize, v);
+        let entry = Entry {
+            new: v,
+            ..self.entry(i)
+        };
+        crate::store(&mut self.entries, i as usize, entry);
     }
 
     pub fn init(&self, i: u8) -> u64
         ensures { result ≡ at 0 (own self.now).entries.inits i }
     {
-        crate::element(&self.inits, i as usize, 0)
+        self.entry(i).init
     }
 
     pub fn set_init(&mut self, i: u8, v: u64)
         ensures { own self.new ≡ set_init (own self.old) i v }
     {
-        crate::store(&mut self.inits, i as usize, v);
+        let entry = Entry {
+            init: v,
+            ..self.entry(i)
+        };
+        crate::store(&mut self.entries, i as usize, entry);
     }
 
     pub fn overlapped(&self, i: u8) -> u32
         ensures { result ≡ at 0 (own self.now).entries.overlapped i }
     {
-        crate::element(&self.overlapped, i as usize, 0)
+        self.entry(i).overlapped
     }
 
     pub fn set_overlapped(&mut self, i: u8, v: u32)
         ensures { own self.new ≡ set_overlapped (own self.old) i v }
     {
-        crate::store(&mut self.overlapped, i as usize, v);
+        let entry = Entry {
+            overlapped: v,
+            ..self.entry(i)
+        };
+        crate::store(&mut self.entries, i as usize, entry);
     }
 
     pub fn slot(&self, i: u8) -> u32
         ensures { result ≡ at 0 (own self.now).blocks.slots i }
     {
-        crate::element(&self.slots, i as usize, 0)
+        self.block(i).slot
     }
 
     pub fn set_slot(&mut self, i: u8, v: u32)
         ensures { own self.new ≡ set_slot (own self.old) i v }
     {
-        crate::store(&mut self.slots, i as usize, v);
+        let block = Block {
+            slot: v,
+            ..self.block(i)
+        };
+        crate::store(&mut self.blocks, i as usize, block);
     }
 
     pub fn remembered(&self, i: u8) -> u32
         ensures { result ≡ at 0 (own self.now).blocks.remembered i }
     {
-        crate::element(&self.remembered, i as usize, 0)
+        self.block(i).remembered
     }
 
     pub fn set_remembered(&mut self, i: u8, v: u32)
         ensures { own self.new ≡ set_remembered (own self.old) i v }
     {
-        crate::store(&mut self.remembered, i as usize, v);
+        let block = Block {
+            remembered: v,
+            ..self.block(i)
+        };
+        crate::store(&mut self.blocks, i as usize, block);
     }
 
     pub fn count(&self, i: u8) -> u32

@@ -63,7 +63,8 @@ fn gather(task: &mut Task) -> Gathered
     let mut passes: u8 = 0;
     let mut spent = false;
     for b in Bits(mask as u32) {
-        spent |= gather_one(task, b, passes);
+        let spends = gather_one(task, b, passes);
+        spent |= spends;
         passes += 1;
     }
     Gathered { passes, spent }

@@ -9,7 +9,7 @@ overflow_add-passes c = omega (arith, passed-room c.loop-b.invariant c.in-Some.e
 pub loop-b-preserved : goal.loop-b-preserved
 loop-b-preserved c =
     let bit = c.in-Some.ensures.steps in
-    let g = rw bit.1 at c.gather_one-spent.ensures in rw bit.2 (passed_more c.loop-b.invariant bit.0 _ _ g.0 g.1)
+    let g = rw bit.1 at c.gather_one-spends.ensures in rw bit.2 (passed_more c.loop-b.invariant bit.0 _ _ g.0 g.1)
 
 pub returns : goal.returns
 returns c = passed-all (rw c.in-None.ensures.steps at c.loop-b.invariant)

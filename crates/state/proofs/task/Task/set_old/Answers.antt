@@ -1,0 +1,9 @@
+-- `set_old` meets its contract.
+use Rattle.std.proofs.Common.{ap}
+use Rattle.state.specs.State.{own, with_entries}
+use Rattle.state.proofs.Entries.{old_set}
+use Rattle.state.proofs.task.Task.set_old.Goals as goal
+
+pub returns : goal.returns
+unfolding own
+returns c = ap (with_entries (own c.args.self.now)) (old_set _ _ _ c.entry.ensures c.store.ensures)
