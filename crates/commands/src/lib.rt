@@ -148,14 +148,18 @@ pub fn values(s: &[u8], p: usize) -> [u32; SheetCeilings::BLOCK_VALUES]
 fn entry_at(s: &[u8], at: usize) -> Result<Entry, Fault>
     ensures { EntrySays s.now at result }
 {
-    let b = s.get(at).ok_or(Fault {
-        refusal: Refusal::CutShort,
-        place: s.len(),
-    })?;
-    let e = entry_of(*b).ok_or(Fault {
-        refusal: Refusal::NoCommand,
-        place: at,
-    })?;
+    let Some(b) = s.get(at) else {
+        return Err(Fault {
+            refusal: Refusal::CutShort,
+            place: s.len(),
+        });
+    };
+    let Some(e) = entry_of(*b) else {
+        return Err(Fault {
+            refusal: Refusal::NoCommand,
+            place: at,
+        });
+    };
     if s.len() - (at + 1) < e.width as usize {
         return Err(Fault {
             refusal: Refusal::CutShort,
