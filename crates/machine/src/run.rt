@@ -67,8 +67,10 @@ fn top(mask: u32) -> u8
 {
     if mask == 0 {
         0
+    } else if 255 < mask {
+        7
     } else {
-        mask.min(255).ilog2() as u8
+        (31 - mask.leading_zeros()) as u8
     }
 }
 
