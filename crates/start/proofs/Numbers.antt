@@ -6,11 +6,11 @@ use native.Mathlib.Omega.{arith}
 use lib.ListN.{length, get_or}
 use Rattle.model.specs.Lists.{at}
 use Rattle.model.specs.Command.{Block, no_block}
-use Rattle.model.specs.Sheet.{sheet_of}
+use Rattle.model.specs.Sheet.{sheet_of, verdict, accepted}
 use Rattle.model.specs.Word.{fresh_word}
 use Rattle.model.proofs.Fit.Sheet.{SheetFit}
 use Rattle.model.proofs.Fit.Accepted.{accepted_fit}
-use Rattle.sheet.specs.Indexed.{IsWord, IsBlock}
+use Rattle.sheet.specs.Indexed.{IsBlock}
 use Rattle.state.specs.Packed.{unpack}
 use Rattle.state.specs.State.{Shared, set_cell}
 use Rattle.start.specs.Start.{SharedStarts}
@@ -21,25 +21,22 @@ use Rattle.start.proofs.Declaring.{cell-sized, block_set, all_set}
 abbrev block_of : List ℕ → ℕ → Block
 block_of s b = get_or (sheet_of s).blocks b no_block
 
-module _ {s : List ℕ} {n : Counts} (c : Counted s n) where
+module _ {s : List ℕ} (sound : verdict s ≡ accepted) {n : Counts} (c : Counted s n) where
   pub fit : SheetFit (sheet_of s)
-  fit = accepted_fit s c.sound
-
-  pub is_word : {w : ℕ} → w < n.words → IsWord s w
-  is_word h = record { sound = c.sound; declared = rw c.words at h }
+  fit = accepted_fit s sound
 
   pub all-declared : {m : Shared} → SharedStarts (declaring (sheet_of s) n.words n.blocks) m → SharedStarts (sheet_of s) m
   all-declared h = all_set fit (rw (c.words, c.blocks) at h)
 
-module _ {s : List ℕ} {n : Counts} {m : Shared} {b : ℕ} (h : NextBlock s n m b) where
+module _ {s : List ℕ} (sound : verdict s ≡ accepted) {n : Counts} {m : Shared} {b : ℕ} (h : NextBlock s n m b) where
   sheet_fit : SheetFit (sheet_of s)
-  sheet_fit = fit h.counted
+  sheet_fit = fit sound h.counted
 
   declared : b < length (sheet_of s).blocks
   declared = rw h.counted.blocks at h.declared
 
   pub is_block : IsBlock s n.words b
-  is_block = record { sound = h.counted.sound; before = h.counted.words; declared = declared }
+  is_block = record { before = h.counted.words; declared = declared }
 
   pub store_range : 4 * n.tasks + b < 48
   store_range = omega (arith, h.counted.tasks, sheet_fit.bodies, sheet_fit.blocks, declared)

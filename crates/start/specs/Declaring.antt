@@ -2,16 +2,15 @@
 use Rattle.std.specs.Prelude.{ℕ, ◌<◌, ◌≡◌, List, [], length, take}
 use Rattle.model.specs.Lists.{replace}
 use Rattle.model.specs.Word.{memory}
-use Rattle.model.specs.Sheet.{Sheet, sheet_of, verdict, accepted}
+use Rattle.model.specs.Sheet.{Sheet, sheet_of}
 use Rattle.state.specs.State.{Shared}
 use Rattle.state.specs.Sized.{SharedSized}
 use Rattle.state.specs.Held.{memory_of}
 use Rattle.start.specs.Start.{SharedStarts}
 use Rattle.start.specs.declared.Counts.{Counts}
 
--- the sheet is accepted, and these are the numbers of its words, blocks and tasks
+-- these are the numbers of the sheet's words, blocks and tasks
 pub record Counted (s : List ℕ) (n : Counts) : Type 0 where
-  pub sound : verdict s ≡ accepted
   pub words : n.words ≡ length (sheet_of s).words
   pub blocks : n.blocks ≡ length (sheet_of s).blocks
   pub tasks : n.tasks ≡ length (sheet_of s).bodies

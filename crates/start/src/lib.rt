@@ -11,6 +11,7 @@ ghost use Rattle.start.specs.Start.{SharedStarts, OwnStarts, TasksStart};
 ghost use Rattle.start.specs.Declaring.{Counted, nothing, declaring, NextBlock, Before, Stored};
 
 use commands::ceilings::SheetCeilings;
+use sheet::checked::Accepted;
 use state::{Memory, Task, Word};
 
 // The banks' cells stand after those of the words.
@@ -43,13 +44,13 @@ fn blank() -> Memory
     Memory::filled(fresh_cell(0))
 }
 
-fn set_words(sheet: &[u8], n: Counts, memory: &mut Memory)
-    requires counted { Counted sheet.now n }
-    requires shared_starts { SharedStarts (declaring (sheet_of sheet.now) 0 0) (shared memory.old) }
-    ensures { SharedStarts (declaring (sheet_of sheet.now) n.words 0) (shared memory.new) }
+fn set_words(sheet: Accepted, n: Counts, memory: &mut Memory)
+    requires counted { Counted sheet.bytes.now n }
+    requires shared_starts { SharedStarts (declaring (sheet_of sheet.bytes.now) 0 0) (shared memory.old) }
+    ensures { SharedStarts (declaring (sheet_of sheet.entry.bytes.now) n.words 0) (shared memory.new) }
 {
     for w in 0..n.words {
-        memory.set_cell(w, fresh_cell(sheet::index::word(sheet, w)));
+        memory.set_cell(w, fresh_cell(sheet.word(w)));
     }
 }
 
@@ -63,29 +64,29 @@ fn set_store(memory: &mut Memory, store: usize, values: [u32; VALUES])
 }
 
 // The bank word of block b holds its version and its store, and the store its values. With N tasks the store is 4N + b.
-fn set_block(sheet: &[u8], n: Counts, memory: &mut Memory, b: usize)
-    requires { NextBlock sheet.now n (shared memory.old) b }
-    ensures { SharedStarts (declaring (sheet_of sheet.now) n.words (b + 1)) (shared memory.new) }
+fn set_block(sheet: Accepted, n: Counts, memory: &mut Memory, b: usize)
+    requires { NextBlock sheet.bytes.now n (shared memory.old) b }
+    ensures { SharedStarts (declaring (sheet_of sheet.entry.bytes.now) n.words (b + 1)) (shared memory.new) }
 {
     let store = COPIES * n.tasks + b;
-    let version = sheet::index::version(sheet, n.words, b);
+    let version = sheet.version(n.words, b);
     memory.set_cell(WORDS + b, fresh_cell(version * 256 + store as u32));
-    set_store(memory, store, sheet::index::block_values(sheet, n.words, b));
+    set_store(memory, store, sheet.block_values(n.words, b));
 }
 
-fn set_blocks(sheet: &[u8], n: Counts, memory: &mut Memory)
-    requires counted { Counted sheet.now n }
-    requires shared_starts { SharedStarts (declaring (sheet_of sheet.now) n.words 0) (shared memory.old) }
-    ensures { SharedStarts (declaring (sheet_of sheet.now) n.words n.blocks) (shared memory.new) }
+fn set_blocks(sheet: Accepted, n: Counts, memory: &mut Memory)
+    requires counted { Counted sheet.bytes.now n }
+    requires shared_starts { SharedStarts (declaring (sheet_of sheet.bytes.now) n.words 0) (shared memory.old) }
+    ensures { SharedStarts (declaring (sheet_of sheet.entry.bytes.now) n.words n.blocks) (shared memory.new) }
 {
     for b in 0..n.blocks {
         set_block(sheet, n, memory, b);
     }
 }
 
-pub fn memory(sheet: &[u8], n: Counts) -> Memory
-    requires { Counted sheet.now n }
-    ensures { SharedStarts (sheet_of sheet.now) (shared result) }
+pub fn memory(sheet: Accepted, n: Counts) -> Memory
+    requires { Counted sheet.bytes.now n }
+    ensures { SharedStarts (sheet_of sheet.entry.bytes.now) (shared result) }
 {
     let mut memory = blank();
     set_words(sheet, n, &mut memory);

@@ -6,4 +6,4 @@ use Rattle.start.specs.Declaring.{declaring}
 use Rattle.start.proofs.set_blocks.Given as goal
 
 abbrev pub invariant-loop-b : goal.invariant-loop-b
-invariant-loop-b l = SharedStarts (declaring (sheet_of l.sheet) l.n.words l.b) (shared l.memory)
+invariant-loop-b l = SharedStarts (declaring (sheet_of l.sheet.bytes.now) l.n.words l.b) (shared l.memory)

@@ -9,4 +9,4 @@ pub loop-w-preserved : goal.loop-w-preserved
 loop-w-preserved c =
     let counted = c.requires.counted in
     let value = c.fresh_cell.ensures ∙ ap fresh_word c.word.ensures in
-    rw c.set_cell.ensures (word_set (fit counted) _ _ c.loop-w.invariant (rw counted.words at c.loop-w-test.true) value)
+    rw c.set_cell.ensures (word_set (fit c.args.sheet.sound counted) _ _ c.loop-w.invariant (rw counted.words at c.loop-w-test.true) value)

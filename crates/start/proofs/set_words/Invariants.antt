@@ -6,4 +6,4 @@ use Rattle.start.specs.Declaring.{declaring}
 use Rattle.start.proofs.set_words.Given as goal
 
 abbrev pub invariant-loop-w : goal.invariant-loop-w
-invariant-loop-w l = SharedStarts (declaring (sheet_of l.sheet) l.w 0) (shared l.memory)
+invariant-loop-w l = SharedStarts (declaring (sheet_of l.sheet.bytes.now) l.w 0) (shared l.memory)
