@@ -15,5 +15,5 @@ returns c = ran_by c.index-x.ensures
     c.tasks-tasks.ensures
     c.program-program.ensures
     c.start-from.ensures
-    c.run-ended.ensures.ends
+    (rw c.bytes.ensures.same at c.run-ended.ensures.ends)
     (rw (c.into.ensures, c.into-2.ensures, c.into-3.ensures) at c.report.ensures)
