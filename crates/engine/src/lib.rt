@@ -10,7 +10,7 @@ use commands::{Fault, Refusal};
 use machine::run::Paused;
 use report::Totals;
 use sheet::checked::Accepted;
-use start::Counts;
+use start::counts::Counts;
 
 pub mod exports;
 
@@ -27,12 +27,8 @@ fn run_accepted(sheet: Accepted, limit: u32, buffer: &mut [u8]) -> usize
     ensures { Ran sheet.entry.bytes.now limit buffer.old buffer.new result }
 {
     let x = sheet.index();
-    let n = Counts {
-        words: x.words.into(),
-        blocks: x.blocks.into(),
-        tasks: x.tasks.into(),
-    };
-    let mut memory = start::memory(sheet, n);
+    let n = Counts::of(sheet, &x);
+    let mut memory = start::memory(&n);
     let mut tasks = start::tasks();
     let mut bounds = [0usize; 9];
     let program = program::program(sheet, &mut bounds);
