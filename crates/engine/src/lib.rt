@@ -2,7 +2,6 @@
 
 // The two public entries: the sheet check, and the run of a sheet to its report in the caller's buffer. Neither has a precondition.
 ghost use Rattle.std.specs.Prelude.{◌≡◌, ◌≤◌};
-ghost use Rattle.model.specs.Sheet.{verdict, accepted};
 ghost use Rattle.engine.specs.Contract.{Checks, Runs};
 ghost use Rattle.engine.specs.Flat.{Ran};
 
@@ -10,7 +9,8 @@ use commands::ceilings::RunCeilings;
 use commands::{Fault, Refusal};
 use machine::run::Paused;
 use report::Totals;
-use start::Counts;
+use sheet::checked::Accepted;
+use start::counts::Counts;
 
 pub mod exports;
 
@@ -23,23 +23,18 @@ pub fn check(sheet: &[u8]) -> Result<(), Fault>
 
 // The run of an accepted sheet; answers the report's length. All that a run keeps stands on the stack: 2,208 bytes that all tasks share,
 // 3,520 for the tasks' records, 4,096 for the program, some 600 for the index and the jobs.
-fn run_accepted(sheet: &[u8], limit: u32, buffer: &mut [u8]) -> usize
-    requires { verdict sheet.now ≡ accepted }
-    ensures { Ran sheet.now limit buffer.old buffer.new result }
+fn run_accepted(sheet: Accepted, limit: u32, buffer: &mut [u8]) -> usize
+    ensures { Ran sheet.entry.bytes.now limit buffer.old buffer.new result }
 {
-    let x = sheet::index::index(sheet);
-    let n = Counts {
-        words: x.words.into(),
-        blocks: x.blocks.into(),
-        tasks: x.tasks.into(),
-    };
-    let mut memory = start::memory(sheet, n);
+    let x = sheet.index();
+    let n = Counts::of(sheet, &x);
+    let mut memory = start::memory(&n);
     let mut tasks = start::tasks();
     let mut bounds = [0usize; 9];
     let program = program::program(sheet, &mut bounds);
     let from = Paused::start(x.released);
     let ended = machine::run::run(
-        sheet,
+        sheet.bytes(),
         program,
         &bounds,
         &mut memory,
@@ -60,7 +55,7 @@ fn run_accepted(sheet: &[u8], limit: u32, buffer: &mut [u8]) -> usize
 pub fn run(sheet: &[u8], limit: u64, buffer: &mut [u8]) -> Result<usize, Fault>
     ensures { Runs sheet.now limit buffer.old buffer.new result }
 {
-    sheet_check::first_fault(sheet)?;
+    let accepted = sheet_check::accept(sheet)?;
     let too_high = RunCeilings::LIMIT < limit;
     if too_high {
         return Err(Fault {
@@ -69,7 +64,7 @@ pub fn run(sheet: &[u8], limit: u64, buffer: &mut [u8]) -> Result<usize, Fault>
         });
     }
     let room = buffer.len();
-    let needed = run_accepted(sheet, limit as u32, buffer);
+    let needed = run_accepted(accepted, limit as u32, buffer);
     if room < needed {
         return Err(Fault {
             refusal: Refusal::BufferTooShort,

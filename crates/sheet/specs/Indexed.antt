@@ -2,7 +2,7 @@
 use Rattle.std.specs.Prelude.{ℕ, ◌+◌, ◌<◌, ◌≤◌, ◌≡◌, Bool, true, false, List, [], ◌∷◌, eqb, length, get_or, set, replicate}
 use Rattle.model.specs.Ceilings.{max_words, max_blocks, max_tasks, max_releases}
 use Rattle.model.specs.Command.{Command, WORD, BLOCK, TASK, RELEASE, END, body}
-use Rattle.model.specs.Sheet.{verdict, accepted, sheet_of, body_at, releases_at, commands_at}
+use Rattle.model.specs.Sheet.{sheet_of, body_at, releases_at, commands_at}
 use Rattle.sheet.specs.declared.index.Sheet.{Sheet}
 
 -- releases up to END, and nothing else
@@ -60,12 +60,7 @@ Room x (RELEASE r) = x.releases < max_releases
 Room x END = 0 ≤ 0
 Room x (body c) = 0 ≤ 0
 
--- a word, and a block, of an accepted sheet
-pub record IsWord (s : List ℕ) (i : ℕ) : Type 0 where
-  pub sound : verdict s ≡ accepted
-  pub declared : i < length (sheet_of s).words
-
+-- a block of the sheet, behind its words
 pub record IsBlock (s : List ℕ) (words i : ℕ) : Type 0 where
-  pub sound : verdict s ≡ accepted
   pub before : words ≡ length (sheet_of s).words
   pub declared : i < length (sheet_of s).blocks

@@ -1,11 +1,12 @@
 // What the run needs of an accepted sheet beside its bytes: how many words, blocks, tasks and releases it declares, and the places
 // where its bodies and its releases start. The index takes 80 bytes; no byte of the sheet is copied.
-ghost use Rattle.std.specs.Prelude.{◌≡◌, [], get_or, eqb};
-ghost use Rattle.model.specs.Sheet.{sheet_of, verdict, accepted};
+ghost use Rattle.std.specs.Prelude.{◌≡◌, ◌<◌, [], length, get_or, eqb};
+ghost use Rattle.model.specs.Sheet.{sheet_of};
 ghost use Rattle.commands.specs.View.{view_command};
 ghost use Rattle.model.specs.Command.{no_block};
-ghost use Rattle.sheet.specs.Indexed.{Indexed, Room, counted, place_or, empty_index, IsWord, IsBlock};
+ghost use Rattle.sheet.specs.Indexed.{Indexed, Room, counted, place_or, empty_index, IsBlock};
 
+use crate::checked::Accepted;
 use commands::Command;
 use commands::ceilings::SheetCeilings;
 
@@ -72,39 +73,41 @@ impl Sheet {
     }
 }
 
-// The index of an accepted sheet, in one pass.
-pub fn index(sheet: &[u8]) -> Sheet
-    requires { verdict sheet.now ≡ accepted }
-    ensures { Indexed sheet.now result }
-{
-    let mut x = Sheet::empty();
-    let mut at = 0;
-    while let Ok((c, next)) = commands::decode(sheet, at) {
-        x.count(c, at, next);
-        at = next;
+impl Accepted<'_> {
+    // The index, in one pass.
+    pub fn index(self) -> Sheet
+        ensures { Indexed self.entry.bytes.now result }
+    {
+        let sheet = self.bytes();
+        let mut x = Sheet::empty();
+        let mut at = 0;
+        while let Ok((c, next)) = commands::decode(sheet, at) {
+            x.count(c, at, next);
+            at = next;
+        }
+        x
     }
-    x
-}
 
-// The start value of a word.
-pub fn word(sheet: &[u8], i: usize) -> u32
-    requires { IsWord sheet.now i }
-    ensures { result ≡ get_or (sheet_of sheet.now).words i 0 }
-{
-    commands::value::<4>(sheet, WORD_BYTES * i + 1)
-}
+    // The start value of a word.
+    pub fn word(self, i: usize) -> u32
+        requires { i < length (sheet_of self.bytes.now).words }
+        ensures { result ≡ get_or (sheet_of self.entry.bytes.now).words i 0 }
+    {
+        commands::value::<4>(self.bytes(), WORD_BYTES * i + 1)
+    }
 
-// The version of a block, and its eight values; `words` is the number of words before the blocks.
-pub fn version(sheet: &[u8], words: usize, i: usize) -> u32
-    requires { IsBlock sheet.now words i }
-    ensures { result ≡ (get_or (sheet_of sheet.now).blocks i no_block).version }
-{
-    commands::value::<4>(sheet, WORD_BYTES * words + BLOCK_BYTES * i + 1)
-}
+    // The version of a block, and its eight values; `words` is the number of words before the blocks.
+    pub fn version(self, words: usize, i: usize) -> u32
+        requires { IsBlock self.bytes.now words i }
+        ensures { result ≡ (get_or (sheet_of self.entry.bytes.now).blocks i no_block).version }
+    {
+        commands::value::<4>(self.bytes(), WORD_BYTES * words + BLOCK_BYTES * i + 1)
+    }
 
-pub fn block_values(sheet: &[u8], words: usize, i: usize) -> [u32; SheetCeilings::BLOCK_VALUES]
-    requires { IsBlock sheet.now words i }
-    ensures { result ≡ (get_or (sheet_of sheet.now).blocks i no_block).values }
-{
-    commands::values(sheet, WORD_BYTES * words + BLOCK_BYTES * i + 1)
+    pub fn block_values(self, words: usize, i: usize) -> [u32; SheetCeilings::BLOCK_VALUES]
+        requires { IsBlock self.bytes.now words i }
+        ensures { result ≡ (get_or (sheet_of self.entry.bytes.now).blocks i no_block).values }
+    {
+        commands::values(self.bytes(), WORD_BYTES * words + BLOCK_BYTES * i + 1)
+    }
 }

@@ -1,15 +1,17 @@
 #![tactic(auto)]
 
 // The sheet check through the reader: commands are handed out one after another, and the first fault in byte order ends the reading.
-ghost use Rattle.std.specs.Prelude.{◌≡◌};
+ghost use Rattle.std.specs.Prelude.{◌≡◌, IfOk};
 ghost use Rattle.model.specs.Sheet.{verdict};
 ghost use Rattle.model.specs.Answer.{check_answer};
 ghost use Rattle.sheet.specs.View.{view_verdict, checked_of};
+ghost use Rattle.sheet_check.specs.Accepting.{outcome_of};
 
 use commands::Fault;
 use reader::Reader;
 use rules::known::Known;
 use sheet::check::judge;
+use sheet::checked::Accepted;
 use sheet::learned;
 
 // The first fault in byte order of the commands that a reader over the sheet hands out.
@@ -26,6 +28,15 @@ pub fn first_fault(sheet: &[u8]) -> Result<(), Fault>
         }
         known = learned::after(known, c);
     }
+}
+
+// Bytes that pass the check as an accepted sheet, or their first fault.
+pub fn accept(bytes: &[u8]) -> Result<Accepted<'_>, Fault>
+    ensures outcome { view_verdict (outcome_of result) ≡ verdict bytes.now }
+    ensures same { IfOk result (λ a. a.bytes ≡ bytes.entry) }
+{
+    first_fault(bytes)?;
+    Ok(Accepted::new(bytes))
 }
 
 // The public check of any bytes.

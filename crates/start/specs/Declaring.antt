@@ -2,19 +2,16 @@
 use Rattle.std.specs.Prelude.{ℕ, ◌<◌, ◌≡◌, List, [], length, take}
 use Rattle.model.specs.Lists.{replace}
 use Rattle.model.specs.Word.{memory}
-use Rattle.model.specs.Sheet.{Sheet, sheet_of, verdict, accepted}
+use Rattle.model.specs.Sheet.{Sheet, sheet_of}
 use Rattle.state.specs.State.{Shared}
 use Rattle.state.specs.Sized.{SharedSized}
 use Rattle.state.specs.Held.{memory_of}
 use Rattle.start.specs.Start.{SharedStarts}
-use Rattle.start.specs.declared.Counts.{Counts}
+use Rattle.start.specs.declared.counts.Counts.{Counts}
 
--- the sheet is accepted, and these are the numbers of its words, blocks and tasks
-pub record Counted (s : List ℕ) (n : Counts) : Type 0 where
-  pub sound : verdict s ≡ accepted
-  pub words : n.words ≡ length (sheet_of s).words
-  pub blocks : n.blocks ≡ length (sheet_of s).blocks
-  pub tasks : n.tasks ≡ length (sheet_of s).bodies
+-- what the counted sheet declares
+abbrev pub sheet_in : Counts → Sheet
+sheet_in n = sheet_of n.sheet.bytes.now
 
 abbrev pub nothing : Sheet
 nothing = record { words = []; blocks = []; bodies = []; releases = [] }
@@ -25,10 +22,9 @@ declaring s words blocks =
     record { words = take words s.words; blocks = take blocks s.blocks; bodies = s.bodies; releases = s.releases }
 
 -- the sheet declares block b, and those before it are in the memory
-pub record NextBlock (s : List ℕ) (n : Counts) (m : Shared) (b : ℕ) : Type 0 where
-  pub counted : Counted s n
+pub record NextBlock (n : Counts) (m : Shared) (b : ℕ) : Type 0 where
   pub declared : b < n.blocks
-  pub before : SharedStarts (declaring (sheet_of s) n.words b) m
+  pub before : SharedStarts (declaring (sheet_in n) n.words b) m
 
 -- there is such a store, and eight values for it
 pub record Before (m : Shared) (store : ℕ) (values : List ℕ) : Type 0 where

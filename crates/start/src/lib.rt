@@ -2,15 +2,17 @@
 
 // The two records at the start of a run of an accepted sheet: what all tasks share, and each task's own. The start is that of a sheet
 // which declares nothing; then the words and the blocks of the sheet are set one after another.
+pub mod counts;
+
 ghost use Rattle.std.specs.Prelude.{◌≡◌, map, ◌+◌, ◌<◌};
-ghost use Rattle.model.specs.Sheet.{sheet_of};
 ghost use Rattle.model.specs.Word.{fresh_word};
 ghost use Rattle.state.specs.Packed.{unpack};
 ghost use Rattle.state.specs.State.{shared, own};
 ghost use Rattle.start.specs.Start.{SharedStarts, OwnStarts, TasksStart};
-ghost use Rattle.start.specs.Declaring.{Counted, nothing, declaring, NextBlock, Before, Stored};
+ghost use Rattle.start.specs.Declaring.{sheet_in, nothing, declaring, NextBlock, Before, Stored};
 
 use commands::ceilings::SheetCeilings;
+use counts::Counts;
 use state::{Memory, Task, Word};
 
 // The banks' cells stand after those of the words.
@@ -21,14 +23,6 @@ const VALUES: usize = SheetCeilings::BLOCK_VALUES;
 const TASKS: usize = SheetCeilings::TASKS as usize;
 
 const COPIES: usize = 4;
-
-// How many words, blocks and tasks the sheet declares; made by the engine from the index, whose numbers are bytes.
-#[derive(Clone, Copy)]
-pub struct Counts {
-    pub words: usize,
-    pub blocks: usize,
-    pub tasks: usize,
-}
 
 fn fresh_cell(value: u32) -> u64
     ensures { unpack result ≡ fresh_word value }
@@ -43,13 +37,12 @@ fn blank() -> Memory
     Memory::filled(fresh_cell(0))
 }
 
-fn set_words(sheet: &[u8], n: Counts, memory: &mut Memory)
-    requires counted { Counted sheet.now n }
-    requires shared_starts { SharedStarts (declaring (sheet_of sheet.now) 0 0) (shared memory.old) }
-    ensures { SharedStarts (declaring (sheet_of sheet.now) n.words 0) (shared memory.new) }
+fn set_words(n: &Counts, memory: &mut Memory)
+    requires { SharedStarts (declaring (sheet_in n.now) 0 0) (shared memory.old) }
+    ensures { SharedStarts (declaring (sheet_in n.now) n.now.words 0) (shared memory.new) }
 {
     for w in 0..n.words {
-        memory.set_cell(w, fresh_cell(sheet::index::word(sheet, w)));
+        memory.set_cell(w, fresh_cell(n.sheet.word(w)));
     }
 }
 
@@ -63,33 +56,31 @@ fn set_store(memory: &mut Memory, store: usize, values: [u32; VALUES])
 }
 
 // The bank word of block b holds its version and its store, and the store its values. With N tasks the store is 4N + b.
-fn set_block(sheet: &[u8], n: Counts, memory: &mut Memory, b: usize)
-    requires { NextBlock sheet.now n (shared memory.old) b }
-    ensures { SharedStarts (declaring (sheet_of sheet.now) n.words (b + 1)) (shared memory.new) }
+fn set_block(n: &Counts, memory: &mut Memory, b: usize)
+    requires { NextBlock n.now (shared memory.old) b }
+    ensures { SharedStarts (declaring (sheet_in n.now) n.now.words (b + 1)) (shared memory.new) }
 {
     let store = COPIES * n.tasks + b;
-    let version = sheet::index::version(sheet, n.words, b);
+    let version = n.sheet.version(n.words, b);
     memory.set_cell(WORDS + b, fresh_cell(version * 256 + store as u32));
-    set_store(memory, store, sheet::index::block_values(sheet, n.words, b));
+    set_store(memory, store, n.sheet.block_values(n.words, b));
 }
 
-fn set_blocks(sheet: &[u8], n: Counts, memory: &mut Memory)
-    requires counted { Counted sheet.now n }
-    requires shared_starts { SharedStarts (declaring (sheet_of sheet.now) n.words 0) (shared memory.old) }
-    ensures { SharedStarts (declaring (sheet_of sheet.now) n.words n.blocks) (shared memory.new) }
+fn set_blocks(n: &Counts, memory: &mut Memory)
+    requires { SharedStarts (declaring (sheet_in n.now) n.now.words 0) (shared memory.old) }
+    ensures { SharedStarts (declaring (sheet_in n.now) n.now.words n.now.blocks) (shared memory.new) }
 {
     for b in 0..n.blocks {
-        set_block(sheet, n, memory, b);
+        set_block(n, memory, b);
     }
 }
 
-pub fn memory(sheet: &[u8], n: Counts) -> Memory
-    requires { Counted sheet.now n }
-    ensures { SharedStarts (sheet_of sheet.now) (shared result) }
+pub fn memory(n: &Counts) -> Memory
+    ensures { SharedStarts (sheet_in n.now) (shared result) }
 {
     let mut memory = blank();
-    set_words(sheet, n, &mut memory);
-    set_blocks(sheet, n, &mut memory);
+    set_words(n, &mut memory);
+    set_blocks(n, &mut memory);
     memory
 }
 

@@ -11,9 +11,9 @@ run-ended-requires-clause-waiting c = rw c.start-from.ensures refl
 
 pub returns : goal.returns
 returns c = ran_by c.index-x.ensures
-    c.memory-memory.ensures
+    (rw c.of-n.ensures.sheet at c.memory-memory.ensures)
     c.tasks-tasks.ensures
     c.program-program.ensures
     c.start-from.ensures
-    c.run-ended.ensures.ends
-    (rw (c.into.ensures, c.into-2.ensures, c.into-3.ensures) at c.report.ensures)
+    (rw c.bytes.ensures.same at c.run-ended.ensures.ends)
+    (rw (c.of-n.ensures.words, c.of-n.ensures.blocks, c.of-n.ensures.tasks) at c.report.ensures)

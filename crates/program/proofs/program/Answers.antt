@@ -7,7 +7,7 @@ use Rattle.program.proofs.Filling.{one-command, room_for_command, at-release, at
 use Rattle.program.proofs.program.Goals as goal
 
 pub loop-command-init : goal.loop-command-init
-loop-command-init c = begin _ _ c.requires
+loop-command-init c = begin _ _ c.bytes-sheet.ensures.sound
 
 pub loop-command-smaller-in-Word : goal.loop-command-smaller-in-Word
 loop-command-smaller-in-Word c = nearer _ _ _ _ c.decode.ensures c.in-Ok.is
@@ -32,10 +32,10 @@ pub returns-in-Release : goal.returns-in-Release
 unfolding replace
 returns-in-Release c =
     let l = c.loop-command.invariant in
-    elim c.in-Release.is [
+    rw (← c.bytes-sheet.ensures.same) (elim c.in-Release.is [
       | inl release ↦ at-release l _ (found-is _ _ _ _ c.decode.ensures c.in-Ok.is release.1)
       | inr end ↦ at-end l (found-is _ _ _ _ c.decode.ensures c.in-Ok.is end)
-    ]
+    ])
 
 pub bounds-program-lines : goal.bounds-program-lines
 bounds-program-lines c =

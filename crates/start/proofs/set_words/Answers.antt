@@ -7,6 +7,6 @@ use Rattle.start.proofs.set_words.Goals as goal
 
 pub loop-w-preserved : goal.loop-w-preserved
 loop-w-preserved c =
-    let counted = c.requires.counted in
+    let n = c.args.n.now in
     let value = c.fresh_cell.ensures ∙ ap fresh_word c.word.ensures in
-    rw c.set_cell.ensures (word_set (fit counted) _ _ c.loop-w.invariant (rw counted.words at c.loop-w-test.true) value)
+    rw c.set_cell.ensures (word_set (fit n) _ _ c.loop-w.invariant (rw n.all_words at c.loop-w-test.true) value)

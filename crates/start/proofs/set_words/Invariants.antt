@@ -1,9 +1,8 @@
 -- `set_words` meets its contract.
-use Rattle.model.specs.Sheet.{sheet_of}
 use Rattle.state.specs.State.{shared}
 use Rattle.start.specs.Start.{SharedStarts}
-use Rattle.start.specs.Declaring.{declaring}
+use Rattle.start.specs.Declaring.{sheet_in, declaring}
 use Rattle.start.proofs.set_words.Given as goal
 
 abbrev pub invariant-loop-w : goal.invariant-loop-w
-invariant-loop-w l = SharedStarts (declaring (sheet_of l.sheet) l.w 0) (shared l.memory)
+invariant-loop-w l = SharedStarts (declaring (sheet_in l.n) l.w 0) (shared l.memory)

@@ -2,7 +2,7 @@
 use Prim.Native.Nat.{◌-◌}
 use Rattle.sheet.proofs.Indexing.{Walk}
 use lib.ListN.{length}
-use Rattle.sheet.proofs.index.index.Given as goal
+use Rattle.sheet.proofs.checked.Accepted.index.Given as goal
 
 abbrev pub invariant-loop-c : goal.invariant-loop-c
 invariant-loop-c l = Walk l.sheet l.x l.at

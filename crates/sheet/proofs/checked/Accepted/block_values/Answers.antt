@@ -1,0 +1,30 @@
+-- `block_values` meets its contract: the blocks stand behind the words, 37 bytes each.
+use Prim.Native.Nat.{ℕ}
+use Rattle.model.specs.Command.{Block, no_block}
+use Rattle.sheet.proofs.Declared.{block_of, fits}
+use Rattle.commands.specs.Stages.{values_from}
+use mathlib.Core.Path.{◌∙◌, ap, sym}
+use native.Mathlib.Omega.{arith}
+use Rattle.sheet.proofs.checked.Accepted.block_values.Goals as goal
+
+pub overflow_mul-words : goal.overflow_mul-words
+overflow_mul-words c = omega (arith, fits _ c.args.self.sound, c.requires, c.requires.declared)
+
+pub overflow_mul-i : goal.overflow_mul-i
+overflow_mul-i c = omega (arith, fits _ c.args.self.sound, c.requires, c.requires.declared)
+
+pub overflow_add-words : goal.overflow_add-words
+overflow_add-words c = omega (arith, fits _ c.args.self.sound, c.requires, c.requires.declared)
+
+pub overflow_add-words-2 : goal.overflow_add-words-2
+overflow_add-words-2 c = omega (arith, fits _ c.args.self.sound, c.requires, c.requires.declared)
+
+pub values-requires : goal.values-requires
+values-requires c = rw c.bytes.ensures.same (omega (arith, fits _ c.args.self.sound, c.requires, c.requires.declared))
+
+pub returns : goal.returns
+returns c =
+    let s = c.args.self.bytes.now in
+    rw c.bytes.ensures.same at c.values.ensures ∙ ap (λ (p : ℕ). values_from s p) (omega (arith, c.requires))
+    ∙ sym (ap (λ (b : Block). b.values)
+    (block_of s c.args.self.sound c.args.i no_block c.requires.declared))
