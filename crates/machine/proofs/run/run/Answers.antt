@@ -1,10 +1,10 @@
 -- `run` meets its contract.
 use Prim.Native.Nat.{◌<◌, ◌+◌}
 use mathlib.Core.Bool.{true}
-use lib.ListN.{length-set}
+use lib.ListN.{get_or, length-set}
 use Rattle.model.specs.Lists.{at}
 use Rattle.arrivals.proofs.Pending.{due_less}
-use Rattle.machine.specs.Flat.{limited}
+use Rattle.machine.specs.Flat.{no_job, limited}
 use Rattle.machine.proofs.Idle.{idled_ticks}
 use Rattle.machine.proofs.Runs.{release-turn, after-release, after_stop}
 use Rattle.machine.proofs.Runs.{came, begin-statement, step-statement, until_limit, until_due, none-ready, goes_before, stretch}
@@ -62,7 +62,7 @@ loop-busy-preserved c =
     let on = rw c.loop-busy-test.true at g.invariant.ends in
     let none = none-ready l.ready l.place l.next g.tick (g.invariant.undue c.loop-busy-test.true) in
     let before : c.goes_on-busy.result ≡ true → g.tick + 1 < c.until-until.result =
-    λ h. goes_before c.goes_on-busy.args.phase _ _ c.goes_on-busy.ensures h in record {
+    λ h. goes_before (get_or c.if-starting.jobs _ no_job).phase _ _ c.goes_on-busy.ensures h in record {
       within = λ h. until_limit _ _ l.next (rw c.until-until.ensures at (before h));
       undue = λ h. until_due _ _ l.next l.place none (rw c.until-until.ensures at (before h));
       jobs_size = elim c.if-starting.branch [
