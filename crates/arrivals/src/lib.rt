@@ -78,12 +78,10 @@ pub fn zero_by(task: &mut Task, phase: Phase)
     }
 }
 
-pub fn started(job: Job, line: usize) -> Job
-    ensures { result ≡ started_by (unfinished? job.phase) job line }
+pub fn start_by(job: &mut Job, line: usize)
+    ensures { job.new ≡ started_by (unfinished? job.old.phase) job.old line }
 {
-    if unfinished(job.phase) {
-        job
-    } else {
-        Job::new(Phase::Plain, line, 0)
+    if !unfinished(job.phase) {
+        *job = Job::new(Phase::Plain, line, 0);
     }
 }

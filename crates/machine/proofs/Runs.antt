@@ -1,5 +1,5 @@
 -- What the parts of the run's loops ensure makes a release or a tick of the flat machine, and the loop's rest the run's.
-use Prim.Native.Nat.{ℕ, zero, suc, ◌+◌, ◌%◌, ◌<◌, ◌≤◌}
+use Prim.Native.Nat.{ℕ, zero, suc, ◌+◌, ◌%◌, ◌<◌}
 use mathlib.Core.Path.{◌≡◌, refl, sym, ap, ◌∙◌, subst}
 use mathlib.Core.Bool.{Bool, true, false, false≢true, ◌&&◌, ◌||◌}
 use mathlib.Core.List.{List, [], ◌∷◌, map}
@@ -8,7 +8,7 @@ use borrow.Author.Tests.{ne_eqb, ltb-true, ltb-false}
 use lib.Dec.{ltb}
 use Rattle.std.specs.Prelude.{Option, Some, None}
 use lib.ListN.{length, get_or, set}
-use lib.Seq.{set-get_or, set-set, get_or-set_same}
+use lib.Seq.{get_or-set_same}
 use Rattle.model.specs.Lists.{at, replace}
 use Rattle.model.proofs.Lists.{at_map, map-replace}
 use Rattle.model.specs.Command.{command_at}
@@ -29,15 +29,6 @@ use Rattle.arrivals.specs.declared.releases.Coming.TheVariants.{Nothing, Later, 
 use Rattle.machine.specs.Flat.{top_of, FlatMachine, flat, no_job, released, finished, tick_of, left_by, ready_by, ticked}
 use Rattle.machine.specs.Flat.{coming_in, Ends, stopped, arrives, moves}
 
--- one turn more of the loop while the highest task is not the one at hand
-abbrev pub apart : Bool → ℕ
-apart true = 0
-apart false = 1
-
-pub apart_most : (b : Bool) → apart b ≤ 1
-apart_most true = omega arith
-apart_most false = omega arith
-
 -- ONE RECORD OF ALL is replaced, and read
 record_set : (ts : List Task) (i : ℕ) (t : Task) → map own (set ts i t) ≡ set (map own ts) i (own t)
 unfolding replace
@@ -54,27 +45,11 @@ record_twice [] i x z f e = refl
 record_twice (t ∷ ts) zero x z f e = ap (λ (y : Own). y ∷ map own ts) e
 record_twice (t ∷ ts) (suc i) x z f e = ap (λ (l : List Own). own t ∷ l) (record_twice ts i x z f e)
 
--- The job k of the task at hand is held beside the others; the machine has it in its place.
-module _ (sheet : List ℕ) (program : List BodyCommand) (bounds : List ℕ) (limit : ℕ) (w v : FlatMachine) where
-  pub same-machine : v ≡ w → (u : FlatMachine) → Ends sheet program bounds limit v u → Ends sheet program bounds limit w u
-  same-machine e u r = subst (λ (x : FlatMachine). Ends sheet program bounds limit x u) e r
-
-module _ (m : Shared) (ts : List Own) (jobs : List Job) (k : Job) (n : ℕ) (ws : List ℕ) (y : Option ℕ) (r t p q : ℕ) where
-  pub switched : flat m ts (set (set jobs p k) q (get_or (set jobs p k) q no_job)) n ws y r t ≡ flat m ts (set jobs p k) n ws y r t
-  switched = rw (set-get_or (set jobs p k) q no_job)
-
--- the job of task 0 taken out of the jobs and held apart is still the same machine
-pub resumed : (sheet : List ℕ) (program : List BodyCommand) (bounds : List ℕ) (limit : ℕ) (m : Shared) (ts : List Own) (js : List Job)
-    (n : ℕ) (ws : List ℕ) (y : Option ℕ) (r t : ℕ) (u : FlatMachine)
-    → Ends sheet program bounds limit (flat m ts (set js 0 (get_or js 0 no_job)) n ws y r t) u
-    → Ends sheet program bounds limit (flat m ts js n ws y r t) u
-resumed sheet program bounds limit m ts js n ws y r t u e = rw (set-get_or js 0 no_job) at e
-
 -- A RELEASE to task p: its job, and whether that is still at work
-module _ (bounds : List ℕ) (m : Shared) (ts : List Task) (jobs : List Job) (k : Job) (n : ℕ) (ws : List ℕ)
-    (y : Option ℕ) (r t task next q p : ℕ) where
+module _ (bounds : List ℕ) (m : Shared) (ts : List Task) (jobs : List Job) (n : ℕ) (ws : List ℕ)
+    (y : Option ℕ) (r t task next p : ℕ) where
   abbrev found : Job
-  found = get_or (set jobs q k) p no_job
+  found = get_or jobs p no_job
 
   abbrev works? : Bool
   works? = unfinished? found.phase
@@ -87,8 +62,8 @@ module _ (bounds : List ℕ) (m : Shared) (ts : List Task) (jobs : List Job) (k 
       → own z ≡ zeroed_by works? (own (get_or (set ts p x) p no_task))
       → line ≡ at 0 bounds p
       → j ≡ started_by works? found line
-      → flat m (map own (set (set ts p x) p z)) (set (set jobs q k) p j) n' (set ws p b) None next t
-      ≡ released bounds (flat m (map own ts) (set jobs q k) n ws y r t) task next
+      → flat m (map own (set (set ts p x) p z)) (set jobs p j) n' (set ws p b) None next t
+      ≡ released bounds (flat m (map own ts) jobs n ws y r t) task next
   unfolding released
   release-turn x z e1 e2 e3 e4 e5 e6 e7 =
       rw (e2, e3, e7, e6, record_twice ts p x z (zeroed_by works?) e5, e4, ← record_at ts p, e1)
@@ -99,9 +74,9 @@ pub finished-tick : (end : ℕ) {s j : Job} {m : Shared} {x y : Own} {l : Left J
     → left j m y ≡ tick_of end l
 finished-tick end {m = m} e f = rw (← e) (ap (λ (w : Noted Job). left w.next m w.task) f)
 
-pub came : (end : ℕ) (x : Task) {i j : Job} {a b : Memory} {k l : Left Job} → j ≡ i → b ≡ a → left i (shared a) (own x) ≡ tick_of end k → k ≡ l
+pub came : (end : ℕ) (x : Task) {j : Job} {a b : Memory} {k l : Left Job} → b ≡ a → left j (shared a) (own x) ≡ tick_of end k → k ≡ l
     → left j (shared b) (own x) ≡ tick_of end l
-came end x e1 e2 e3 e4 = rw (e1, e2, ← e4) e3
+came end x e1 e2 e3 = rw (e1, ← e3) e2
 
 -- the statement of a job that takes up its command, and of one inside a command
 module _ (program : List BodyCommand) (m : Shared) (t : Own) (p : ℕ) (k : Job) where
@@ -114,26 +89,28 @@ module _ (program : List BodyCommand) (m : Shared) (t : Own) (p : ℕ) (k : Job)
   unfolding statement
   step-statement e = rw e
 
-module _ (program : List BodyCommand) (bounds : List ℕ) (m : Shared) (ts : List Task) (jobs : List Job) (k : Job) (n : ℕ) (ws : List ℕ)
+module _ (program : List BodyCommand) (bounds : List ℕ) (m : Shared) (ts : List Task) (jobs : List Job) (n : ℕ) (ws : List ℕ)
     (y : Option ℕ) (r t p : ℕ) where
+  abbrev done : Left Job
+  done = statement program m (own (get_or ts p no_task)) p (get_or jobs p no_job)
+
   abbrev after : Left Job → FlatMachine
   after l =
-      flat l.memory (set (map own ts) p l.task) (set (set jobs p k) p l.next) (left_by (unfinished? l.next.phase) n p) ws
+      flat l.memory (set (map own ts) p l.task) (set jobs p l.next) (left_by (unfinished? l.next.phase) n p) ws
       (ready_by (unfinished? l.next.phase) (get_or ws p 0) p y) r (t + 1)
 
   tick-turn : (x : Task) {end : ℕ} {m' : Shared} {j : Job}
-      → (n ≡ 0 → ⊥) → p ≡ top_of 8 n → p < length jobs → end ≡ at 0 bounds (p + 1)
-      → left j m' (own x) ≡ tick_of end (statement program m (own (get_or ts p no_task)) p k)
+      → (n ≡ 0 → ⊥) → p ≡ top_of 8 n → end ≡ at 0 bounds (p + 1)
+      → left j m' (own x) ≡ tick_of end done
       → flat m' (map own (set ts p x)) (set jobs p j) (left_by (unfinished? j.phase) n p) ws
       (ready_by (unfinished? j.phase) (get_or ws p 0) p y) r (t + 1)
-      ≡ ticked program bounds (flat m (map own ts) (set jobs p k) n ws y r t)
+      ≡ ticked program bounds (flat m (map own ts) jobs n ws y r t)
   unfolding ticked
-  tick-turn x {end = end} {m' = m'} {j = j} work top lt e1 e2 =
-      rw (record_set ts p x, ← set-set jobs p k j) (ap after e2 ∙ is-ticked)
+  tick-turn x {end = end} {m' = m'} {j = j} work top e1 e2 =
+      rw (record_set ts p x) (ap after e2 ∙ is-ticked)
     where
-      is-ticked : after (tick_of end (statement program m (own (get_or ts p no_task)) p k)) ≡ ticked program bounds
-          (flat m (map own ts) (set jobs p k) n ws y r t)
-      is-ticked = rw (ne_eqb n 0 work, ← top, get_or-set_same jobs p k no_job lt, record_at ts p, ← e1)
+      is-ticked : after (tick_of end done) ≡ ticked program bounds (flat m (map own ts) jobs n ws y r t)
+      is-ticked = rw (ne_eqb n 0 work, ← top, record_at ts p, ← e1)
 
 -- THE RUN'S STEPS, by the next release, decoded once
 module _ (sheet : List ℕ) (program : List BodyCommand) (bounds : List ℕ) (limit : ℕ) (w : FlatMachine) (q : Option Pending)
@@ -209,19 +186,20 @@ pub goes_before : (f : Phase) (t until : ℕ) {b : Bool} → b ≡ (unfinished? 
 goes_before f t until e h = ltb-true t until (both (unfinished? f) (ltb t until) (sym e ∙ h))
 
 -- one statement more
-module _ (sheet : List ℕ) (program : List BodyCommand) (bounds : List ℕ) (limit : ℕ) (m : Shared) (ts : List Task) (jobs : List Job) (k : Job)
+module _ (sheet : List ℕ) (program : List BodyCommand) (bounds : List ℕ) (limit : ℕ) (m : Shared) (ts : List Task) (jobs : List Job)
     (n : ℕ) (ws : List ℕ) (y : Option ℕ) (r t p : ℕ) (q : Option Pending) where
-  pub stretch : (x : Task) (until : ℕ) {ts' : List Task} {end : ℕ} {m' : Shared} {j : Job} {b : Bool}
+  pub stretch : (x : Task) (until : ℕ) {ts' : List Task} {jobs' : List Job} {end : ℕ} {m' : Shared} {j : Job} {b : Bool}
       → (n ≡ 0 → ⊥) → p ≡ top_of 8 n → p < length jobs → end ≡ at 0 bounds (p + 1)
       → t < limit → q ≡ pending_at (command_at sheet r) → ((task next : ℕ) → coming_by y r q t ≡ Due task next → ⊥)
-      → ts' ≡ set ts p x → left j m' (own x) ≡ tick_of end (statement program m (own (get_or ts p no_task)) p k)
-      → b ≡ (unfinished? j.phase && ltb (t + 1) until)
+      → ts' ≡ set ts p x → jobs' ≡ set jobs p j
+      → left j m' (own x) ≡ tick_of end (statement program m (own (get_or ts p no_task)) p (get_or jobs p no_job))
+      → b ≡ (unfinished? (get_or jobs' p no_job).phase && ltb (t + 1) until)
       → (u : FlatMachine)
       → Ends sheet program bounds limit
-      (flat m' (map own ts') (set jobs p j) (left_by (b || unfinished? j.phase) n p) ws
-      (ready_by (b || unfinished? j.phase) (get_or ws p 0) p y) r (t + 1)) u
-      → Ends sheet program bounds limit (flat m (map own ts) (set jobs p k) n ws y r t) u
-  stretch x until {j = j} work top lt e1 more e2 due e3 e4 e5 u e =
+      (flat m' (map own ts') jobs' (left_by (b || unfinished? (get_or jobs' p no_job).phase) n p) ws
+      (ready_by (b || unfinished? (get_or jobs' p no_job).phase) (get_or ws p 0) p y) r (t + 1)) u
+      → Ends sheet program bounds limit (flat m (map own ts) jobs n ws y r t) u
+  stretch x until {j = j} work top lt e1 more e2 due e3 e4 e5 e6 u e =
       after-tick sheet program bounds limit _ q e2 _ more due (on_work (coming_by y r q t) n work)
-      (tick-turn program bounds m ts jobs k n ws y r t p x work top lt e1 e4) u
-      (rw (e3, e5, going (unfinished? j.phase) (ltb (t + 1) until)) at e)
+      (tick-turn program bounds m ts jobs n ws y r t p x work top e1 e5) u
+      (rw (e6, e3, e4, get_or-set_same jobs p j no_job lt, going (unfinished? j.phase) (ltb (t + 1) until)) at e)

@@ -174,9 +174,6 @@ pub fn run(
     ensures waiting { length result.waiting ≡ 8 }
 {
     let mut jobs = from.jobs;
-    // The job of task p, which ran last, is held apart, and goes back when another task runs.
-    let mut p: u8 = 0;
-    let mut job = jobs[0];
     let mut mask = from.mask;
     let mut waiting = from.waiting;
     let mut ready = from.ready;
@@ -186,24 +183,20 @@ pub fn run(
     while tick < limit {
         let release = releases::coming_at(next, tick, ready, place);
         if let Coming::Due(task, after) = release {
-            jobs[p as usize] = job;
-            p = task % SheetCeilings::TASKS;
-            let i = p as usize;
-            let found = jobs[i];
-            let phase = found.phase;
+            let i = (task % SheetCeilings::TASKS) as usize;
+            let phase = jobs[i].phase;
             let behind = waiting[i];
             arrivals::drop_by(&mut tasks[i], behind, phase);
             waiting[i] = arrivals::wait_by(behind, phase);
             mask = arrivals::begun(mask, i, phase);
             arrivals::zero_by(&mut tasks[i], phase);
-            job = arrivals::started(found, bounds[i]);
+            arrivals::start_by(&mut jobs[i], bounds[i]);
             ready = None;
             place = after;
             next = releases::pending_at(sheet, place);
             continue;
         }
         if releases::stops(release, mask) {
-            jobs[p as usize] = job;
             return Paused {
                 jobs,
                 mask,
@@ -218,37 +211,27 @@ pub fn run(
             tick = releases::idled(next, tick, limit);
             continue;
         }
-        let highest = top(mask);
-        if highest != p {
-            jobs[p as usize] = job;
-            p = highest;
-            job = jobs[p as usize];
-            continue;
-        }
         // The highest task does one statement a tick; only a release or the end of its job can change who is highest.
+        let p = top(mask);
         let i = p as usize;
         let until = releases::until(next, limit);
         let end = bounds[i + 1];
         let mut busy = true;
         while busy {
-            let phase = job.phase;
-            if starting(phase) {
-                let at = line(job.at);
-                let command = program[at];
-                begin_tick(memory, &mut tasks[i], p, &mut job, command, end);
+            if starting(jobs[i].phase) {
+                let command = program[line(jobs[i].at)];
+                begin_tick(memory, &mut tasks[i], p, &mut jobs[i], command, end);
             } else {
-                step_tick(memory, &mut tasks[i], p, &mut job, end);
+                step_tick(memory, &mut tasks[i], p, &mut jobs[i], end);
             }
             tick += 1;
-            let after = job.phase;
-            busy = goes_on(after, tick, until);
+            busy = goes_on(jobs[i].phase, tick, until);
         }
-        let last = job.phase;
+        let last = jobs[i].phase;
         mask = leaving(mask, i, last);
         let behind = waiting[i];
         ready = ready_by(ready, p, behind, last);
     }
-    jobs[p as usize] = job;
     Paused {
         jobs,
         mask,
