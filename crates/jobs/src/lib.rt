@@ -59,34 +59,31 @@ impl Job {
         }
     }
 
-    pub fn in_phase(self, phase: Phase) -> Self
-        ensures { result ≡ in_phase self phase }
+    pub fn in_phase(&mut self, phase: Phase)
+        ensures { self.new ≡ in_phase self.old phase }
     {
-        Job { phase, ..self }
+        self.phase = phase;
     }
 
-    pub fn with_value(self, phase: Phase, value: u32) -> Self
-        ensures { result ≡ with_value self phase value }
+    pub fn with_value(&mut self, phase: Phase, value: u32)
+        ensures { self.new ≡ with_value self.old phase value }
     {
-        Job {
-            phase,
-            value,
-            ..self
-        }
+        self.phase = phase;
+        self.value = value;
     }
 
     // The line after the one at work.
-    pub fn next_line(self) -> usize
-        ensures { result ≡ next_line self }
+    pub fn next_line(&self) -> usize
+        ensures { result ≡ next_line self.now }
     {
         self.at.wrapping_add(1)
     }
 
     // The command is done: the next line is at work.
-    pub fn done(self, pairs: u8) -> Self
-        ensures { result ≡ after_done self pairs }
+    pub fn done(&mut self, pairs: u8)
+        ensures { self.new ≡ after_done self.old pairs }
     {
-        Job::new(Phase::Plain, self.next_line(), pairs)
+        *self = Job::new(Phase::Plain, self.next_line(), pairs);
     }
 }
 
@@ -142,8 +139,8 @@ pub fn enter(task: &mut Task, n: u8, target: u32, old: u32, new: u32)
 }
 
 #[tactic(auto, unfolding(crate::specs::Jobs::read_by))]
-pub fn read_by(task: &mut Task, job: Job, register: u8, word: u8, read: Read) -> Job
-    ensures { noted result (own task.new) ≡ read_by (own task.old) job register word read }
+pub fn read_by(task: &mut Task, job: &mut Job, register: u8, word: u8, read: Read)
+    ensures { noted job.new (own task.new) ≡ read_by (own task.old) job.old register word read }
 {
     match read {
         Read::Reads(step) => job.in_phase(Phase::Read(register, word, step)),
@@ -155,8 +152,8 @@ pub fn read_by(task: &mut Task, job: Job, register: u8, word: u8, read: Read) ->
 }
 
 #[tactic(auto, unfolding(crate::specs::Jobs::swap_by))]
-pub fn swap_by(task: &mut Task, job: Job, register: u8, exchanged: Exchanged) -> Job
-    ensures { noted result (own task.new) ≡ swap_by (own task.old) job register exchanged }
+pub fn swap_by(task: &mut Task, job: &mut Job, register: u8, exchanged: Exchanged)
+    ensures { noted job.new (own task.new) ≡ swap_by (own task.old) job.old register exchanged }
 {
     match exchanged {
         Exchanged::Goes(step) => job.in_phase(Phase::Exchange(register, step)),

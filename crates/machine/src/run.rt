@@ -81,24 +81,21 @@ fn line(n: usize) -> usize
 }
 
 // A job that stands where its body ends is finished.
-fn close(task: &mut Task, job: Job, end: usize) -> Job
-    ensures { noted result (own task.new) ≡ closed end (own task.old) job }
+fn close(task: &mut Task, job: &mut Job, end: usize)
+    ensures { noted job.new (own task.new) ≡ closed end (own task.old) job.old }
 {
     if begin::is_plain(job.phase) && job.at == end {
         jobs::count(task, Counter::Finished);
-        job.in_phase(Phase::Idle)
-    } else {
-        job
+        job.in_phase(Phase::Idle);
     }
 }
 
 // A statement is done: its tick is counted.
-fn finish(task: &mut Task, job: Job, end: usize) -> Job
-    ensures { noted result (own task.new) ≡ finished end (own task.old) job }
+fn finish(task: &mut Task, job: &mut Job, end: usize)
+    ensures { noted job.new (own task.new) ≡ finished end (own task.old) job.old }
 {
-    let after = close(task, job, end);
+    close(task, job, end);
     jobs::count(task, Counter::Ticks);
-    after
 }
 
 // A tick that takes up a command, and one inside a command.
@@ -106,21 +103,23 @@ fn begin_tick(
     memory: &mut Memory,
     task: &mut Task,
     p: u8,
-    job: Job,
+    job: &mut Job,
     command: BodyCommand,
     end: usize,
-) -> Job
-    ensures { left result (shared memory.new) (own task.new) ≡ tick_of end (begin_tick (shared memory.old) (own task.old) p job command) }
+)
+    ensures { left job.new (shared memory.new) (own task.new)
+        ≡ tick_of end (begin_tick (shared memory.old) (own task.old) p job.old command) }
 {
-    let after = begin::begin(memory, task, p, job, command);
-    finish(task, after, end)
+    begin::begin(memory, task, p, job, command);
+    finish(task, job, end);
 }
 
-fn step_tick(memory: &mut Memory, task: &mut Task, p: u8, job: Job, end: usize) -> Job
-    ensures { left result (shared memory.new) (own task.new) ≡ tick_of end (step_tick (shared memory.old) (own task.old) p job job.phase) }
+fn step_tick(memory: &mut Memory, task: &mut Task, p: u8, job: &mut Job, end: usize)
+    ensures { left job.new (shared memory.new) (own task.new)
+        ≡ tick_of end (step_tick (shared memory.old) (own task.old) p job.old job.old.phase) }
 {
-    let after = step::step(memory, task, p, job);
-    finish(task, after, end)
+    step::step(memory, task, p, job);
+    finish(task, job, end);
 }
 
 // The task that runs goes on: its job is unfinished, and until that tick no other can run.
@@ -234,9 +233,9 @@ pub fn run(
             if starting(phase) {
                 let at = line(job.at);
                 let command = program[at];
-                job = begin_tick(memory, &mut tasks[i], p, job, command, end);
+                begin_tick(memory, &mut tasks[i], p, &mut job, command, end);
             } else {
-                job = step_tick(memory, &mut tasks[i], p, job, end);
+                step_tick(memory, &mut tasks[i], p, &mut job, end);
             }
             tick += 1;
             let after = job.phase;

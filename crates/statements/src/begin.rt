@@ -13,8 +13,8 @@ use transactions::{accesses, commits};
 
 // A command that stands only outside a transaction.
 #[tactic(auto, unfolding(crate::specs::Statements::outside_tick))]
-fn outside(memory: &mut Memory, task: &mut Task, p: u8, job: Job, command: Outside) -> Job
-    ensures { left result (shared memory.new) (own task.new) ≡ outside_tick (shared memory.old) (own task.old) p job command }
+fn outside(memory: &mut Memory, task: &mut Task, p: u8, job: &mut Job, command: Outside)
+    ensures { left job.new (shared memory.new) (own task.new) ≡ outside_tick (shared memory.old) (own task.old) p job.old command }
 {
     match command {
         Outside::Read { register, word } => {
@@ -29,20 +29,20 @@ fn outside(memory: &mut Memory, task: &mut Task, p: u8, job: Job, command: Outsi
         }
         Outside::Swap(register) => {
             let step = exchange::start(memory, p);
-            job.in_phase(Phase::Exchange(register, step))
+            job.in_phase(Phase::Exchange(register, step));
         }
         Outside::Begin => {
             jobs::keep(task);
             accesses::clear(task);
-            Job::new(Phase::Transaction(Inner::Between), job.next_line(), 0)
+            *job = Job::new(Phase::Transaction(Inner::Between), job.next_line(), 0);
         }
     }
 }
 
 // Outside a transaction; the sheet check lets none of inside stand there.
 #[tactic(auto, unfolding(crate::specs::Statements::plain_tick))]
-fn plain_command(memory: &mut Memory, task: &mut Task, p: u8, job: Job, command: BodyCommand) -> Job
-    ensures { left result (shared memory.new) (own task.new) ≡ plain_tick (shared memory.old) (own task.old) p job command }
+fn plain_command(memory: &mut Memory, task: &mut Task, p: u8, job: &mut Job, command: BodyCommand)
+    ensures { left job.new (shared memory.new) (own task.new) ≡ plain_tick (shared memory.old) (own task.old) p job.old command }
 {
     match command {
         BodyCommand::Load { register, value } => {
@@ -54,14 +54,14 @@ fn plain_command(memory: &mut Memory, task: &mut Task, p: u8, job: Job, command:
             job.done(job.pairs)
         }
         BodyCommand::Outside(c) => outside(memory, task, p, job, c),
-        BodyCommand::Inside(_) => job,
+        BodyCommand::Inside(_) => {}
     }
 }
 
 // A command that stands only inside a transaction.
 #[tactic(auto, unfolding(crate::specs::Statements::inside_tick))]
-fn inside(memory: &mut Memory, task: &mut Task, job: Job, command: Inside) -> Job
-    ensures { left result (shared memory.new) (own task.new) ≡ inside_tick (shared memory.old) (own task.old) job command }
+fn inside(memory: &mut Memory, task: &mut Task, job: &mut Job, command: Inside)
+    ensures { left job.new (shared memory.new) (own task.new) ≡ inside_tick (shared memory.old) (own task.old) job.old command }
 {
     match command {
         Inside::Access(access) => accesses::access(memory, task, job, access),
@@ -71,8 +71,8 @@ fn inside(memory: &mut Memory, task: &mut Task, job: Job, command: Inside) -> Jo
 
 // Inside a transaction, between its inner steps; the sheet check lets none of outside stand there.
 #[tactic(auto, unfolding(crate::specs::Statements::between_tick))]
-fn between(memory: &mut Memory, task: &mut Task, job: Job, command: BodyCommand) -> Job
-    ensures { left result (shared memory.new) (own task.new) ≡ between_tick (shared memory.old) (own task.old) job command }
+fn between(memory: &mut Memory, task: &mut Task, job: &mut Job, command: BodyCommand)
+    ensures { left job.new (shared memory.new) (own task.new) ≡ between_tick (shared memory.old) (own task.old) job.old command }
 {
     match command {
         BodyCommand::Load { register, value } => {
@@ -84,7 +84,7 @@ fn between(memory: &mut Memory, task: &mut Task, job: Job, command: BodyCommand)
             accesses::goes_on(job)
         }
         BodyCommand::Inside(c) => inside(memory, task, job, c),
-        BodyCommand::Outside(_) => job,
+        BodyCommand::Outside(_) => {}
     }
 }
 
@@ -95,12 +95,12 @@ pub fn is_plain(phase: Phase) -> bool
 }
 
 #[tactic(auto, unfolding(crate::specs::Statements::begin_tick))]
-pub fn begin(memory: &mut Memory, task: &mut Task, p: u8, job: Job, command: BodyCommand) -> Job
-    ensures { left result (shared memory.new) (own task.new) ≡ begin_tick (shared memory.old) (own task.old) p job command }
+pub fn begin(memory: &mut Memory, task: &mut Task, p: u8, job: &mut Job, command: BodyCommand)
+    ensures { left job.new (shared memory.new) (own task.new) ≡ begin_tick (shared memory.old) (own task.old) p job.old command }
 {
-    // An early return and no `if` expression, in which the phase is packed anew: up to 10 instructions a tick.
     if is_plain(job.phase) {
-        return plain_command(memory, task, p, job, command);
+        plain_command(memory, task, p, job, command);
+    } else {
+        between(memory, task, job, command);
     }
-    between(memory, task, job, command)
 }

@@ -23,8 +23,8 @@ fn exchange_step(phase: Phase) -> Option<Step>
 
 // A statement inside a transaction that is not its exchange's.
 #[tactic(auto, unfolding(crate::specs::Statements::transact_tick))]
-fn transact(memory: &mut Memory, task: &mut Task, job: Job, inner: Inner) -> Job
-    ensures { left result (shared memory.new) (own task.new) ≡ transact_tick (shared memory.old) (own task.old) job inner }
+fn transact(memory: &mut Memory, task: &mut Task, job: &mut Job, inner: Inner)
+    ensures { left job.new (shared memory.new) (own task.new) ≡ transact_tick (shared memory.old) (own task.old) job.old inner }
 {
     match inner {
         Inner::First(access, step) => {
@@ -36,14 +36,14 @@ fn transact(memory: &mut Memory, task: &mut Task, job: Job, inner: Inner) -> Job
             let read = read::read_tick(memory, accesses::bank(accesses::block(access)), step);
             accesses::again_read(task, job, access, value, read)
         }
-        Inner::Between | Inner::Committing(_) => job,
+        Inner::Between | Inner::Committing(_) => {}
     }
 }
 
 // A statement that is no exchange's.
 #[tactic(auto, unfolding(crate::specs::Statements::other_tick))]
-fn other(memory: &mut Memory, task: &mut Task, job: Job) -> Job
-    ensures { left result (shared memory.new) (own task.new) ≡ other_tick (shared memory.old) (own task.old) job job.phase }
+fn other(memory: &mut Memory, task: &mut Task, job: &mut Job)
+    ensures { left job.new (shared memory.new) (own task.new) ≡ other_tick (shared memory.old) (own task.old) job.old job.old.phase }
 {
     match job.phase {
         Phase::Read(register, word, step) => {
@@ -51,16 +51,17 @@ fn other(memory: &mut Memory, task: &mut Task, job: Job) -> Job
             jobs::read_by(task, job, register, word, read)
         }
         Phase::Transaction(inner) => transact(memory, task, job, inner),
-        Phase::Idle | Phase::Plain | Phase::Exchange(_, _) => job,
+        Phase::Idle | Phase::Plain | Phase::Exchange(_, _) => {}
     }
 }
 
 // One statement inside a command. Both exchanges are done in one place, so that their code stands there once.
-pub fn step(memory: &mut Memory, task: &mut Task, p: u8, job: Job) -> Job
-    ensures { left result (shared memory.new) (own task.new) ≡ step_tick (shared memory.old) (own task.old) p job job.phase }
+pub fn step(memory: &mut Memory, task: &mut Task, p: u8, job: &mut Job)
+    ensures { left job.new (shared memory.new) (own task.new) ≡ step_tick (shared memory.old) (own task.old) p job.old job.old.phase }
 {
     let Some(step) = exchange_step(job.phase) else {
-        return other(memory, task, job);
+        other(memory, task, job);
+        return;
     };
     let exchanged = exchange::exchange_tick(memory, task, p, job.pairs, job.value, step);
     if let Phase::Exchange(register, _) = job.phase {

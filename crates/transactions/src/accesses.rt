@@ -34,22 +34,19 @@ pub fn block(access: Access) -> u8
 }
 
 // The job in its transaction, with that inner step.
-pub fn inner(job: Job, step: Inner) -> Job
-    ensures { result ≡ in_phase job (Phase.Transaction step) }
+pub fn inner(job: &mut Job, step: Inner)
+    ensures { job.new ≡ in_phase job.old (Phase.Transaction step) }
 {
-    job.in_phase(Phase::Transaction(step))
+    job.in_phase(Phase::Transaction(step));
 }
 
 // The next command of the transaction.
-pub fn goes_on(job: Job) -> Job
-    ensures { result ≡ goes_on job }
+pub fn goes_on(job: &mut Job)
+    ensures { job.new ≡ goes_on job.old }
 {
-    Job {
-        phase: Phase::Transaction(Inner::Between),
-        at: job.next_line(),
-        pairs: 0,
-        ..job
-    }
+    inner(job, Inner::Between);
+    job.at = job.next_line();
+    job.pairs = 0;
 }
 
 // Block b's bit in the mask of touched blocks.
@@ -82,8 +79,8 @@ pub fn clear(task: &mut Task)
 }
 
 #[tactic(auto, unfolding(crate::specs::Accesses::first_read))]
-pub fn first_read(task: &mut Task, job: Job, access: Access, read: Read) -> Job
-    ensures { noted result (own task.new) ≡ first_read (own task.old) job access read }
+pub fn first_read(task: &mut Task, job: &mut Job, access: Access, read: Read)
+    ensures { noted job.new (own task.new) ≡ first_read (own task.old) job.old access read }
 {
     match read {
         Read::Reads(step) => inner(job, Inner::First(access, step)),
@@ -105,20 +102,20 @@ fn store_for(task: &Task, block: u8) -> u32
 }
 
 #[tactic(auto, unfolding(crate::specs::Accesses::got_by))]
-fn get(memory: &Memory, task: &Task, job: Job, access: Access, block: u8, offset: u8) -> Job
-    ensures { result ≡ got_by (shared memory.now) (own task.now) job access block offset }
+fn get(memory: &Memory, task: &Task, job: &mut Job, access: Access, block: u8, offset: u8)
+    ensures { job.new ≡ got_by (shared memory.now) (own task.now) job.old access block offset }
 {
     let place = places::slot(store_for(task, block), offset);
     inner(
         job,
         Inner::Again(access, memory.value(place), Reading::Load),
-    )
+    );
 }
 
 // Value n goes into the next copy store.
 #[tactic(auto, unfolding(crate::specs::Accesses::after_copy))]
-pub fn copy(memory: &mut Memory, task: &Task, job: Job, access: Access, n: u8) -> Job
-    ensures { went result (shared memory.new) ≡ after_copy (shared memory.old) (own task.now) job access n }
+pub fn copy(memory: &mut Memory, task: &Task, job: &mut Job, access: Access, n: u8)
+    ensures { went job.new (shared memory.new) ≡ after_copy (shared memory.old) (own task.now) job.old access n }
 {
     let from = places::slot(task.remembered(block(access)) % 256, n);
     let to = places::slot(task.copy(job.used as usize), n);
@@ -132,18 +129,18 @@ pub fn copy(memory: &mut Memory, task: &Task, job: Job, access: Access, n: u8) -
 }
 
 #[tactic(auto, unfolding(crate::specs::Accesses::after_put))]
-fn put(memory: &mut Memory, task: &Task, job: Job, block: u8, offset: u8, register: u8) -> Job
-    ensures { went result (shared memory.new) ≡ after_put (shared memory.old) (own task.now) job block offset register }
+fn put(memory: &mut Memory, task: &Task, job: &mut Job, block: u8, offset: u8, register: u8)
+    ensures { went job.new (shared memory.new) ≡ after_put (shared memory.old) (own task.now) job.old block offset register }
 {
     let place = places::slot(store_for(task, block), offset);
     memory.set_value(place, task.register(register));
-    goes_on(job)
+    goes_on(job);
 }
 
 // The command at work is a GET or a PUT.
 #[tactic(auto, unfolding(crate::specs::Accesses::access_tick))]
-pub fn access(memory: &mut Memory, task: &mut Task, job: Job, access: Access) -> Job
-    ensures { left result (shared memory.new) (own task.new) ≡ access_tick (shared memory.old) (own task.old) job access }
+pub fn access(memory: &mut Memory, task: &mut Task, job: &mut Job, access: Access)
+    ensures { left job.new (shared memory.new) (own task.new) ≡ access_tick (shared memory.old) (own task.old) job.old access }
 {
     let b = block(access);
     if !is_touched(task.touched(), b) {
@@ -168,19 +165,19 @@ pub fn access(memory: &mut Memory, task: &mut Task, job: Job, access: Access) ->
 
 // An attempt is lost and counted: registers as kept, nothing touched, next the command after BEGIN.
 #[tactic(auto, unfolding(crate::specs::Accesses::loses_attempt))]
-pub fn lose_attempt(task: &mut Task, job: Job) -> Job
-    ensures { noted result (own task.new) ≡ loses_attempt (own task.old) job }
+pub fn lose_attempt(task: &mut Task, job: &mut Job)
+    ensures { noted job.new (own task.new) ≡ loses_attempt (own task.old) job.old }
 {
     jobs::count(task, Counter::Lost);
     jobs::restore(task);
     clear(task);
-    Job::new(Phase::Transaction(Inner::Between), job.begin, 0)
+    *job = Job::new(Phase::Transaction(Inner::Between), job.begin, 0);
 }
 
 // The version read again is the remembered one.
 #[tactic(auto, unfolding(crate::specs::Accesses::checked_by))]
-fn check(task: &mut Task, job: Job, access: Access, value: u32) -> Job
-    ensures { noted result (own task.new) ≡ checked_by (own task.old) job access value }
+fn check(task: &mut Task, job: &mut Job, access: Access, value: u32)
+    ensures { noted job.new (own task.new) ≡ checked_by (own task.old) job.old access value }
 {
     match access {
         Access::Get { register, .. } => {
@@ -189,18 +186,15 @@ fn check(task: &mut Task, job: Job, access: Access, value: u32) -> Job
         }
         Access::Put { block, .. } => {
             task.set_slot(block, Some(job.used));
-            Job {
-                phase: Phase::Transaction(Inner::Between),
-                used: places::next(job.used),
-                ..job
-            }
+            inner(job, Inner::Between);
+            job.used = places::next(job.used);
         }
     }
 }
 
 #[tactic(auto, unfolding(crate::specs::Accesses::again_read))]
-pub fn again_read(task: &mut Task, job: Job, access: Access, value: u32, read: Read) -> Job
-    ensures { noted result (own task.new) ≡ again_read (own task.old) job access value read }
+pub fn again_read(task: &mut Task, job: &mut Job, access: Access, value: u32, read: Read)
+    ensures { noted job.new (own task.new) ≡ again_read (own task.old) job.old access value read }
 {
     match read {
         Read::Reads(step) => inner(job, Inner::Again(access, value, step)),

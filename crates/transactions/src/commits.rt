@@ -72,21 +72,20 @@ fn gather(task: &mut Task) -> Gathered
 }
 
 #[tactic(auto, unfolding(crate::specs::Commits::commit_by))]
-pub fn commit(task: &mut Task, job: Job) -> Job
-    ensures { noted result (own task.new) ≡ commit_by (own task.old) job }
+pub fn commit(task: &mut Task, job: &mut Job)
+    ensures { noted job.new (own task.new) ≡ commit_by (own task.old) job.old }
 {
     if task.touched() == 0 {
-        return job.done(0);
+        job.done(0);
+        return;
     }
     let gathered = gather(task);
     if gathered.spent {
         jobs::count(task, Counter::Spent);
-        return Job::new(Phase::Idle, job.at, 0);
-    }
-    Job {
-        phase: Phase::Transaction(Inner::Committing(Step::Start)),
-        pairs: gathered.passes,
-        ..job
+        *job = Job::new(Phase::Idle, job.at, 0);
+    } else {
+        accesses::inner(job, Inner::Committing(Step::Start));
+        job.pairs = gathered.passes;
     }
 }
 
@@ -110,8 +109,8 @@ fn take_back(task: &mut Task)
 }
 
 #[tactic(auto, unfolding(crate::specs::Commits::committed_by))]
-pub fn committed_by(task: &mut Task, job: Job, exchanged: Exchanged) -> Job
-    ensures { noted result (own task.new) ≡ committed_by (own task.old) job exchanged }
+pub fn committed_by(task: &mut Task, job: &mut Job, exchanged: Exchanged)
+    ensures { noted job.new (own task.new) ≡ committed_by (own task.old) job.old exchanged }
 {
     match exchanged {
         Exchanged::Goes(step) => accesses::inner(job, Inner::Committing(step)),

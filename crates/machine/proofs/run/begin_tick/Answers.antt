@@ -3,4 +3,4 @@ use Rattle.machine.proofs.Runs.{finished-tick}
 use Rattle.machine.proofs.run.begin_tick.Goals as goal
 
 pub returns : goal.returns
-returns c = finished-tick _ c.begin-after.ensures c.finish.ensures
+returns c = finished-tick _ c.begin.ensures c.finish.ensures

@@ -73,19 +73,19 @@ loop-busy-preserved c =
       later = λ h. omega (arith, g.invariant.onward);
       ends = λ u e. elim c.if-starting.branch [
         | then-starting w ↦
-            on u (stretch _ _ _ _ _ g.tasks l.jobs g.job _ l.waiting l.ready _ _ l.p l.next w.begin_tick-job.new.task
+            on u (stretch _ _ _ _ _ g.tasks l.jobs g.job _ l.waiting l.ready _ _ l.p l.next w.begin_tick.new.task
             c.until-until.result c.if-mask-eq0.false (sym c.if-highest-p.false ∙ c.top-highest.ensures.highest)
             (omega (arith, l.invariant.in_range, l.invariant.jobs_size)) refl (g.invariant.within c.loop-busy-test.true) l.invariant.pending
             (g.invariant.undue c.loop-busy-test.true) w.tasks-is
-            (came _ w.begin_tick-job.new.task w.job-is w.memory-is w.begin_tick-job.ensures
+            (came _ w.begin_tick.new.task w.job-is w.memory-is w.begin_tick.ensures
             (begin-statement _ _ _ _ g.job (sym c.starting.ensures ∙ w.if-starting.true) w.line-at.ensures.value refl))
             c.goes_on-busy.ensures u e)
         | else-starting w ↦
-            on u (stretch _ _ _ _ _ g.tasks l.jobs g.job _ l.waiting l.ready _ _ l.p l.next w.step_tick-job.new.task
+            on u (stretch _ _ _ _ _ g.tasks l.jobs g.job _ l.waiting l.ready _ _ l.p l.next w.step_tick.new.task
             c.until-until.result c.if-mask-eq0.false (sym c.if-highest-p.false ∙ c.top-highest.ensures.highest)
             (omega (arith, l.invariant.in_range, l.invariant.jobs_size)) refl (g.invariant.within c.loop-busy-test.true) l.invariant.pending
             (g.invariant.undue c.loop-busy-test.true) w.tasks-is
-            (came _ w.step_tick-job.new.task w.job-is w.memory-is w.step_tick-job.ensures
+            (came _ w.step_tick.new.task w.job-is w.memory-is w.step_tick.ensures
             (step-statement _ _ _ _ g.job (sym c.starting.ensures ∙ w.if-starting.false)))
             c.goes_on-busy.ensures u e)
       ];

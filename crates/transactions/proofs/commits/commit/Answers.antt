@@ -28,13 +28,14 @@ returns-then-gathered c = let t = own c.args.task.now in let g = c.gather-gather
   ap (λ (w : Noted ℕ). w.task) g.entries,
 )
 
-pub returns : goal.returns
+pub returns-else-gathered : goal.returns-else-gathered
 unfolding commit_by
-returns c = let a = c.args in let g = c.gather-gathered.ensures in rw (
+returns-else-gathered c = let a = c.args in let g = c.gather-gathered.ensures in rw (
   something_touched (own a.task.now).blocks (omega (arith, c.touched.ensures, c.if-touched-eq0.false)) (rw c.touched.ensures at c.touched.type_inv),
   ← g.spent,
   c.if-gathered.false,
+  c.inner.ensures,
 )
-    (let j = a.job in
+    (let j = a.job.now in
     ap (λ (w : Noted ℕ). noted (job (Transaction (Committing Start)) j.value j.at j.begin w.next j.used) w.task)
     g.entries)
