@@ -9,7 +9,7 @@ ghost use Rattle.exchanges.specs.Exchange.{after_clean, after_clean_mark, after_
 
 // Memory, task and p stay apart: the machine lends one task of its eight for a statement, and p is that task's number.
 use crate::{places, read};
-use state::{Memory, Task, Word};
+use state::{Memory, Status, Task, Word};
 
 #[derive(Clone, Copy)]
 pub enum Step {
@@ -47,7 +47,7 @@ pub enum Exchanged {
 pub fn start(memory: &mut Memory, p: u8) -> Step
     ensures { went result (shared memory.new) ≡ after_start (shared memory.old) p }
 {
-    memory.set_status(p as usize, 0);
+    memory.set_status(p as usize, Status::Started);
     Step::Test(0)
 }
 
@@ -55,7 +55,7 @@ pub fn start(memory: &mut Memory, p: u8) -> Step
 fn test(memory: &Memory, p: u8, k: u8, i: u8) -> Step
     ensures { result ≡ after_test (shared memory.now) p k i }
 {
-    if i == k || memory.status(p as usize) == 1 {
+    if i == k || memory.status(p as usize) == Status::Failed {
         Step::Commit(i)
     } else {
         Step::Load(i)
@@ -68,7 +68,7 @@ fn load(memory: &Memory, task: &mut Task, i: u8) -> Step
 {
     let cell = task.target(i) as usize;
     task.set_init(i, memory.cell(cell));
-    task.set_overlapped(i, 0);
+    task.set_overlapped(i, false);
     Step::Look(i)
 }
 
@@ -78,11 +78,11 @@ fn look(memory: &Memory, task: &mut Task, i: u8) -> Exchanged
 {
     let word = task.init(i);
     if read::own(memory, word) {
-        task.set_overlapped(i, 0);
+        task.set_overlapped(i, false);
         let value = state::value_of(word);
         Exchanged::Finds(Found { i, value })
     } else {
-        task.set_overlapped(i, 1);
+        task.set_overlapped(i, true);
         Exchanged::Goes(Step::Fetch(i))
     }
 }
@@ -103,7 +103,7 @@ fn save(memory: &mut Memory, task: &Task, p: u8, i: u8, value: u32) -> Step
     let old = task.old(i);
     if value != old {
         Step::Fail(i)
-    } else if task.overlapped(i) == 0 || old == task.new(i) {
+    } else if !task.overlapped(i) || old == task.new(i) {
         Step::Install(i)
     } else {
         Step::Mark(i)
@@ -114,16 +114,16 @@ fn save(memory: &mut Memory, task: &Task, p: u8, i: u8, value: u32) -> Step
 fn fail(memory: &mut Memory, p: u8, i: u8) -> Step
     ensures { went result (shared memory.new) ≡ after_fail (shared memory.old) p i }
 {
-    memory.set_status(p as usize, 1);
+    memory.set_status(p as usize, Status::Failed);
     Step::Test(i)
 }
 
-// The task of the word loaded for entry i gets status 1.
+// The task of the word loaded for entry i fails.
 #[tactic(auto, unfolding(crate::specs::Exchange::marked))]
 fn mark_task(memory: &mut Memory, task: &Task, i: u8)
     ensures { shared memory.new ≡ marked (shared memory.old) (own task.now) i }
 {
-    memory.set_status(state::task_of(task.init(i)) as usize, 1);
+    memory.set_status(state::task_of(task.init(i)) as usize, Status::Failed);
 }
 
 #[tactic(auto, unfolding(crate::specs::Exchange::after_mark))]
@@ -177,9 +177,9 @@ fn commit(memory: &mut Memory, p: u8, i: u8) -> Exchanged
     ensures { went result (shared memory.new) ≡ after_commit (shared memory.old) p i }
 {
     let task = p as usize;
-    let yes = memory.status(task) == 0;
+    let yes = memory.status(task) == Status::Started;
     if yes {
-        memory.set_status(task, 2);
+        memory.set_status(task, Status::Committed);
     }
     to_clean(i, yes)
 }
@@ -225,7 +225,7 @@ fn clean(memory: &mut Memory, task: &Task, p: u8, i: u8, j: u8, yes: bool) -> Ex
         };
         memory.set_cell(cell, word);
         to_next(i, j, yes)
-    } else if renewed || task.overlapped(j) == 0 {
+    } else if renewed || !task.overlapped(j) {
         to_next(i, j, yes)
     } else {
         Exchanged::Goes(Step::CleanMark(i, j, yes))

@@ -1,7 +1,9 @@
 -- What the two records of a run hold: what all tasks share, and one task's own record.
-use Rattle.std.specs.Prelude.{ℕ, List, [], replicate, map}
+use Rattle.std.specs.Prelude.{ℕ, suc, Bool, true, false, List, [], replicate, map, Option, Some, None}
 use Rattle.model.specs.Lists.{replace}
 use Rattle.state.specs.declared.memory.Memory.{Memory}
+use Rattle.state.specs.declared.memory.Status.{Status}
+use Rattle.state.specs.declared.memory.Status.TheVariants.{Started, Failed, Committed}
 use Rattle.state.specs.declared.task.Task.{Task}
 use Rattle.state.specs.declared.task.Entry.{Entry}
 use Rattle.state.specs.declared.task.Block.{Block}
@@ -13,8 +15,14 @@ pub record Shared : Type 0 where
   pub saves : List ℕ
   pub stores : List ℕ
 
+-- a status as the paper's number
+abbrev pub status_number : Status → ℕ
+status_number Started = 0
+status_number Failed = 1
+status_number Committed = 2
+
 unfoldable pub shared : Memory → Shared
-shared m = record { cells = m.cells; status = m.status; saves = m.saves; stores = m.stores }
+shared m = record { cells = m.cells; status = map status_number m.status; saves = m.saves; stores = m.stores }
 
 abbrev pub set_cell : Shared → ℕ → ℕ → Shared
 set_cell m i x = record { cells = replace m.cells i x; status = m.status; saves = m.saves; stores = m.stores }
@@ -53,6 +61,16 @@ pub record Own : Type 0 where
   pub blocks : Blocks
   pub counts : List ℕ
 
+-- a flag as a number
+abbrev pub flag : Bool → ℕ
+flag true = 1
+flag false = 0
+
+-- a copy slot as a number, 0 for none
+abbrev pub slot_number : Option ℕ → ℕ
+slot_number None = 0
+slot_number (Some k) = suc k
+
 -- by fields
 abbrev pub entries_of : List Entry → Entries
 entries_of l =
@@ -61,11 +79,11 @@ entries_of l =
       olds = map (λ (e : Entry). e.old) l;
       news = map (λ (e : Entry). e.new) l;
       inits = map (λ (e : Entry). e.init) l;
-      overlapped = map (λ (e : Entry). e.overlapped) l;
+      overlapped = map (λ (e : Entry). flag e.overlapped) l;
     }
 
 abbrev pub blocks_by : ℕ → List Block → Blocks
-blocks_by mask l = record { touched = mask; slots = map (λ (b : Block). b.slot) l; remembered = map (λ (b : Block). b.remembered) l }
+blocks_by mask l = record { touched = mask; slots = map (λ (b : Block). slot_number b.slot) l; remembered = map (λ (b : Block). b.remembered) l }
 
 unfoldable pub own : Task → Own
 own t =
@@ -181,10 +199,10 @@ own_zeros =
 
 -- past the end
 abbrev pub no_entry : Entry
-no_entry = record { target = 0; old = 0; new = 0; overlapped = 0; init = 0 }
+no_entry = record { target = 0; old = 0; new = 0; overlapped = false; init = 0 }
 
 abbrev pub no_block : Block
-no_block = record { slot = 0; remembered = 0 }
+no_block = record { slot = None; remembered = 0 }
 
 -- no record: nothing is in it
 abbrev pub no_task : Task

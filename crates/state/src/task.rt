@@ -1,9 +1,9 @@
 // One task's own record.
 ghost use Rattle.std.specs.Prelude.{◌≡◌, ◌∷◌, [], length};
 ghost use Rattle.model.specs.Lists.{at};
-ghost use Rattle.state.specs.State.{no_entry, no_block};
-ghost use Rattle.state.specs.State.{own, with_registers, with_kept, with_copies, own_zeros, set_register, set_kept, set_copy, set_target, set_old, set_new};
-ghost use Rattle.state.specs.State.{set_init, set_overlapped, set_slot, set_remembered, set_count, set_touched};
+ghost use Rattle.state.specs.State.{own, own_zeros, no_entry, no_block, flag, slot_number, with_registers, with_kept, with_copies};
+ghost use Rattle.state.specs.State.{set_register, set_kept, set_copy, set_target, set_old, set_new, set_init, set_overlapped};
+ghost use Rattle.state.specs.State.{set_slot, set_remembered, set_touched, set_count};
 
 // An entry of an exchange: its target cell, old and new value, the packed word loaded there, and whether that was overlapped.
 #[derive(Clone, Copy)]
@@ -11,7 +11,7 @@ struct Entry {
     target: u32,
     old: u32,
     new: u32,
-    overlapped: u32,
+    overlapped: bool,
     init: u64,
 }
 
@@ -20,21 +20,21 @@ impl Entry {
         target: 0,
         old: 0,
         new: 0,
-        overlapped: 0,
+        overlapped: false,
         init: 0,
     };
 }
 
-// A block of a transaction: its copy slot and the bank word remembered.
+// A block of a transaction: its copy slot, once copied, and the bank word remembered.
 #[derive(Clone, Copy)]
 struct Block {
-    slot: u32,
+    slot: Option<u8>,
     remembered: u32,
 }
 
 impl Block {
     const EMPTY: Block = Block {
-        slot: 0,
+        slot: None,
         remembered: 0,
     };
 }
@@ -200,14 +200,14 @@ impl Task {
         crate::store(&mut self.entries, i as usize, entry);
     }
 
-    pub fn overlapped(&self, i: u8) -> u32
-        ensures { result ≡ at 0 (own self.now).entries.overlapped i }
+    pub fn overlapped(&self, i: u8) -> bool
+        ensures { flag result ≡ at 0 (own self.now).entries.overlapped i }
     {
         self.entry(i).overlapped
     }
 
-    pub fn set_overlapped(&mut self, i: u8, v: u32)
-        ensures { own self.new ≡ set_overlapped (own self.old) i v }
+    pub fn set_overlapped(&mut self, i: u8, v: bool)
+        ensures { own self.new ≡ set_overlapped (own self.old) i (flag v) }
     {
         let entry = Entry {
             overlapped: v,
@@ -216,14 +216,14 @@ impl Task {
         crate::store(&mut self.entries, i as usize, entry);
     }
 
-    pub fn slot(&self, i: u8) -> u32
-        ensures { result ≡ at 0 (own self.now).blocks.slots i }
+    pub fn slot(&self, i: u8) -> Option<u8>
+        ensures { slot_number result ≡ at 0 (own self.now).blocks.slots i }
     {
         self.block(i).slot
     }
 
-    pub fn set_slot(&mut self, i: u8, v: u32)
-        ensures { own self.new ≡ set_slot (own self.old) i v }
+    pub fn set_slot(&mut self, i: u8, v: Option<u8>)
+        ensures { own self.new ≡ set_slot (own self.old) i (slot_number v) }
     {
         let block = Block {
             slot: v,

@@ -66,7 +66,7 @@ fn is_touched(mask: u16, b: u8) -> bool
 fn touch(task: &mut Task, b: u8, bank: u32)
     ensures { own task.new ≡ touching b bank (own task.old) }
 {
-    task.set_slot(b, 0);
+    task.set_slot(b, None);
     task.set_remembered(b, bank);
     task.set_touched(task.touched() | bit(b));
 }
@@ -95,11 +95,9 @@ pub fn first_read(task: &mut Task, job: &mut Job, access: Access, read: Read)
 fn store_for(task: &Task, block: u8) -> u32
     ensures { result ≡ store_for (own task.now) block }
 {
-    let slot = task.slot(block);
-    if slot == 0 {
-        task.remembered(block) % 256
-    } else {
-        task.copy((slot - 1) as usize)
+    match task.slot(block) {
+        None => task.remembered(block) % 256,
+        Some(k) => task.copy(k as usize),
     }
 }
 
@@ -156,7 +154,7 @@ pub fn access(memory: &mut Memory, task: &mut Task, job: &mut Job, access: Acces
             offset,
             register,
         } => {
-            if task.slot(block) == 0 {
+            if task.slot(block).is_none() {
                 copy(memory, task, job, access, 0)
             } else {
                 put(memory, task, job, block, offset, register)
@@ -187,7 +185,7 @@ fn check(task: &mut Task, job: &mut Job, access: Access, value: u32)
             goes_on(job)
         }
         Access::Put { block, .. } => {
-            task.set_slot(block, (job.used as u32) + 1);
+            task.set_slot(block, Some(job.used));
             inner(job, Inner::Between);
             job.used = places::next(job.used);
         }
