@@ -23,8 +23,11 @@ pub fn program(sheet: Accepted, bounds: &mut [usize; 9]) -> [BodyCommand; MAX_CO
     let mut at = 0;
     let mut tasks: usize = 0;
     let mut lines: usize = 0;
-    // Each command of an accepted sheet is found: the loop is left by a `return`.
-    while let Ok((command, next)) = commands::decode(sheet, at) {
+    loop {
+        // Each command of an accepted sheet is found: the else is never taken.
+        let Ok((command, next)) = commands::decode(sheet, at) else {
+            return program;
+        };
         at = next;
         match command {
             Command::Word(_) | Command::Block(_) => {}
@@ -42,5 +45,4 @@ pub fn program(sheet: Accepted, bounds: &mut [usize; 9]) -> [BodyCommand; MAX_CO
             }
         }
     }
-    program
 }

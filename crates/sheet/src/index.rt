@@ -81,11 +81,13 @@ impl Accepted<'_> {
         let sheet = self.bytes();
         let mut x = Sheet::empty();
         let mut at = 0;
-        while let Ok((c, next)) = commands::decode(sheet, at) {
+        loop {
+            let Ok((c, next)) = commands::decode(sheet, at) else {
+                return x;
+            };
             x.count(c, at, next);
             at = next;
         }
-        x
     }
 
     // The start value of a word.

@@ -22,7 +22,10 @@ pub fn first_fault(sheet: &[u8]) -> Result<(), Fault>
     let mut known = Known::nothing();
     loop {
         let at = reader.at;
-        let (c, next) = reader.next()?;
+        let answer = reader.next();
+        let Ok((c, next)) = answer else {
+            return answer.map(|_| ());
+        };
         if let Some(verdict) = judge(sheet, at, known, c, next) {
             return verdict;
         }

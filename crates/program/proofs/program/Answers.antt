@@ -48,5 +48,5 @@ pub loop-command-preserved : goal.loop-command-preserved
 loop-command-preserved c =
     one-command c.loop-command.invariant _ (found-is _ _ _ _ c.decode.ensures c.in-Ok.is c.in-Body.is)
 
-pub returns : goal.returns
-returns c = not-refused c.loop-command.invariant (refused-is _ _ _ _ c.decode.ensures c.in_default.is)
+pub returns-in_default : goal.returns-in_default
+returns-in_default c = not-refused c.loop-command.invariant (refused-is _ _ _ _ c.decode.ensures c.in_default.is)

@@ -29,5 +29,5 @@ loop-c-preserved c =
     let e = sym c.in-Ok.ensures in
     rw (c.count.ensures, ← counted-values vs c.loop-c.x c.in-Ok.c c.loop-c.at c.in-Ok.next) (is_found (here c.loop-c.invariant e) e).1
 
-pub returns : goal.returns
-returns c = rw c.bytes-sheet.ensures.same at (finished c.loop-c.invariant (sym c.in_default.ensures))
+pub returns-in_default : goal.returns-in_default
+returns-in_default c = rw c.bytes-sheet.ensures.same at (finished c.loop-c.invariant (sym c.in_default.ensures))
