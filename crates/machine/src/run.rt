@@ -19,7 +19,8 @@ const TASKS: usize = SheetCeilings::TASKS as usize;
 const COMMANDS: usize = SheetCeilings::COMMANDS as usize;
 
 // A run between two ticks: the jobs, the mask of unfinished ones, how many releases wait behind each, the task whose job has ended with one
-// waiting, the place of the next release and the ticks done. Two arrays, for a job goes in and out alone as tasks take turns.
+// waiting, the place of the next release and the ticks done. Jobs and waiting are two lists, as in the flat machine of specs/: a statement
+// changes a job alone.
 #[derive(Clone, Copy)]
 pub struct Paused {
     pub jobs: [Job; TASKS],

@@ -83,7 +83,8 @@ entries_of l =
     }
 
 abbrev pub blocks_by : ℕ → List Block → Blocks
-blocks_by mask l = record { touched = mask; slots = map (λ (b : Block). slot_number b.slot) l; remembered = map (λ (b : Block). b.remembered) l }
+blocks_by mask l =
+    record { touched = mask; slots = map (λ (b : Block). slot_number b.slot) l; remembered = map (λ (b : Block). b.remembered) l }
 
 unfoldable pub own : Task → Own
 own t =

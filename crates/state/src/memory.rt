@@ -22,6 +22,7 @@ pub struct Memory {
     stores: [u32; 384],
 }
 
+// One accessor for each field: what differs is the field that its clause names. `element` and `store` do it for all.
 #[tactic(auto, unfolding(crate::specs::State::shared))]
 impl Memory {
     // Every cell holds that word, all else is 0.

@@ -51,6 +51,7 @@ pub struct Task {
     touched: u16,
 }
 
+// One accessor for each field, as of Memory.
 #[tactic(auto, unfolding(crate::specs::State::own))]
 impl Task {
     // A task with those copy stores, and nothing else yet.
