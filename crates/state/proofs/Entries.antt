@@ -1,9 +1,9 @@
 -- One field of an entry or a block set: its list has the new value, and the lists of the other fields are as before.
-use Rattle.std.proofs.Common.{◌≡◌, ℕ, Bool, Option, List, map, refl, sym, ap, ◌∙◌}
+use Rattle.std.proofs.Common.{◌≡◌, ℕ, Bool, List, map, refl, sym, ap, ◌∙◌}
 use lib.Seq.{set-get_or}
 use Rattle.model.specs.Lists.{at, replace}
 use Rattle.model.proofs.Lists.{at_map, map-replace}
-use Rattle.state.specs.State.{flag, slot_number, entries_of, blocks_by, no_entry, no_block}
+use Rattle.state.specs.State.{flag, entries_of, blocks_by, no_entry, no_block}
 use Rattle.state.specs.declared.task.Entry.{Entry}
 use Rattle.state.specs.declared.task.Block.{Block}
 
@@ -38,11 +38,10 @@ module _ (l : List Entry) (i : ℕ) (v : Bool) where
 
 -- and a block
 module _ (mask : ℕ) (l : List Block) (i v : ℕ) where
-  pub remembered_set : {e : Block} {m : List Block} → e ≡ at no_block l i → m ≡ replace l i (record e { remembered = v })
-      → blocks_by mask m ≡ record { touched = mask; slots = map (λ (e : Block). slot_number e.slot) l; remembered = replace (map (λ (e : Block). e.remembered) l) i v }
-  remembered_set p q = rw (q, p) (rw (same (λ (e : Block). slot_number e.slot) no_block l i (record (at no_block l i) { remembered = v }) refl, map-replace (λ (e : Block). e.remembered) l i (record (at no_block l i) { remembered = v })))
-
-module _ (mask : ℕ) (l : List Block) (i : ℕ) (v : Option ℕ) where
   pub slot_set : {e : Block} {m : List Block} → e ≡ at no_block l i → m ≡ replace l i (record e { slot = v })
-      → blocks_by mask m ≡ record { touched = mask; slots = replace (map (λ (e : Block). slot_number e.slot) l) i (slot_number v); remembered = map (λ (e : Block). e.remembered) l }
-  slot_set p q = rw (q, p) (rw (map-replace (λ (e : Block). slot_number e.slot) l i (record (at no_block l i) { slot = v }), same (λ (e : Block). e.remembered) no_block l i (record (at no_block l i) { slot = v }) refl))
+      → blocks_by mask m ≡ record { touched = mask; slots = replace (map (λ (e : Block). e.slot) l) i v; remembered = map (λ (e : Block). e.remembered) l }
+  slot_set p q = rw (q, p) (rw (map-replace (λ (e : Block). e.slot) l i (record (at no_block l i) { slot = v }), same (λ (e : Block). e.remembered) no_block l i (record (at no_block l i) { slot = v }) refl))
+
+  pub remembered_set : {e : Block} {m : List Block} → e ≡ at no_block l i → m ≡ replace l i (record e { remembered = v })
+      → blocks_by mask m ≡ record { touched = mask; slots = map (λ (e : Block). e.slot) l; remembered = replace (map (λ (e : Block). e.remembered) l) i v }
+  remembered_set p q = rw (q, p) (rw (same (λ (e : Block). e.slot) no_block l i (record (at no_block l i) { remembered = v }) refl, map-replace (λ (e : Block). e.remembered) l i (record (at no_block l i) { remembered = v })))

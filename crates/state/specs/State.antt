@@ -1,5 +1,5 @@
 -- What the two records of a run hold: what all tasks share, and one task's own record.
-use Rattle.std.specs.Prelude.{ℕ, suc, Bool, true, false, List, [], replicate, map, Option, Some, None}
+use Rattle.std.specs.Prelude.{ℕ, Bool, true, false, List, [], replicate, map}
 use Rattle.model.specs.Lists.{replace}
 use Rattle.state.specs.declared.memory.Memory.{Memory}
 use Rattle.state.specs.declared.memory.Status.{Status}
@@ -66,11 +66,6 @@ abbrev pub flag : Bool → ℕ
 flag true = 1
 flag false = 0
 
--- a copy slot as a number, 0 for none
-abbrev pub slot_number : Option ℕ → ℕ
-slot_number None = 0
-slot_number (Some k) = suc k
-
 -- by fields
 abbrev pub entries_of : List Entry → Entries
 entries_of l =
@@ -83,8 +78,7 @@ entries_of l =
     }
 
 abbrev pub blocks_by : ℕ → List Block → Blocks
-blocks_by mask l =
-    record { touched = mask; slots = map (λ (b : Block). slot_number b.slot) l; remembered = map (λ (b : Block). b.remembered) l }
+blocks_by mask l = record { touched = mask; slots = map (λ (b : Block). b.slot) l; remembered = map (λ (b : Block). b.remembered) l }
 
 unfoldable pub own : Task → Own
 own t =
@@ -203,7 +197,7 @@ abbrev pub no_entry : Entry
 no_entry = record { target = 0; old = 0; new = 0; overlapped = false; init = 0 }
 
 abbrev pub no_block : Block
-no_block = record { slot = None; remembered = 0 }
+no_block = record { slot = 0; remembered = 0 }
 
 -- no record: nothing is in it
 abbrev pub no_task : Task

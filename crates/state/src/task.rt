@@ -1,7 +1,7 @@
 // One task's own record.
 ghost use Rattle.std.specs.Prelude.{◌≡◌, ◌∷◌, [], length};
 ghost use Rattle.model.specs.Lists.{at};
-ghost use Rattle.state.specs.State.{own, own_zeros, no_entry, no_block, flag, slot_number, with_registers, with_kept, with_copies};
+ghost use Rattle.state.specs.State.{own, own_zeros, no_entry, no_block, flag, with_registers, with_kept, with_copies};
 ghost use Rattle.state.specs.State.{set_register, set_kept, set_copy, set_target, set_old, set_new, set_init, set_overlapped};
 ghost use Rattle.state.specs.State.{set_slot, set_remembered, set_touched, set_count};
 
@@ -25,16 +25,16 @@ impl Entry {
     };
 }
 
-// A block of a transaction: its copy slot, once copied, and the bank word remembered.
+// A block of a transaction: its copy slot and the bank word remembered.
 #[derive(Clone, Copy)]
 struct Block {
-    slot: Option<u8>,
+    slot: u32,
     remembered: u32,
 }
 
 impl Block {
     const EMPTY: Block = Block {
-        slot: None,
+        slot: 0,
         remembered: 0,
     };
 }
@@ -217,14 +217,14 @@ impl Task {
         crate::store(&mut self.entries, i as usize, entry);
     }
 
-    pub fn slot(&self, i: u8) -> Option<u8>
-        ensures { slot_number result ≡ at 0 (own self.now).blocks.slots i }
+    pub fn slot(&self, i: u8) -> u32
+        ensures { result ≡ at 0 (own self.now).blocks.slots i }
     {
         self.block(i).slot
     }
 
-    pub fn set_slot(&mut self, i: u8, v: Option<u8>)
-        ensures { own self.new ≡ set_slot (own self.old) i (slot_number v) }
+    pub fn set_slot(&mut self, i: u8, v: u32)
+        ensures { own self.new ≡ set_slot (own self.old) i v }
     {
         let block = Block {
             slot: v,

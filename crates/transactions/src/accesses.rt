@@ -66,7 +66,7 @@ fn is_touched(mask: u16, b: u8) -> bool
 fn touch(task: &mut Task, b: u8, bank: u32)
     ensures { own task.new ≡ touching b bank (own task.old) }
 {
-    task.set_slot(b, None);
+    task.set_slot(b, 0);
     task.set_remembered(b, bank);
     task.set_touched(task.touched() | bit(b));
 }
@@ -95,9 +95,11 @@ pub fn first_read(task: &mut Task, job: &mut Job, access: Access, read: Read)
 fn store_for(task: &Task, block: u8) -> u32
     ensures { result ≡ store_for (own task.now) block }
 {
-    match task.slot(block) {
-        None => task.remembered(block) % 256,
-        Some(k) => task.copy(k as usize),
+    let slot = task.slot(block);
+    if slot == 0 {
+        task.remembered(block) % 256
+    } else {
+        task.copy((slot - 1) as usize)
     }
 }
 
@@ -154,7 +156,7 @@ pub fn access(memory: &mut Memory, task: &mut Task, job: &mut Job, access: Acces
             offset,
             register,
         } => {
-            if task.slot(block).is_none() {
+            if task.slot(block) == 0 {
                 copy(memory, task, job, access, 0)
             } else {
                 put(memory, task, job, block, offset, register)
@@ -185,7 +187,7 @@ fn check(task: &mut Task, job: &mut Job, access: Access, value: u32)
             goes_on(job)
         }
         Access::Put { block, .. } => {
-            task.set_slot(block, Some(job.used));
+            task.set_slot(block, (job.used as u32) + 1);
             inner(job, Inner::Between);
             job.used = places::next(job.used);
         }

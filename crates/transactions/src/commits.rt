@@ -1,6 +1,6 @@
 // COMMIT: the touched bank words gathered, spent, and what its exchange's answer leaves: old stores taken back, or a lost attempt.
 ghost use Rattle.std.specs.Prelude.{◌≡◌};
-ghost use Rattle.state.specs.State.{own, slot_number};
+ghost use Rattle.state.specs.State.{own};
 ghost use Rattle.exchanges.specs.Places.{noted};
 ghost use Rattle.transactions.specs.Blocks.{is_spent, spent_at, new_bank, entering, taking_one, taking_back};
 ghost use Rattle.transactions.specs.Commits.{Gathers, commit_by, committed_by};
@@ -13,22 +13,21 @@ use jobs::{Counter, Inner, Job, Phase};
 use state::Task;
 
 // A PUT block at the last version.
-fn is_spent(slot: Option<u8>, bank: u32) -> bool
-    ensures { result ≡ is_spent (slot_number slot) bank }
+fn is_spent(slot: u32, bank: u32) -> bool
+    ensures { result ≡ is_spent slot bank }
 {
-    slot.is_some() && bank / 256 == SheetCeilings::LAST_VERSION
+    slot != 0 && bank / 256 == SheetCeilings::LAST_VERSION
 }
 
 // What the bank word of a touched block becomes: itself where only read, new store and version + 1 where PUT.
-fn new_bank(task: &Task, slot: Option<u8>, bank: u32) -> u32
-    ensures { result ≡ new_bank (own task.now) (slot_number slot) bank }
+fn new_bank(task: &Task, slot: u32, bank: u32) -> u32
+    ensures { result ≡ new_bank (own task.now) slot bank }
 {
-    match slot {
-        None => bank,
-        Some(k) => {
-            let store = task.copy(k as usize);
-            (bank / 256 * 256).wrapping_add(256).wrapping_add(store)
-        }
+    if slot == 0 {
+        bank
+    } else {
+        let store = task.copy((slot - 1) as usize);
+        (bank / 256 * 256).wrapping_add(256).wrapping_add(store)
     }
 }
 
@@ -94,8 +93,9 @@ pub fn commit(task: &mut Task, job: &mut Job)
 fn take_one(task: &mut Task, b: u8)
     ensures { own task.new ≡ taking_one b (own task.old) }
 {
-    if let Some(k) = task.slot(b) {
-        task.set_copy(k as usize, task.remembered(b) % 256);
+    let slot = task.slot(b);
+    if slot != 0 {
+        task.set_copy((slot - 1) as usize, task.remembered(b) % 256);
     }
 }
 
