@@ -4,7 +4,7 @@ ghost use Rattle.state.specs.State.{shared};
 ghost use Rattle.exchanges.specs.Reading.{owned, saved_for, current_in, after_look, after_reading};
 
 use crate::places;
-use state::{Memory, Status};
+use state::Memory;
 
 #[derive(Clone, Copy)]
 pub enum Reading {
@@ -20,12 +20,12 @@ pub enum Read {
     Gives(u32),
 }
 
-// The word's own value counts: it is valid, or its task's exchange has committed.
+// The word's own value counts: it is valid, or its task's status is 2.
 #[tactic(auto, unfolding(crate::specs::Reading::owned))]
 pub fn own(memory: &Memory, word: u64) -> bool
     ensures { result ≡ owned (shared memory.now) word }
 {
-    state::valid_of(word) || memory.status(state::task_of(word) as usize) == Status::Committed
+    state::valid_of(word) || memory.status(state::task_of(word) as usize) == 2
 }
 
 // The save place of a word's task and count.

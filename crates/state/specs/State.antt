@@ -2,8 +2,6 @@
 use Rattle.std.specs.Prelude.{ℕ, Bool, true, false, List, [], replicate, map}
 use Rattle.model.specs.Lists.{replace}
 use Rattle.state.specs.declared.memory.Memory.{Memory}
-use Rattle.state.specs.declared.memory.Status.{Status}
-use Rattle.state.specs.declared.memory.Status.TheVariants.{Started, Failed, Committed}
 use Rattle.state.specs.declared.task.Task.{Task}
 use Rattle.state.specs.declared.task.Entry.{Entry}
 use Rattle.state.specs.declared.task.Block.{Block}
@@ -15,14 +13,8 @@ pub record Shared : Type 0 where
   pub saves : List ℕ
   pub stores : List ℕ
 
--- a status as the paper's number
-abbrev pub status_number : Status → ℕ
-status_number Started = 0
-status_number Failed = 1
-status_number Committed = 2
-
 unfoldable pub shared : Memory → Shared
-shared m = record { cells = m.cells; status = map status_number m.status; saves = m.saves; stores = m.stores }
+shared m = record { cells = m.cells; status = m.status; saves = m.saves; stores = m.stores }
 
 abbrev pub set_cell : Shared → ℕ → ℕ → Shared
 set_cell m i x = record { cells = replace m.cells i x; status = m.status; saves = m.saves; stores = m.stores }

@@ -9,7 +9,7 @@ ghost use Rattle.state.specs.Packed.{fresh, packed, value_of, count_of, valid_of
 mod memory;
 mod task;
 
-pub use memory::{Memory, Status};
+pub use memory::Memory;
 pub use task::Task;
 
 #[derive(Clone, Copy)]

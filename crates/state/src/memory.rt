@@ -1,23 +1,15 @@
 // What all tasks share: 48 cells of a packed word each, 8 status, 64 save places, 48 stores of eight values.
 ghost use Rattle.std.specs.Prelude.{◌≡◌, length};
 ghost use Rattle.model.specs.Lists.{at};
-ghost use Rattle.state.specs.State.{shared, status_number, filled_with, set_cell, set_status, set_save, set_value};
+ghost use Rattle.state.specs.State.{shared, filled_with, set_cell, set_status, set_save, set_value};
 ghost use Rattle.state.specs.Sized.{SharedSized};
 
 const CELLS: usize = 48;
 
-// How far a task's exchange is, by the step that sets it.
-#[derive(Clone, Copy, PartialEq, Eq)]
-pub enum Status {
-    Started = 0,
-    Failed = 1,
-    Committed = 2,
-}
-
 #[derive(Drop)]
 pub struct Memory {
     cells: [u64; CELLS],
-    status: [Status; 8],
+    status: [u32; 8],
     saves: [u32; 64],
     stores: [u32; 384],
 }
@@ -31,7 +23,7 @@ impl Memory {
     {
         Memory {
             cells: [word; CELLS],
-            status: [Status::Started; 8],
+            status: [0; 8],
             saves: [0; 64],
             stores: [0; 384],
         }
@@ -42,7 +34,7 @@ impl Memory {
         ensures { SharedSized (shared self.now) }
     {
         let _cells: &[u64] = &self.cells;
-        let _status: &[Status] = &self.status;
+        let _status: &[u32] = &self.status;
         let _saves: &[u32] = &self.saves;
         let _stores: &[u32] = &self.stores;
     }
@@ -59,14 +51,14 @@ impl Memory {
         crate::store(&mut self.cells, i, v);
     }
 
-    pub fn status(&self, i: usize) -> Status
-        ensures { status_number result ≡ at 0 (shared self.now).status i }
+    pub fn status(&self, i: usize) -> u32
+        ensures { result ≡ at 0 (shared self.now).status i }
     {
-        crate::element(&self.status, i, Status::Started)
+        crate::element(&self.status, i, 0)
     }
 
-    pub fn set_status(&mut self, i: usize, v: Status)
-        ensures { shared self.new ≡ set_status (shared self.old) i (status_number v) }
+    pub fn set_status(&mut self, i: usize, v: u32)
+        ensures { shared self.new ≡ set_status (shared self.old) i v }
     {
         crate::store(&mut self.status, i, v);
     }
