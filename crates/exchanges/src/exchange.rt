@@ -68,7 +68,7 @@ fn load(memory: &Memory, task: &mut Task, i: u8) -> Step
 {
     let cell = task.target(i) as usize;
     task.set_init(i, memory.cell(cell));
-    task.set_overlapped(i, false);
+    task.set_overlapped(i, 0);
     Step::Look(i)
 }
 
@@ -78,11 +78,11 @@ fn look(memory: &Memory, task: &mut Task, i: u8) -> Exchanged
 {
     let word = task.init(i);
     if read::own(memory, word) {
-        task.set_overlapped(i, false);
+        task.set_overlapped(i, 0);
         let value = state::value_of(word);
         Exchanged::Finds(Found { i, value })
     } else {
-        task.set_overlapped(i, true);
+        task.set_overlapped(i, 1);
         Exchanged::Goes(Step::Fetch(i))
     }
 }
@@ -103,7 +103,7 @@ fn save(memory: &mut Memory, task: &Task, p: u8, i: u8, value: u32) -> Step
     let old = task.old(i);
     if value != old {
         Step::Fail(i)
-    } else if !task.overlapped(i) || old == task.new(i) {
+    } else if task.overlapped(i) == 0 || old == task.new(i) {
         Step::Install(i)
     } else {
         Step::Mark(i)
@@ -225,7 +225,7 @@ fn clean(memory: &mut Memory, task: &Task, p: u8, i: u8, j: u8, yes: bool) -> Ex
         };
         memory.set_cell(cell, word);
         to_next(i, j, yes)
-    } else if renewed || !task.overlapped(j) {
+    } else if renewed || task.overlapped(j) == 0 {
         to_next(i, j, yes)
     } else {
         Exchanged::Goes(Step::CleanMark(i, j, yes))

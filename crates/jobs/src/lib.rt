@@ -135,7 +135,7 @@ pub fn enter(task: &mut Task, n: u8, target: u32, old: u32, new: u32)
     task.set_old(n, old);
     task.set_new(n, new);
     task.set_init(n, Word::fresh(0).pack());
-    task.set_overlapped(n, false);
+    task.set_overlapped(n, 0);
 }
 
 #[tactic(auto, unfolding(crate::specs::Jobs::read_by))]

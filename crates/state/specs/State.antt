@@ -1,5 +1,5 @@
 -- What the two records of a run hold: what all tasks share, and one task's own record.
-use Rattle.std.specs.Prelude.{ℕ, Bool, true, false, List, [], replicate, map}
+use Rattle.std.specs.Prelude.{ℕ, List, [], replicate, map}
 use Rattle.model.specs.Lists.{replace}
 use Rattle.state.specs.declared.memory.Memory.{Memory}
 use Rattle.state.specs.declared.task.Task.{Task}
@@ -53,11 +53,6 @@ pub record Own : Type 0 where
   pub blocks : Blocks
   pub counts : List ℕ
 
--- a flag as a number
-abbrev pub flag : Bool → ℕ
-flag true = 1
-flag false = 0
-
 -- by fields
 abbrev pub entries_of : List Entry → Entries
 entries_of l =
@@ -66,7 +61,7 @@ entries_of l =
       olds = map (λ (e : Entry). e.old) l;
       news = map (λ (e : Entry). e.new) l;
       inits = map (λ (e : Entry). e.init) l;
-      overlapped = map (λ (e : Entry). flag e.overlapped) l;
+      overlapped = map (λ (e : Entry). e.overlapped) l;
     }
 
 abbrev pub blocks_by : ℕ → List Block → Blocks
@@ -186,7 +181,7 @@ own_zeros =
 
 -- past the end
 abbrev pub no_entry : Entry
-no_entry = record { target = 0; old = 0; new = 0; overlapped = false; init = 0 }
+no_entry = record { target = 0; old = 0; new = 0; overlapped = 0; init = 0 }
 
 abbrev pub no_block : Block
 no_block = record { slot = 0; remembered = 0 }

@@ -1,9 +1,9 @@
 // One task's own record.
 ghost use Rattle.std.specs.Prelude.{◌≡◌, ◌∷◌, [], length};
 ghost use Rattle.model.specs.Lists.{at};
-ghost use Rattle.state.specs.State.{own, own_zeros, no_entry, no_block, flag, with_registers, with_kept, with_copies};
-ghost use Rattle.state.specs.State.{set_register, set_kept, set_copy, set_target, set_old, set_new, set_init, set_overlapped};
-ghost use Rattle.state.specs.State.{set_slot, set_remembered, set_touched, set_count};
+ghost use Rattle.state.specs.State.{no_entry, no_block};
+ghost use Rattle.state.specs.State.{own, with_registers, with_kept, with_copies, own_zeros, set_register, set_kept, set_copy, set_target, set_old, set_new};
+ghost use Rattle.state.specs.State.{set_init, set_overlapped, set_slot, set_remembered, set_count, set_touched};
 
 // An entry of an exchange: its target cell, old and new value, the packed word loaded there, and whether that was overlapped.
 #[derive(Clone, Copy)]
@@ -11,7 +11,7 @@ struct Entry {
     target: u32,
     old: u32,
     new: u32,
-    overlapped: bool,
+    overlapped: u32,
     init: u64,
 }
 
@@ -20,7 +20,7 @@ impl Entry {
         target: 0,
         old: 0,
         new: 0,
-        overlapped: false,
+        overlapped: 0,
         init: 0,
     };
 }
@@ -201,14 +201,14 @@ impl Task {
         crate::store(&mut self.entries, i as usize, entry);
     }
 
-    pub fn overlapped(&self, i: u8) -> bool
-        ensures { flag result ≡ at 0 (own self.now).entries.overlapped i }
+    pub fn overlapped(&self, i: u8) -> u32
+        ensures { result ≡ at 0 (own self.now).entries.overlapped i }
     {
         self.entry(i).overlapped
     }
 
-    pub fn set_overlapped(&mut self, i: u8, v: bool)
-        ensures { own self.new ≡ set_overlapped (own self.old) i (flag v) }
+    pub fn set_overlapped(&mut self, i: u8, v: u32)
+        ensures { own self.new ≡ set_overlapped (own self.old) i v }
     {
         let entry = Entry {
             overlapped: v,
