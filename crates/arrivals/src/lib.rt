@@ -31,7 +31,7 @@ pub fn drop_by(task: &mut Task, waiting: u8, phase: Phase)
 {
     let full = TaskCeilings::WAITING <= waiting;
     if full && unfinished(phase) {
-        jobs::count(task, Counter::Dropped);
+        jobs::count(task, Counter::Dropped as u8);
     }
 }
 

@@ -37,7 +37,9 @@ fn pending_by(command: Command, after: usize) -> Option<Pending>
 pub fn pending_at(sheet: &[u8], place: usize) -> Option<Pending>
     ensures { result ≡ pending_at (command_at sheet.now place) }
 {
-    let (command, after) = commands::decode(sheet, place).ok()?;
+    let Ok((command, after)) = commands::decode(sheet, place) else {
+        return None;
+    };
     pending_by(command, after)
 }
 

@@ -222,7 +222,11 @@ fn command_of(s: &[u8], p: usize, b: u8) -> Command
 pub fn decode(s: &[u8], at: usize) -> Result<(Command, usize), Fault>
     ensures { view_decoded (values_from s.now (suc at)) result ≡ command_at s.now at }
 {
-    let e = entry_at(s, at)?;
+    let entry = entry_at(s, at);
+    let Ok(e) = entry else {
+        // The fault passes on.
+        return entry.map(|_| (Command::End, at));
+    };
     let next = at + 1 + e.width as usize;
     Ok((command_of(s, at + 1, e.byte), next))
 }

@@ -9,7 +9,7 @@ ghost use Rattle.exchanges.specs.Exchange.{after_clean, after_clean_mark, after_
 
 // Memory, task and p stay apart: the machine lends one task of its eight for a statement, and p is that task's number.
 use crate::{places, read};
-use state::{Memory, Task, Word};
+use state::{Memory, Status, Task, Word};
 
 #[derive(Clone, Copy)]
 pub enum Step {
@@ -47,7 +47,7 @@ pub enum Exchanged {
 pub fn start(memory: &mut Memory, p: u8) -> Step
     ensures { went result (shared memory.new) ≡ after_start (shared memory.old) p }
 {
-    memory.set_status(p as usize, 0);
+    memory.set_status(p as usize, Status::Started as u32);
     Step::Test(0)
 }
 
@@ -55,7 +55,7 @@ pub fn start(memory: &mut Memory, p: u8) -> Step
 fn test(memory: &Memory, p: u8, k: u8, i: u8) -> Step
     ensures { result ≡ after_test (shared memory.now) p k i }
 {
-    if i == k || memory.status(p as usize) == 1 {
+    if i == k || memory.status(p as usize) == Status::Failed as u32 {
         Step::Commit(i)
     } else {
         Step::Load(i)
@@ -114,7 +114,7 @@ fn save(memory: &mut Memory, task: &Task, p: u8, i: u8, value: u32) -> Step
 fn fail(memory: &mut Memory, p: u8, i: u8) -> Step
     ensures { went result (shared memory.new) ≡ after_fail (shared memory.old) p i }
 {
-    memory.set_status(p as usize, 1);
+    memory.set_status(p as usize, Status::Failed as u32);
     Step::Test(i)
 }
 
@@ -123,7 +123,7 @@ fn fail(memory: &mut Memory, p: u8, i: u8) -> Step
 fn mark_task(memory: &mut Memory, task: &Task, i: u8)
     ensures { shared memory.new ≡ marked (shared memory.old) (own task.now) i }
 {
-    memory.set_status(state::task_of(task.init(i)) as usize, 1);
+    memory.set_status(state::task_of(task.init(i)) as usize, Status::Failed as u32);
 }
 
 #[tactic(auto, unfolding(crate::specs::Exchange::after_mark))]
@@ -177,9 +177,9 @@ fn commit(memory: &mut Memory, p: u8, i: u8) -> Exchanged
     ensures { went result (shared memory.new) ≡ after_commit (shared memory.old) p i }
 {
     let task = p as usize;
-    let yes = memory.status(task) == 0;
+    let yes = memory.status(task) == Status::Started as u32;
     if yes {
-        memory.set_status(task, 2);
+        memory.set_status(task, Status::Committed as u32);
     }
     to_clean(i, yes)
 }

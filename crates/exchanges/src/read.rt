@@ -4,7 +4,7 @@ ghost use Rattle.state.specs.State.{shared};
 ghost use Rattle.exchanges.specs.Reading.{owned, saved_for, current_in, after_look, after_reading};
 
 use crate::places;
-use state::Memory;
+use state::{Memory, Status};
 
 #[derive(Clone, Copy)]
 pub enum Reading {
@@ -25,7 +25,8 @@ pub enum Read {
 pub fn own(memory: &Memory, word: u64) -> bool
     ensures { result ≡ owned (shared memory.now) word }
 {
-    state::valid_of(word) || memory.status(state::task_of(word) as usize) == 2
+    state::valid_of(word)
+        || memory.status(state::task_of(word) as usize) == Status::Committed as u32
 }
 
 // The save place of a word's task and count.

@@ -13,8 +13,6 @@ use Rattle.exchanges.specs.declared.exchange.Step.TheVariants.{Save}
 use Rattle.jobs.specs.declared.Phase.{Phase}
 use Rattle.jobs.specs.declared.Phase.TheVariants as P
 use Rattle.jobs.specs.declared.Job.{Job}
-use Rattle.jobs.specs.declared.Counter.{Counter}
-use Rattle.jobs.specs.declared.Counter.TheVariants as C
 
 abbrev pub job : Phase → ℕ → ℕ → ℕ → ℕ → ℕ → Job
 job f v a b k u = record { phase = f; value = v; at = a; begin = b; pairs = k; used = u }
@@ -47,13 +45,6 @@ ticks = 3
 
 abbrev pub dropped : ℕ
 dropped = 4
-
-abbrev pub place_of : Counter → ℕ
-place_of C.Finished = finished
-place_of C.Spent = spent
-place_of C.Lost = lost
-place_of C.Ticks = ticks
-place_of C.Dropped = dropped
 
 -- a count rises by one
 unfoldable pub counted : Own → ℕ → Own

@@ -4,7 +4,7 @@
 ghost use Rattle.std.specs.Prelude.{◌≡◌};
 ghost use Rattle.state.specs.State.{own};
 ghost use Rattle.exchanges.specs.Places.{noted};
-ghost use Rattle.jobs.specs.Jobs.{job_at, in_phase, with_value, next_line, place_of, counted, added, keeping, restoring, entered};
+ghost use Rattle.jobs.specs.Jobs.{job_at, in_phase, with_value, next_line, counted, added, keeping, restoring, entered};
 ghost use Rattle.jobs.specs.Jobs.{after_done, read_by, swap_by};
 
 use commands::Access;
@@ -98,10 +98,9 @@ pub enum Counter {
 }
 
 #[tactic(auto, unfolding(crate::specs::Jobs::counted))]
-pub fn count(task: &mut Task, counter: Counter)
-    ensures { own task.new ≡ counted (own task.old) (place_of counter) }
+pub fn count(task: &mut Task, n: u8)
+    ensures { own task.new ≡ counted (own task.old) n }
 {
-    let n = counter as u8;
     task.set_count(n, task.count(n).wrapping_add(1));
 }
 

@@ -37,14 +37,7 @@ impl Paused {
         ensures { result ≡ paused_at place }
     {
         Paused {
-            jobs: [Job {
-                phase: Phase::Idle,
-                value: 0,
-                at: 0,
-                begin: 0,
-                pairs: 0,
-                used: 0,
-            }; TASKS],
+            jobs: [Job::new(Phase::Idle, 0, 0); TASKS],
             mask: 0,
             waiting: [0; TASKS],
             ready: None,
@@ -88,7 +81,7 @@ fn close(task: &mut Task, job: &mut Job, end: usize)
     ensures { noted job.new (own task.new) ≡ closed end (own task.old) job.old }
 {
     if begin::is_plain(job.phase) && job.at == end {
-        jobs::count(task, Counter::Finished);
+        jobs::count(task, Counter::Finished as u8);
         job.in_phase(Phase::Idle);
     }
 }
@@ -98,7 +91,7 @@ fn finish(task: &mut Task, job: &mut Job, end: usize)
     ensures { noted job.new (own task.new) ≡ finished end (own task.old) job.old }
 {
     close(task, job, end);
-    jobs::count(task, Counter::Ticks);
+    jobs::count(task, Counter::Ticks as u8);
 }
 
 // A tick that takes up a command, and one inside a command.

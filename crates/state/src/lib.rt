@@ -9,7 +9,7 @@ ghost use Rattle.state.specs.Packed.{fresh, packed, value_of, count_of, valid_of
 mod memory;
 mod task;
 
-pub use memory::Memory;
+pub use memory::{Memory, Status};
 pub use task::Task;
 
 #[derive(Clone, Copy)]
@@ -26,7 +26,7 @@ impl Word {
         ensures { result ≡ fresh value }
     {
         Word {
-            value: value,
+            value,
             count: 0,
             valid: true,
             task: 0,

@@ -6,7 +6,15 @@ ghost use Rattle.state.specs.Sized.{SharedSized};
 
 const CELLS: usize = 48;
 
-#[derive(Drop)]
+// A task's status by document 01's steps that set it. Memory has its number, for `run` and `step` are promised for every memory.
+#[derive(Clone, Copy)]
+pub enum Status {
+    Started = 0,
+    Failed = 1,
+    Committed = 2,
+}
+
+#[derive(Clone, Copy)]
 pub struct Memory {
     cells: [u64; CELLS],
     status: [u32; 8],

@@ -1,11 +1,12 @@
 // One task's own record.
 ghost use Rattle.std.specs.Prelude.{◌≡◌, ◌∷◌, [], length};
 ghost use Rattle.model.specs.Lists.{at};
-ghost use Rattle.state.specs.State.{no_entry, no_block};
-ghost use Rattle.state.specs.State.{own, with_registers, with_kept, with_copies, own_zeros, set_register, set_kept, set_copy, set_target, set_old, set_new};
-ghost use Rattle.state.specs.State.{set_init, set_overlapped, set_slot, set_remembered, set_count, set_touched};
+ghost use Rattle.state.specs.State.{own, own_zeros, no_entry, no_block, with_registers, with_kept, with_copies};
+ghost use Rattle.state.specs.State.{set_register, set_kept, set_copy, set_target, set_old, set_new, set_init, set_overlapped};
+ghost use Rattle.state.specs.State.{set_slot, set_remembered, set_touched, set_count};
 
-// An entry of an exchange: its target cell, old and new value, the packed word loaded there, and whether that was overlapped.
+// An entry of an exchange: its target cell, old and new value, the packed word loaded there, and whether that was overlapped. That mark
+// and a block's slot stay numbers, no bool and no Option: `run` and `step` are promised for every record.
 #[derive(Clone, Copy)]
 struct Entry {
     target: u32,

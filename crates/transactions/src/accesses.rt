@@ -28,8 +28,7 @@ pub fn block(access: Access) -> u8
     ensures { result ≡ named_block access }
 {
     match access {
-        Access::Get { block, .. } => block,
-        Access::Put { block, .. } => block,
+        Access::Get { block, .. } | Access::Put { block, .. } => block,
     }
 }
 
@@ -170,7 +169,7 @@ pub fn access(memory: &mut Memory, task: &mut Task, job: &mut Job, access: Acces
 pub fn lose_attempt(task: &mut Task, job: &mut Job)
     ensures { noted job.new (own task.new) ≡ loses_attempt (own task.old) job.old }
 {
-    jobs::count(task, Counter::Lost);
+    jobs::count(task, Counter::Lost as u8);
     jobs::restore(task);
     clear(task);
     *job = Job::new(Phase::Transaction(Inner::Between), job.begin, 0);

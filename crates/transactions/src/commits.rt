@@ -37,7 +37,7 @@ fn gather_one(task: &mut Task, b: u8, n: u8) -> bool
 {
     let slot = task.slot(b);
     let bank = task.remembered(b);
-    let new = new_bank(&*task, slot, bank);
+    let new = new_bank(task, slot, bank);
     jobs::enter(
         task,
         n,
@@ -80,7 +80,7 @@ pub fn commit(task: &mut Task, job: &mut Job)
     }
     let gathered = gather(task);
     if gathered.spent {
-        jobs::count(task, Counter::Spent);
+        jobs::count(task, Counter::Spent as u8);
         *job = Job::new(Phase::Idle, job.at, 0);
     } else {
         accesses::inner(job, Inner::Committing(Step::Start));
