@@ -21,7 +21,7 @@ pub fn check(sheet: &[u8]) -> Result<(), Fault>
     sheet_check::check(sheet)
 }
 
-// The run of an accepted sheet; answers the report's length. All that a run keeps stands on the stack: 2,184 bytes that all tasks share,
+// The run of an accepted sheet; answers the report's length. All that a run keeps stands on the stack: 2,208 bytes that all tasks share,
 // 3,520 for the tasks' records, 4,096 for the program, some 600 for the index and the jobs.
 fn run_accepted(sheet: Accepted, limit: u32, buffer: &mut [u8]) -> usize
     ensures { Ran sheet.entry.bytes.now limit buffer.old buffer.new result }
