@@ -19,7 +19,7 @@ const TASKS: usize = SheetCeilings::TASKS as usize;
 const COMMANDS: usize = SheetCeilings::COMMANDS as usize;
 
 // A run between two ticks: the jobs, the mask of unfinished ones, how many releases wait behind each, the task whose job has ended with one
-// waiting, the place of the next release and the ticks done. Two arrays, for a job goes in and out alone as tasks take turns.
+// waiting, the place of the next release and the ticks done. Two arrays: a statement changes a job, only a release what waits behind it.
 #[derive(Clone, Copy)]
 pub struct Paused {
     pub jobs: [Job; TASKS],
@@ -153,7 +153,8 @@ fn ready_by(ready: Option<u8>, p: u8, waiting: u8, phase: Phase) -> Option<u8>
 }
 
 // The run of a program whose bodies lie within those bounds, on from where it was paused. The sheet is read for its releases.
-// Seven parameters: what four crates make, and a struct of them would be made for this one call.
+// Seven parameters: what four crates make, and a struct of them would be made for this one call. The program goes by value: lent, the
+// compiler copies it once more on its way here (docs/decisions/speed.md).
 pub fn run(
     sheet: &[u8],
     program: [BodyCommand; COMMANDS],
