@@ -196,14 +196,7 @@ pub fn run(
             continue;
         }
         if releases::stops(release, mask) {
-            return Paused {
-                jobs,
-                mask,
-                waiting,
-                ready,
-                place,
-                ticks: tick,
-            };
+            break;
         }
         // Nobody has work: the ticks before the next release are idle.
         if mask == 0 {
