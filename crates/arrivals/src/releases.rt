@@ -4,6 +4,7 @@ ghost use Rattle.model.specs.Command.{command_at};
 ghost use Rattle.arrivals.specs.Releases.{pending_by, pending_at, coming_by, stops_by, until_of, idled_by};
 
 use commands::Command;
+use commands::ceilings::SheetCeilings;
 
 // The next release, decoded once: its tick and task, and the place after it.
 #[derive(Clone, Copy)]

@@ -127,7 +127,8 @@ pub fn value<const N: usize>(s: &[u8], at: usize) -> u32
     v
 }
 
-// The eight values of a BLOCK whose operands start at p. Written out: `array::from_fn` would be no plainer, and its proof longer.
+// The eight values of a BLOCK whose operands start at p. Written out: a closure
+// would hide the eight places in `p + 4 * i + 4`.
 pub fn values(s: &[u8], p: usize) -> [u32; SheetCeilings::BLOCK_VALUES]
     requires { p ≤ length s.now }
     ensures { result ≡ values_from s.now p }

@@ -149,7 +149,8 @@ fn ready_by(ready: Option<u8>, p: u8, waiting: u8, phase: Phase) -> Option<u8>
 }
 
 // The run of a program whose bodies lie within those bounds, on from where it was paused. The sheet is read for its releases.
-// Seven parameters: what four crates make, and a struct of them would be made for this one call.
+// Seven parameters: what four crates make, and a struct of them would be made for this one call. The program goes by value: lent, the
+// compiler copies it once more on its way here (docs/decisions/speed.md).
 pub fn run(
     sheet: &[u8],
     program: [BodyCommand; COMMANDS],
@@ -191,14 +192,7 @@ pub fn run(
             continue;
         }
         if releases::stops(release, mask) {
-            return Paused {
-                jobs,
-                mask,
-                waiting,
-                ready,
-                place,
-                ticks: tick,
-            };
+            break;
         }
         // Nobody has work: the ticks before the next release are idle.
         if mask == 0 {

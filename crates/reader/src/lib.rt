@@ -7,7 +7,7 @@ ghost use Rattle.reader.specs.Handed.{HandsOut, after, moved};
 
 use commands::{Command, Fault};
 
-// No `Iterator`: it never ends by itself, but hands out the same fault again for ever.
+// Document 01's form, a slice and an offset. No `Iterator`: it never ends by itself, but hands out the same fault again for ever.
 #[derive(Clone, Copy)]
 pub struct Reader<'a> {
     pub sheet: &'a [u8],

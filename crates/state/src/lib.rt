@@ -46,7 +46,7 @@ impl Word {
     }
 }
 
-// A packed word is a plain number, as a cell holds it and `==` compares it; so its fields are read by functions.
+// A packed word is a plain number and no type of its own: cells, entries and the exchange's tests would wrap and unwrap it at each use.
 pub fn value_of(word: u64) -> u32
     ensures { result ≡ value_of word }
 {

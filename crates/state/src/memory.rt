@@ -1,4 +1,5 @@
-// What all tasks share: 48 cells of a packed word each, 8 status, 64 save places, 48 stores of eight values.
+// What all tasks share: 48 cells of a packed word each, 8 status, 64 save places, 48 stores of eight values, the last two flat, as `Shared`
+// has them.
 ghost use Rattle.std.specs.Prelude.{◌≡◌, length};
 ghost use Rattle.model.specs.Lists.{at};
 ghost use Rattle.state.specs.State.{shared, filled_with, set_cell, set_status, set_save, set_value};

@@ -144,23 +144,24 @@ pub fn access(memory: &mut Memory, task: &mut Task, job: &mut Job, access: Acces
     ensures { left job.new (shared memory.new) (own task.new) ≡ access_tick (shared memory.old) (own task.old) job.old access }
 {
     let b = block(access);
-    if !is_touched(task.touched(), b) {
-        let read = read::read_tick(memory, bank(b), Reading::Load);
-        return first_read(task, job, access, read);
-    }
-    match access {
-        Access::Get { block, offset, .. } => get(memory, task, job, access, block, offset),
-        Access::Put {
-            block,
-            offset,
-            register,
-        } => {
-            if task.slot(block) == 0 {
-                copy(memory, task, job, access, 0)
-            } else {
-                put(memory, task, job, block, offset, register)
+    if is_touched(task.touched(), b) {
+        match access {
+            Access::Get { block, offset, .. } => get(memory, task, job, access, block, offset),
+            Access::Put {
+                block,
+                offset,
+                register,
+            } => {
+                if task.slot(block) == 0 {
+                    copy(memory, task, job, access, 0);
+                } else {
+                    put(memory, task, job, block, offset, register);
+                }
             }
         }
+    } else {
+        let read = read::read_tick(memory, bank(b), Reading::Load);
+        first_read(task, job, access, read);
     }
 }
 

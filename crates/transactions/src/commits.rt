@@ -48,7 +48,7 @@ fn gather_one(task: &mut Task, b: u8, n: u8) -> bool
     is_spent(slot, bank)
 }
 
-// How many passes gathered the entries, one each; whether a PUT block is at the last version.
+// How many passes gathered the entries, one each; whether a PUT block is at the last version. `Gathers` has both by name.
 #[derive(Clone, Copy)]
 pub struct Gathered {
     pub passes: u8,

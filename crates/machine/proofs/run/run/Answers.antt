@@ -91,5 +91,5 @@ loop-busy-preserved c =
       ];
     }
 
-pub returns-clause-ends : goal.returns-clause-ends
-returns-clause-ends c = let l = c.loop-tick in l.invariant.ends _ (limited c.loop-tick-test.false)
+pub returns-after-loop-tick-clause-ends : goal.returns-after-loop-tick-clause-ends
+returns-after-loop-tick-clause-ends c = let l = c.loop-tick in l.invariant.ends _ (limited c.loop-tick-test.false)
