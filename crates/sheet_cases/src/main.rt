@@ -3,15 +3,9 @@
 // Answers sheets from standard input, one a line: its bytes in hexadecimal with single spaces between them. A line that starts with
 // '#' is a title and is copied. A sheet's answer is a line with number and place. After '%' each shorter start of the sheet is
 // answered, from no byte on.
-ghost use Rattle.std.specs.Prelude.{◌<◌};
+ghost use Rattle.std.specs.Prelude.{◌≤◌, ◌<◌, length};
 
-use std::alloc::{AllocError, Global};
-use std::io::{self, Read, Write};
-
-// The most bytes of input, and of a sheet.
-const INPUT: u64 = 65536;
-
-const SHEET: usize = 8192;
+use std::io::{self, Write};
 
 // `to_digit` would take small letters too; here they count as 0.
 fn digit(c: u8) -> u8
@@ -32,9 +26,19 @@ fn byte(digits: &[u8]) -> u8 {
     }
 }
 
-// The bytes of a line: two digits and a space each.
-fn parse(alloc: Global, line: &[u8]) -> Result<Vec<u8>, AllocError> {
-    line.chunks(3).take(SHEET).map(byte).collect(alloc)
+// The bytes of a line, two digits and a space each, as many as there is room for; answers how many.
+fn parse(line: &[u8], bytes: &mut [u8]) -> usize
+    ensures { result ≤ length bytes.new }
+{
+    let mut n = 0;
+    for digits in line.chunks(3) {
+        if n == bytes.len() {
+            break;
+        }
+        bytes[n] = byte(digits);
+        n += 1;
+    }
+    n
 }
 
 // Number and place of a sheet's answer, in a line.
@@ -54,20 +58,27 @@ fn answer_starts(rt: &HostRuntime, sheet: &[u8]) -> io::Result<()> {
 }
 
 fn answer_line(rt: &HostRuntime, line: &[u8]) -> io::Result<()> {
+    let mut bytes = [0u8; 8192];
     match line {
         [b'#', ..] => {
             rt.stdout().write_all(line)?;
             rt.stdout().write_all(b"\n")
         }
-        [b'%', starts @ ..] => answer_starts(rt, &parse(rt.alloc(), starts)?),
-        _ => answer(rt, &parse(rt.alloc(), line)?),
+        [b'%', starts @ ..] => {
+            let n = parse(starts, &mut bytes);
+            answer_starts(rt, &bytes[..n])
+        }
+        _ => {
+            let n = parse(line, &mut bytes);
+            answer(rt, &bytes[..n])
+        }
     }
 }
 
 fn main(rt: HostRuntime) -> io::Result<()> {
-    let mut text = Vec::new(rt.alloc());
-    rt.stdin().take(INPUT).read_to_end(&mut text)?;
-    for line in text.split_inclusive(|b| *b == b'\n') {
+    let mut text = [0u8; 65536];
+    let n = input::read_full(&rt, &mut text)?;
+    for line in text[..n].split_inclusive(|b| *b == b'\n') {
         answer_line(&rt, line.strip_suffix(b"\n").unwrap_or(line))?;
     }
     Ok(())

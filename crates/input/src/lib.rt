@@ -1,0 +1,22 @@
+#![tactic(auto)]
+
+// Standard input, read into a buffer of fixed size: what the programs `bench` and `sheet_cases` share.
+ghost use Rattle.std.specs.Prelude.{◌≤◌, IfOk, length};
+
+use std::io::{self, Read};
+
+// Fills the buffer as far as the input goes; answers how much of it.
+pub fn read_full(rt: &HostRuntime, buffer: &mut [u8]) -> io::Result<usize>
+    ensures { IfOk result (λ n. n ≤ length buffer.new) }
+{
+    let mut input = rt.stdin();
+    let mut filled = 0;
+    for _ in 0..buffer.len() {
+        let more = input.read(&mut buffer[filled..])?;
+        if more == 0 {
+            break;
+        }
+        filled += more;
+    }
+    Ok(filled)
+}
