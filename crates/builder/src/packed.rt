@@ -13,6 +13,7 @@ pub const ROWS: usize = 8;
 
 pub const ROW: usize = 8;
 
+// No TryFrom, as any byte is some section: there is no error to give.
 fn section_of(row: [u8; ROW]) -> Section
     ensures { view_section result ≡ section_of (get_or row 0 0) }
 {

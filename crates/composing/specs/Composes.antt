@@ -5,13 +5,8 @@ use Rattle.model.specs.Command.{Command}
 use Rattle.model.specs.Builder as M
 use Rattle.commands.specs.View.{view_refusal}
 use Rattle.commands.specs.declared.Fault.{Fault}
-use Rattle.commands.specs.declared.Refusal.{Refusal}
 use Rattle.composing.specs.View.{view_state}
 use Rattle.composing.specs.declared.BuilderState.{BuilderState}
-
--- a refusal lies at the filled length
-abbrev pub refused_at : BuilderState → Refusal → Fault
-refused_at s f = record { refusal = f; place = s.filled }
 
 -- The model's answer that a call's outcome at a state stands for, with the buffer after it: the place of a command that is taken is
 -- the length that is then filled, and a refusal leaves the state.
@@ -21,3 +16,7 @@ answered s (Err f) after = record { number = R.number (view_refusal f.refusal); 
 
 abbrev pub Composes : M.BuilderState → List ℕ → Command → Result BuilderState Fault → List ℕ → Type 0
 Composes s before c r after = answered s r after ≡ M.compose s before c
+
+-- a refusal, whatever the buffer
+abbrev pub Declined : R.Refusal → M.BuilderState → Fault → Type 0
+Declined f s r = (b : List ℕ) → answered s (Err r) b ≡ M.declined f s b

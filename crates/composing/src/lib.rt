@@ -2,10 +2,10 @@
 
 // The sheet builder: a command is judged as the reader judges it, and its bytes are written behind the filled part of a lent buffer.
 ghost use Rattle.std.specs.Prelude.{◌≡◌, ◌+◌, ltb};
-ghost use Rattle.commands.specs.View.{view_command};
+ghost use Rattle.commands.specs.View.{view_command, view_refusal};
 ghost use Rattle.model.specs.Builder as builder;
 ghost use Rattle.composing.specs.View.{view_state};
-ghost use Rattle.composing.specs.Composes.{Composes, refused_at};
+ghost use Rattle.composing.specs.Composes.{Composes, Declined};
 
 use commands::ceilings::SheetCeilings;
 use commands::{Command, Fault, Refusal};
@@ -34,7 +34,7 @@ impl BuilderState {
 
     // A refusal lies at the filled length.
     pub fn refused(self, refusal: Refusal) -> Fault
-        ensures { result ≡ refused_at self refusal }
+        ensures { Declined (view_refusal refusal) (view_state self) result }
     {
         Fault {
             refusal,

@@ -9,12 +9,12 @@ use engine::exports;
 pub extern "C" fn hizgrael_check(sheet: &[u8], place: &mut u64) -> u8
     ensures { ChecksFor sheet.now result place.new }
 {
-    exports::hizgrael_check(sheet, &mut *place)
+    exports::hizgrael_check(sheet, place)
 }
 
 #[unsafe(no_mangle)]
 pub extern "C" fn hizgrael_run(sheet: &[u8], limit: u64, report: &mut [u8], place: &mut u64) -> u8
     ensures { RunsFor sheet.now limit report.old report.new result place.new }
 {
-    exports::hizgrael_run(sheet, limit, &mut *report, &mut *place)
+    exports::hizgrael_run(sheet, limit, report, place)
 }

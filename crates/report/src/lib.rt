@@ -32,6 +32,7 @@ const VALUES: usize = SheetCeilings::BLOCK_VALUES;
 const SHOWN: usize = 5;
 
 // How many words, blocks and tasks the sheet declares, and the ticks done.
+// Not start's Counts, which hold the sheet: report does not know start.
 #[derive(Clone, Copy)]
 pub struct Totals {
     pub words: usize,

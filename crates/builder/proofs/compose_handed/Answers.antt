@@ -1,4 +1,5 @@
 -- `compose_handed` meets its contract.
+use Rattle.std.proofs.Common.{◌∙◌}
 use Rattle.composing.specs.View.{view_state}
 use Rattle.builder.proofs.Answer.{when-named, unnamed_end, when-unnamed}
 use Rattle.builder.proofs.compose_handed.Goals as goal
@@ -10,8 +11,8 @@ returns-in-Some c =
 
 pub returns-then-state : goal.returns-then-state
 returns-then-state c =
-    let a = c.args in rw c.refused.ensures (unnamed_end (view_state a.state) a.buffer.now c.in_default.ensures c.if-state.true)
+    let a = c.args in c.refused.ensures a.buffer.now ∙ unnamed_end (view_state a.state) a.buffer.now c.in_default.ensures c.if-state.true
 
 pub returns : goal.returns
 returns c =
-    let a = c.args in rw c.refused-2.ensures (when-unnamed (view_state a.state) a.buffer.now c.in_default.ensures c.if-state.false)
+    let a = c.args in c.refused-2.ensures a.buffer.now ∙ when-unnamed (view_state a.state) a.buffer.now c.in_default.ensures c.if-state.false

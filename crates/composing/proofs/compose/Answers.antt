@@ -7,20 +7,21 @@ use Rattle.composing.proofs.compose.Goals as goal
 
 pub returns-then-state : goal.returns-then-state
 returns-then-state c =
-    let a = c.args in rw c.refused.ensures (at-end (view_state a.state) a.buffer.now (view_command a.values a.c) c.if-state.true)
+    let a = c.args in
+    c.refused.ensures a.buffer.now ∙ at-end (view_state a.state) a.buffer.now (view_command a.values a.c) c.if-state.true
 
 pub returns-in-Some : goal.returns-in-Some
 returns-in-Some c =
     let a = c.args in
-    rw c.refused-in-Some.ensures
-    (at-fault (view_state a.state) a.buffer.now a.values a.c c.if-state.false (view_refusal c.in-Some.refusal) c.in-Some.ensures)
+    c.refused-in-Some.ensures a.buffer.now
+    ∙ at-fault (view_state a.state) a.buffer.now a.values a.c c.if-state.false (view_refusal c.in-Some.refusal) c.in-Some.ensures
 
 pub returns-then-is_full : goal.returns-then-is_full
 returns-then-is_full c =
     let a = c.args in
     let full = rw c.size-size.ensures at (sym c.if-is_full.true ∙ c.is_full.ensures) in
-    rw c.refused-then-is_full.ensures
-    (when-full (view_state a.state) a.buffer.now a.values a.c c.if-state.false c.in_default.ensures full)
+    c.refused-then-is_full.ensures a.buffer.now
+    ∙ when-full (view_state a.state) a.buffer.now a.values a.c c.if-state.false c.in_default.ensures full
 
 pub after-requires : goal.after-requires
 after-requires c = good_under _ _ c.in_default.ensures
