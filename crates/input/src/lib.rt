@@ -1,6 +1,6 @@
 #![tactic(auto)]
 
-// Standard input, read into a buffer of fixed size: what the programs `bench` and `sheet_cases` share.
+// Standard input, read into a fixed buffer of the caller: so the programs that use it need no heap, and assume nothing about one.
 ghost use Rattle.std.specs.Prelude.{◌≤◌, IfOk, length};
 
 use std::io::{self, Read};
