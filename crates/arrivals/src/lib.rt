@@ -11,7 +11,8 @@ use state::Task;
 
 pub mod releases;
 
-// The bit of a task in the mask of unfinished jobs. No type for a task's number: `run` alone makes one, by `%` and by `top`.
+// The bit of a task in the mask of unfinished jobs. No type for a task's number: each
+// place that makes one shows that it is below 8.
 pub fn bit(i: usize) -> u32
     requires { i < 8 }
     ensures { result ≡ 2 ^ i }

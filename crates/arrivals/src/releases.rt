@@ -22,6 +22,7 @@ pub enum Coming {
     Due(u8, usize),
 }
 
+// The release and the place after it, as `coming_at` reads them.
 fn pending_by(command: Command, after: usize) -> Option<Pending>
     ensures { result ≡ pending_by command after }
 {

@@ -23,7 +23,7 @@ pub fn values(o: &[u32; OPERANDS]) -> [u32; SheetCeilings::BLOCK_VALUES]
     [o[1], o[2], o[3], o[4], o[5], o[6], o[7], o[8]]
 }
 
-// The command of a byte, if it names one.
+// The command of a byte, if it names one: a match over the byte, as document 01 has it.
 #[tactic(auto, unfolding(model::specs::Builder::handed, model::specs::Command::row_by, model::specs::Command::row_of, model::specs::Command::table))]
 pub fn command(b: u8, o: &[u32; OPERANDS]) -> Option<Command>
     ensures { view_handed (values_of o.now) result ≡ handed b o.now }

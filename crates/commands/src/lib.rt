@@ -107,7 +107,7 @@ impl fmt::Display for Fault {
     }
 }
 
-// The byte at a place, 0 past the end.
+// The byte at a place, 0 past the end: as state's `element`, but neither crate stands on the other.
 pub fn byte(s: &[u8], at: usize) -> u8
     ensures { result ≡ get_or s.now at 0 }
 {
@@ -127,8 +127,7 @@ pub fn value<const N: usize>(s: &[u8], at: usize) -> u32
     v
 }
 
-// The eight values of a BLOCK whose operands start at p. Written out: a closure
-// would hide the eight places in `p + 4 * i + 4`.
+// The eight values of a BLOCK whose operands start at p. Written out: a closure would hide the eight places in `p + 4 * i + 4`.
 pub fn values(s: &[u8], p: usize) -> [u32; SheetCeilings::BLOCK_VALUES]
     requires { p ≤ length s.now }
     ensures { result ≡ values_from s.now p }
@@ -170,7 +169,7 @@ fn entry_at(s: &[u8], at: usize) -> Result<Entry, Fault>
     Ok(e)
 }
 
-// The command of a byte, its operands starting at p; END where the byte names none.
+// The command of a byte, its operands starting at p; END where the byte names none. A match over the byte, as document 01 has it.
 fn command_of(s: &[u8], p: usize, b: u8) -> Command
     requires { p ≤ length s.now }
     ensures { view_command (values_from s.now p) result ≡ command_of s.now p b }

@@ -71,7 +71,7 @@ pub const TABLE: [Entry; 14] = [
 // Where the entries of body commands start.
 const FIRST_BODY_ENTRY: usize = 5;
 
-// The first of these entries that has the byte.
+// The first of these entries that has the byte: a `for`, as its definition goes, where an iterator's `find` would be as long.
 fn find(b: u8, entries: &[Entry]) -> Option<Entry>
     ensures { result ≡ entry_in b entries.now }
 {

@@ -173,7 +173,7 @@ fn operands(buffer: &mut [u8], c: Command, values: &[u32])
     }
 }
 
-// The bytes of a command, where the buffer has room for them.
+// The bytes of a command, where the buffer has room for them. Here the buffer and a place come together once: the rest is lent on.
 pub fn write(buffer: &mut [u8], at: usize, c: Command, values: [u32; SheetCeilings::BLOCK_VALUES])
     requires { at + length (encode (view_command values c)) ≤ length buffer.old }
     ensures { buffer.new ≡ overwrite buffer.old at (encode (view_command values c)) }

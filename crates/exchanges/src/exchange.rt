@@ -110,6 +110,7 @@ fn save(memory: &mut Memory, task: &Task, p: u8, i: u8, value: u32) -> Step
     }
 }
 
+// As start but for status and step: each is its own rule of document 01.
 #[tactic(auto, unfolding(crate::specs::Exchange::after_fail))]
 fn fail(memory: &mut Memory, p: u8, i: u8) -> Step
     ensures { went result (shared memory.new) ≡ after_fail (shared memory.old) p i }
@@ -240,6 +241,7 @@ fn clean_mark(memory: &mut Memory, task: &Task, i: u8, j: u8, yes: bool) -> Exch
     to_next(i, j, yes)
 }
 
+// A match: a step is kept from tick to tick in fixed memory, where no closure can be.
 // One statement of the exchange of k words by task p; the value is what was found last.
 #[tactic(auto, unfolding(crate::specs::Exchange::after_exchange))]
 pub fn exchange_tick(

@@ -97,6 +97,7 @@ pub enum Counter {
     Dropped,
 }
 
+// By number, as docs/decisions/building.md names it, promised for any; Counter has the names.
 #[tactic(auto, unfolding(crate::specs::Jobs::counted))]
 pub fn count(task: &mut Task, n: u8)
     ensures { own task.new ≡ counted (own task.old) n }

@@ -54,7 +54,7 @@ fn starting(phase: Phase) -> bool
     matches!(phase, Phase::Plain | Phase::Transaction(Inner::Between))
 }
 
-// The highest task of a mask, 0 if there is none.
+// The highest task of a mask, 0 if there is none: by leading zeros, as document 01 has it.
 fn top(mask: u32) -> u8
     ensures highest { result ≡ top_of 8 mask }
     ensures in_range { result < 8 }
@@ -94,7 +94,7 @@ fn finish(task: &mut Task, job: &mut Job, end: usize)
     jobs::count(task, Counter::Ticks as u8);
 }
 
-// A tick that takes up a command, and one inside a command.
+// A tick that takes up a command, and one inside a command, which is handed none.
 fn begin_tick(
     memory: &mut Memory,
     task: &mut Task,
@@ -175,6 +175,7 @@ pub fn run(
     let mut place = from.place;
     let mut next = releases::pending_at(sheet, place);
     let mut tick = from.ticks;
+    // No `for`: idle ticks pass in one go.
     while tick < limit {
         let release = releases::coming_at(next, tick, ready, place);
         if let Coming::Due(task, after) = release {
@@ -205,6 +206,7 @@ pub fn run(
         let until = releases::until(next, limit);
         let end = bounds[i + 1];
         let mut busy = true;
+        // No `for`: the end of the job decides how many.
         while busy {
             if starting(jobs[i].phase) {
                 let command = program[line(jobs[i].at)];

@@ -23,6 +23,7 @@ pub fn program(sheet: Accepted, bounds: &mut [usize; 9]) -> [BodyCommand; MAX_CO
     let mut at = 0;
     let mut tasks: usize = 0;
     let mut lines: usize = 0;
+    // No `for`: a command says where the next one stands, and counts as a task or as a line. Both arrays are fixed memory.
     loop {
         // Each command of an accepted sheet is found: the else is never taken.
         let Ok((command, next)) = commands::decode(sheet, at) else {

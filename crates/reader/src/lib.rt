@@ -14,7 +14,7 @@ pub struct Reader<'a> {
     pub at: usize,
 }
 
-// The place after what was found at a place: a fault moves nothing.
+// The place after what was found at a place: a fault moves nothing. A match, for each arm has a must-fail edit.
 pub fn place_after(at: usize, d: Result<(Command, usize), Fault>) -> usize
     ensures { result ≡ after at (view_decoded [] d) }
 {

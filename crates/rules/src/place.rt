@@ -47,6 +47,7 @@ impl Known {
     fn bodies_over(self) -> bool
         ensures { result ≡ rule.bodies_over (view_known self) }
     {
+        // A match: one arm asks the open body.
         match self.section {
             Section::Releases => true,
             Section::Bodies => self.body.may_end(),

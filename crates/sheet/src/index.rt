@@ -10,6 +10,7 @@ use crate::checked::Accepted;
 use commands::Command;
 use commands::ceilings::SheetCeilings;
 
+// Fixed memory: of the eight places of bodies the first `tasks` are set.
 #[derive(Clone, Copy)]
 pub struct Sheet {
     pub words: u8,
@@ -81,6 +82,7 @@ impl Accepted<'_> {
         let sheet = self.bytes();
         let mut x = Sheet::empty();
         let mut at = 0;
+        // No `for`: a command says where the next one stands. `let .. else` is document 01's form.
         loop {
             let Ok((c, next)) = commands::decode(sheet, at) else {
                 return x;
@@ -98,7 +100,7 @@ impl Accepted<'_> {
         commands::value::<4>(self.bytes(), WORD_BYTES * i + 1)
     }
 
-    // The version of a block, and its eight values; `words` is the number of words before the blocks.
+    // The version of a block, and its eight values; `words` is the number of words before the blocks, which alone these need of the index.
     pub fn version(self, words: usize, i: usize) -> u32
         requires { IsBlock self.bytes.now words i }
         ensures { result ≡ (get_or (sheet_of self.entry.bytes.now).blocks i no_block).version }

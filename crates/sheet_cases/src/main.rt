@@ -30,6 +30,7 @@ fn byte(digits: &[u8]) -> u8 {
 fn parse(line: &[u8], bytes: &mut [u8]) -> usize
     ensures { result ≤ length bytes.new }
 {
+    // Counts what it fills, which is the answer.
     let mut n = 0;
     for digits in line.chunks(3) {
         if n == bytes.len() {

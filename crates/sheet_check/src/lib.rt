@@ -20,10 +20,12 @@ pub fn first_fault(sheet: &[u8]) -> Result<(), Fault>
 {
     let mut reader = Reader::over(sheet);
     let mut known = Known::nothing();
+    // No `for`: a command says where the next one stands.
     loop {
         let at = reader.at;
         let answer = reader.next();
         let Ok((c, next)) = answer else {
+            // The fault passes on.
             return answer.map(|_| ());
         };
         if let Some(verdict) = judge(sheet, at, known, c, next) {

@@ -40,7 +40,8 @@ impl Block {
     };
 }
 
-// 8 registers, 8 that BEGIN kept, 4 copy stores; the entries and the blocks; 8 counts; the mask of touched blocks.
+// 8 registers, 8 that BEGIN kept, 4 copy stores; the entries and the blocks; 8 counts; the mask of touched blocks. Registers, kept and
+// counts are three things, no rows of one.
 #[derive(Clone, Copy)]
 pub struct Task {
     registers: [u32; 8],
@@ -52,7 +53,7 @@ pub struct Task {
     touched: u16,
 }
 
-// One accessor for each field, as of Memory.
+// One accessor for each field, as of Memory; a setter of an entry or a block stores what was read there with one field new.
 #[tactic(auto, unfolding(crate::specs::State::own))]
 impl Task {
     // A task with those copy stores, and nothing else yet.
@@ -100,6 +101,7 @@ impl Task {
         crate::store(&mut self.kept, i as usize, v);
     }
 
+    // keep and restore are each other's reverse.
     pub fn keep(&mut self)
         ensures kept { own self.new ≡ with_kept (own self.old) (own self.old).registers }
         ensures sized { (length (own self.old).kept ≡ 8) × (length (own self.old).registers ≡ 8) }
@@ -126,6 +128,7 @@ impl Task {
         crate::store(&mut self.copies, i, v);
     }
 
+    // entry and block differ in the type, which `element` takes.
     fn entry(&self, i: u8) -> Entry
         ensures { result ≡ at no_entry self.now.entries i }
     {

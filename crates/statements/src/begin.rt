@@ -39,7 +39,7 @@ fn outside(memory: &mut Memory, task: &mut Task, p: u8, job: &mut Job, command: 
     }
 }
 
-// Outside a transaction; the sheet check lets none of inside stand there.
+// Outside a transaction; the sheet check lets none of inside stand there. LOAD and ADD stand here and in `between`: what follows differs.
 #[tactic(auto, unfolding(crate::specs::Statements::plain_tick))]
 fn plain_command(memory: &mut Memory, task: &mut Task, p: u8, job: &mut Job, command: BodyCommand)
     ensures { left job.new (shared memory.new) (own task.new) ≡ plain_tick (shared memory.old) (own task.old) p job.old command }

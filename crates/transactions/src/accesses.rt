@@ -48,7 +48,7 @@ pub fn goes_on(job: &mut Job)
     job.pairs = 0;
 }
 
-// Block b's bit in the mask of touched blocks.
+// Block b's bit in the mask of touched blocks, and whether it is set: one shift each, as the definitions of the mask have them.
 fn bit(b: u8) -> u16
     ensures { result ≡ 2 ^ (b % 16) }
 {
@@ -201,6 +201,7 @@ pub fn again_read(task: &mut Task, job: &mut Job, access: Access, value: u32, re
     match read {
         Read::Reads(step) => inner(job, Inner::Again(access, value, step)),
         Read::Gives(bank) => {
+            // A version is all but the lowest byte.
             if bank / 256 == task.remembered(block(access)) / 256 {
                 check(task, job, access, value)
             } else {

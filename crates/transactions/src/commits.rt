@@ -60,6 +60,7 @@ fn gather(task: &mut Task) -> Gathered
     ensures { Gathers (own task.old) result (own task.new) }
 {
     let mask = task.touched();
+    // The number of the next entry, at the end of all.
     let mut passes: u8 = 0;
     let mut spent = false;
     for b in Bits(mask as u32) {
