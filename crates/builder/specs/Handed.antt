@@ -1,4 +1,4 @@
--- A command handed over by its byte and its operands: BLOCK's values among them.
+-- A command handed over by its byte and its operands: BLOCK's values among them, and END for no command.
 use Rattle.std.specs.Prelude.{ℕ, ◌≡◌, List, [], ◌∷◌, get_or, Option, Some, None, Result}
 use Rattle.std.proofs.Math.Option.{none, some}
 use Rattle.std.proofs.Math.Option as O
@@ -12,6 +12,10 @@ use Rattle.composing.specs.declared.BuilderState.{BuilderState}
 
 abbrev pub values_of : List ℕ → List ℕ
 values_of o = get_or o 1 0 ∷ get_or o 2 0 ∷ get_or o 3 0 ∷ get_or o 4 0 ∷ get_or o 5 0 ∷ get_or o 6 0 ∷ get_or o 7 0 ∷ get_or o 8 0 ∷ []
+
+abbrev pub command_or : O.Option C.Command → C.Command
+command_or none = C.END
+command_or (some c) = c
 
 -- the command that a byte names, with the values that lie beside a BLOCK
 abbrev pub view_handed : List ℕ → Option Command → O.Option C.Command

@@ -1,7 +1,8 @@
 // A command handed over by its byte and nine operands, as a C caller has them.
 ghost use Rattle.std.specs.Prelude.{◌≡◌, min};
+ghost use Rattle.commands.specs.View.{view_command};
 ghost use Rattle.model.specs.Builder.{handed};
-ghost use Rattle.builder.specs.Handed.{values_of, view_handed};
+ghost use Rattle.builder.specs.Handed.{values_of, command_or, view_handed};
 
 use commands::ceilings::SheetCeilings;
 use commands::{Access, BodyCommand, Command, Inside, Outside, Release};
@@ -23,9 +24,16 @@ pub fn values(o: &[u32; OPERANDS]) -> [u32; SheetCeilings::BLOCK_VALUES]
     [o[1], o[2], o[3], o[4], o[5], o[6], o[7], o[8]]
 }
 
+// The command of a byte; END where the byte names none.
+pub fn command(b: u8, o: &[u32; OPERANDS]) -> Command
+    ensures { view_command (values_of o.now) result ≡ command_or (handed b o.now) }
+{
+    named(b, o).unwrap_or(Command::End)
+}
+
 // The command of a byte, if it names one: a match over the byte, as document 01 has it.
 #[tactic(auto, unfolding(model::specs::Builder::handed, model::specs::Command::row_by, model::specs::Command::row_of, model::specs::Command::table))]
-pub fn command(b: u8, o: &[u32; OPERANDS]) -> Option<Command>
+pub fn named(b: u8, o: &[u32; OPERANDS]) -> Option<Command>
     ensures { view_handed (values_of o.now) result ≡ handed b o.now }
 {
     Some(match b {

@@ -40,7 +40,7 @@ pub fn compose_handed(
 ) -> Result<BuilderState, Fault>
     ensures { ComposesHanded (view_state state) buffer.old (builder.handed b operands.now) result buffer.new }
 {
-    if let Some(c) = handed::command(b, operands) {
+    if let Some(c) = handed::named(b, operands) {
         return composing::compose(state, buffer, c, handed::values(operands));
     }
     if state.ended {
