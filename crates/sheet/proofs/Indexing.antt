@@ -313,7 +313,7 @@ module _ {s : List ℕ} {x : Sheet} {at : ℕ} (h : Here s x at) where
       let d : h.next ≡ next = cc in
       (rw (← b) h.room, rw (← b, ← d) h.on)
 
-  not-refused : {A : Type 0} {f : Refusal} {q : ℕ} → command_at s at ≡ refused f q → A
+  pub not-refused : {A : Type 0} {f : Refusal} {q : ℕ} → command_at s at ≡ refused f q → A
   not-refused e =
       let a : command_at s at ≡ found h.command h.next = h.found_here in
       let z : ◌≡◌ {A = ℕ} 0 1 = cc in

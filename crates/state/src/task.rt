@@ -4,6 +4,7 @@ ghost use Rattle.model.specs.Lists.{at};
 ghost use Rattle.state.specs.State.{own, own_zeros, no_entry, no_block, with_registers, with_kept, with_copies};
 ghost use Rattle.state.specs.State.{set_register, set_kept, set_copy, set_target, set_old, set_new, set_init, set_overlapped};
 ghost use Rattle.state.specs.State.{set_slot, set_remembered, set_touched, set_count};
+ghost use Rattle.state.specs.Sized.{OwnSized};
 
 // An entry of an exchange: its target cell, old and new value, the packed word loaded there, and whether that was overlapped. That mark
 // and a block's slot stay numbers, no bool and no Option: `run` and `step` are promised for every record.
@@ -69,6 +70,18 @@ impl Task {
             counts: [0; 8],
             touched: 0,
         }
+    }
+
+    // For proofs, as Memory's.
+    pub fn sized(&self)
+        ensures { OwnSized (own self.now) }
+    {
+        let _registers: &[u32] = &self.registers;
+        let _kept: &[u32] = &self.kept;
+        let _copies: &[u32] = &self.copies;
+        let _entries: &[Entry] = &self.entries;
+        let _blocks: &[Block] = &self.blocks;
+        let _counts: &[u32] = &self.counts;
     }
 
     pub fn register(&self, i: u8) -> u32
