@@ -31,7 +31,7 @@ pub fn first_fault(sheet: &[u8]) -> Result<(), Fault>
         if let Some(verdict) = judge(sheet, at, known, c, next) {
             return verdict;
         }
-        known = learned::after(known, c);
+        learned::learn(&mut known, c);
     }
 }
 
